@@ -1,0 +1,17 @@
+use borrow.Author.Needs.{needs}
+use Rattle.crc32c.specs.Crc.{crcOf}
+use Rattle.crc32c.proofs.crc32c.Statement.{statement}
+use Rattle.crc32c.proofs.crc32c.Tie as tie
+
+update-requires : tie.Need-update-requires
+update-requires c κs = search needs
+
+sub-result : tie.Need-sub-result
+sub-result c = search needs
+
+returns : tie.Need-returns
+unfolding crcOf
+returns c = cc
+
+pub crc32c-spec : {M : Type 1} → statement M
+crc32c-spec = tie.close (tie.spec update-requires sub-result returns)
