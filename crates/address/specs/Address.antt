@@ -1,0 +1,77 @@
+-- Document 01, "Where things stand": buckets of hash codes and blocks of buckets and overflow bits, by max bucket m, spares sp and overflow point s.
+use mathlib.Core.Bool.{Bool, true, false, cond, _&&_, _||_}
+use mathlib.Core.List.{List}
+use Prim.Native.Nat.{ℕ, zero, suc, pred, _+_, _-_, _*_, _/_, _%_, _^_}
+use lib.Dec.{leb, ltb, eqb}
+use lib.ListN.{getD}
+
+-- the smallest j of at least k with n below f j, looked for in `fuel` places
+abbrev pub firstOver : (ℕ → ℕ) → (fuel k n : ℕ) → ℕ
+firstOver f zero k n = k
+firstOver f (suc fuel) k n = elim (ltb n (f k)) [ true ↦ k | false ↦ firstOver f fuel (suc k) n ]
+
+abbrev pub power : ℕ → ℕ
+power j = 2 ^ j
+
+-- buckets in all at overflow point i
+unfoldable pub bucketsAt : ℕ → ℕ
+bucketsAt i = 2 ^ i
+
+-- ---- the bucket of a hash code
+
+-- the number of binary digits of the high mask
+unfoldable pub maskDigits : ℕ → ℕ
+maskDigits m = firstOver power m 2 m
+
+-- "High mask is the smallest of 3, 7, 15, .. that is at least max bucket"
+unfoldable pub highMask : ℕ → ℕ
+highMask m = 2 ^ maskDigits m - 1
+
+-- "low mask is half of it, rounded down"
+unfoldable pub lowMask : ℕ → ℕ
+lowMask m = highMask m / 2
+
+-- "h AND high mask; if above max bucket, h AND low mask": with masks of this form AND is a remainder
+unfoldable pub bucketOf : ℕ → ℕ → ℕ
+bucketOf m h = let b = h % (highMask m + 1) in cond (leb b m) b (h % (lowMask m + 1))
+
+-- the number of binary digits
+unfoldable pub digits : ℕ → ℕ
+digits n = firstOver power n 0 n
+
+-- "Bucket m splits off from m less its highest one bit."
+unfoldable pub splitFrom : ℕ → ℕ
+splitFrom m = m - 2 ^ pred (digits m)
+
+-- "the highest m from 2 to max bucket with m = b or m split off from b; 1 if none"
+unfoldable pub lastSplit : (max b : ℕ) → ℕ
+lastSplit zero b = 1
+lastSplit (suc m) b = cond (ltb 0 m && (eqb (suc m) b || eqb (splitFrom (suc m)) b)) (suc m) (lastSplit m b)
+
+-- ---- blocks
+
+-- "the smallest s of at least 1 with 2^s at least max bucket + 1"
+unfoldable pub point : ℕ → ℕ
+point m = firstOver bucketsAt m 1 m
+
+-- "g the smallest with 2^g at least b + 1"
+unfoldable pub groupOf : ℕ → ℕ
+groupOf b = firstOver bucketsAt b 0 b
+
+-- "block 1 for b = 0; otherwise b + spares[g - 1] + 1"
+unfoldable pub bucketBlock : List ℕ → ℕ → ℕ
+bucketBlock sp zero = 1
+bucketBlock sp (suc b) = suc b + getD sp (pred (groupOf (suc b))) 0 + 1
+
+-- the smallest from i to i + k with n + 1 at most its spares, or i + k
+abbrev pub bitGroup : List ℕ → ℕ → ℕ → ℕ → ℕ
+bitGroup sp n i zero = i
+bitGroup sp n i (suc k) = elim (ltb n (getD sp i 0)) [ true ↦ i | false ↦ bitGroup sp n (suc i) k ]
+
+-- "block 2^i + n + 1, i the smallest from 1 to s with n + 1 at most spares[i], or s"
+unfoldable pub bitBlock : List ℕ → ℕ → ℕ → ℕ
+bitBlock sp s n = bucketsAt (bitGroup sp n 1 (pred s)) + n + 1
+
+-- "Made blocks: 2^s + spares[s] + 1."
+unfoldable pub made : List ℕ → ℕ → ℕ
+made sp s = bucketsAt s + getD sp s 0 + 1

@@ -1,0 +1,12 @@
+pub mod Address
+pub mod Role
+pub mod BlockRole
+pub mod OverLaws
+pub mod MaskLaws
+pub mod BucketLaws
+pub mod BlockLaws
+pub mod GroupLaws
+pub mod LastSplitLaws
+pub mod RoleLaws
+pub mod SparesLaws
+pub mod AgreeLaws
