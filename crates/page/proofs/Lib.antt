@@ -1,0 +1,2 @@
+pub mod Bisect
+pub mod Turns

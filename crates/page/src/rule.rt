@@ -1,0 +1,109 @@
+// The page rule as a test on 512 bytes, part by part.
+use crate::order::is_bad;
+use crate::order::is_before;
+use crate::slots::count_entries;
+use crate::slots::get_entry;
+use endian::get_u16;
+ghost use mathlib.Core.Path.{_≡_};
+ghost use mathlib.Core.Bool.{true, not, _&&_};
+ghost use Prim.Native.Nat.{_≤_, _<_};
+ghost use lib.ListN.{length};
+ghost use Rattle.lists.specs.Bytes.{part, allZero};
+ghost use Rattle.page.specs.Pair.{badPair};
+ghost use Rattle.page.specs.Entries.{entryAt};
+ghost use Rattle.page.specs.Rule.{numberOk, flagsOk, numbersOk, orderOk, restZero, pageOk};
+
+// Whether the bytes from `a` up to `e` are zero.
+pub fn is_zero(p: &[u8], a: usize, e: usize) -> bool
+    requires { ⌜ (a ≤ e) × (e ≤ length (now p)) ⌝ }
+    ensures { λ r. ⌜ r ≡ allZero (part a e (now (p .entry))) ⌝ }
+{
+    let mut i = a;
+    while i < e {
+        if p[i] != 0 {
+            return false;
+        }
+        i += 1;
+    }
+    true
+}
+
+// Whether there are at most 40 entries.
+pub fn check_number(p: &[u8]) -> bool
+    requires { ⌜ length (now p) ≡ 512 ⌝ }
+    ensures { λ r. ⌜ r ≡ numberOk (now (p .entry)) ⌝ }
+{
+    count_entries(p) <= 40
+}
+
+// Whether the bytes of the page that no entry uses are zero.
+pub fn check_rest(p: &[u8]) -> bool
+    requires { ⌜ (length (now p) ≡ 512) × (numberOk (now p) ≡ true) ⌝ }
+    ensures { λ r. ⌜ r ≡ restZero (now (p .entry)) ⌝ }
+{
+    if get_u16(p, 2) != 0 {
+        return false;
+    }
+    is_zero(p, 4 + 12 * count_entries(p), 492)
+}
+
+// Whether the entry in slot `k` may have its numbers and flags.
+fn check_slot(p: &[u8], k: usize) -> bool
+    requires { ⌜ (k < 40) × (length (now p) ≡ 512) ⌝ }
+    ensures { λ r. ⌜ r ≡ not (badPair (entryAt (now (p .entry)) k .pair)) && flagsOk (now (p .entry)) k ⌝ }
+{
+    if is_bad(get_entry(p, k).pair) {
+        return false;
+    }
+    let flags = get_u16(p, 4 + 12 * k + 10);
+    flags == 0 || flags == 0x2000
+}
+
+// Whether every entry may have its numbers and flags.
+pub fn check_numbers(p: &[u8]) -> bool
+    requires { ⌜ (length (now p) ≡ 512) × (numberOk (now p) ≡ true) ⌝ }
+    ensures { λ r. ⌜ r ≡ numbersOk (now (p .entry)) ⌝ }
+{
+    let n = count_entries(p);
+    let mut k = 0;
+    while k < n {
+        if !check_slot(p, k) {
+            return false;
+        }
+        k += 1;
+    }
+    true
+}
+
+// Whether each entry stands before the next.
+pub fn check_order(p: &[u8]) -> bool
+    requires { ⌜ (length (now p) ≡ 512) × (numberOk (now p) ≡ true) ⌝ }
+    ensures { λ r. ⌜ r ≡ orderOk (now (p .entry)) ⌝ }
+{
+    let n = count_entries(p);
+    let mut k = 0;
+    while k + 1 < n {
+        if !is_before(get_entry(p, k).pair, get_entry(p, k + 1).pair) {
+            return false;
+        }
+        k += 1;
+    }
+    true
+}
+
+// Whether the 512 bytes are a page.
+pub fn check_page(p: &[u8]) -> bool
+    requires { ⌜ length (now p) ≡ 512 ⌝ }
+    ensures { λ r. ⌜ r ≡ pageOk (now (p .entry)) ⌝ }
+{
+    if !check_number(p) {
+        return false;
+    }
+    if !check_rest(p) {
+        return false;
+    }
+    if !check_numbers(p) {
+        return false;
+    }
+    check_order(p)
+}
