@@ -1,0 +1,20 @@
+use mathlib.Core.Path.{sym}
+use native.Mathlib.Omega.{arith}
+use lib.Seq.{length-take-le}
+use Rattle.store.specs.Store.{covered}
+use borrow.Author.Needs.{needs}
+use Rattle.store.proofs.check_of.Statement.{statement}
+use Rattle.store.proofs.check_of.Tie as tie
+
+slice-aggregate-crc32c : tie.Need-slice-aggregate-crc32c
+slice-aggregate-crc32c c = sym (length-take-le _ (c .before .before .args .part .now) (omega arith))
+
+crc32c-requires : tie.Need-crc32c-requires
+crc32c-requires c κs = search needs
+
+returns : tie.Need-returns
+unfolding covered
+returns c = cc
+
+pub check-of-spec : {M : Type 1} → statement M
+check-of-spec = tie.close (tie.spec slice-aggregate-crc32c crc32c-requires returns)

@@ -1,0 +1,4 @@
+pub mod Store
+pub mod TrailerLaws
+pub mod CheckLaws
+pub mod ChangeLaws

@@ -1,0 +1,173 @@
+// Blocks of a store: their trailers and checks, and a change of some of them.
+use crc32c::crc32c;
+use endian::get_u16;
+use endian::get_u32;
+use endian::put_u16;
+use endian::put_u32;
+ghost use mathlib.Core.Path.{_≡_};
+ghost use Prim.Native.Nat.{_+_, _*_, _≤_, _<_};
+ghost use lib.ListN.{length, getD};
+ghost use lib.Seq.{sets};
+ghost use Rattle.lists.specs.Block.{block, setBlock};
+ghost use Rattle.crc32c.specs.Crc.{crcOf};
+ghost use Rattle.store.specs.Store.{prevAt, nextAt, bucketAt, flagsAt, idAt, trailer};
+ghost use Rattle.store.specs.Store.{covered, sealed, checked, seals, stored, commits, Fits};
+
+// Block `k`, as a part of the store.
+pub fn block_at(store: &[u8], k: usize) -> &[u8]
+    requires { ⌜ 512 * k + 512 ≤ length (now store) ⌝ }
+    ensures { λ r. ⌜ now r ≡ block (now (store .entry)) k ⌝ }
+{
+    let from = 512 * k;
+    &store[from..from + 512]
+}
+
+// Copies `src` over `dst`, which is as long.
+pub fn copy_over(dst: &mut [u8], src: &[u8])
+    requires { ⌜ length (now dst) ≡ length (now src) ⌝ }
+    ensures { λ _. ⌜ now (dst .exit) ≡ now (src .entry) ⌝ }
+{
+    let mut i = 0;
+    while i < src.len() {
+        dst[i] = src[i];
+        i += 1;
+    }
+}
+
+// Replaces block `k`.
+pub fn put_block(store: &mut [u8], k: usize, image: &[u8])
+    requires { ⌜ (512 * k + 512 ≤ length (now store)) × (length (now image) ≡ 512) ⌝ }
+    ensures { λ _. ⌜ now (store .exit) ≡ setBlock (now (store .entry)) k (now (image .entry)) ⌝ }
+{
+    let from = 512 * k;
+    copy_over(&mut store[from..from + 512], image);
+}
+
+// The fields of a block's trailer.
+
+pub fn prev_of(part: &[u8]) -> u32
+    requires { ⌜ length (now part) ≡ 512 ⌝ }
+    ensures { λ r. ⌜ r ≡ prevAt (now (part .entry)) ⌝ }
+{
+    get_u32(part, 492)
+}
+
+pub fn next_of(part: &[u8]) -> u32
+    requires { ⌜ length (now part) ≡ 512 ⌝ }
+    ensures { λ r. ⌜ r ≡ nextAt (now (part .entry)) ⌝ }
+{
+    get_u32(part, 496)
+}
+
+pub fn bucket_of(part: &[u8]) -> u32
+    requires { ⌜ length (now part) ≡ 512 ⌝ }
+    ensures { λ r. ⌜ r ≡ bucketAt (now (part .entry)) ⌝ }
+{
+    get_u32(part, 500)
+}
+
+pub fn flags_of(part: &[u8]) -> u16
+    requires { ⌜ length (now part) ≡ 512 ⌝ }
+    ensures { λ r. ⌜ r ≡ flagsAt (now (part .entry)) ⌝ }
+{
+    get_u16(part, 504)
+}
+
+pub fn id_of(part: &[u8]) -> u16
+    requires { ⌜ length (now part) ≡ 512 ⌝ }
+    ensures { λ r. ⌜ r ≡ idAt (now (part .entry)) ⌝ }
+{
+    get_u16(part, 506)
+}
+
+// Writes a block's trailer, with the page id.
+pub fn put_trailer(image: &mut [u8], prev: u32, next: u32, bucket: u32, flags: u16)
+    requires { ⌜ length (now image) ≡ 512 ⌝ }
+    ensures { λ _. ⌜ now (image .exit) ≡ sets (now (image .entry)) 492 (trailer prev next bucket flags) ⌝ }
+{
+    put_u32(image, 492, prev);
+    put_u32(image, 496, next);
+    put_u32(image, 500, bucket);
+    put_u16(image, 504, flags);
+    put_u16(image, 506, 0xFF80);
+}
+
+// The check that a block should have.
+fn check_of(part: &[u8]) -> u32
+    requires { ⌜ length (now part) ≡ 512 ⌝ }
+    ensures { λ r. ⌜ r ≡ crcOf (covered (now (part .entry))) ⌝ }
+{
+    crc32c(&part[..508])
+}
+
+// Whether the check of block `k` is right.
+pub fn check_block(store: &[u8], k: usize) -> bool
+    requires { ⌜ 512 * k + 512 ≤ length (now store) ⌝ }
+    ensures { λ r. ⌜ r ≡ checked (now (store .entry)) k ⌝ }
+{
+    let part = block_at(store, k);
+    get_u32(part, 508) == check_of(part)
+}
+
+// Writes a block's check.
+fn seal_block(image: &mut [u8])
+    requires { ⌜ length (now image) ≡ 512 ⌝ }
+    ensures { λ _. ⌜ now (image .exit) ≡ sealed (now (image .entry)) ⌝ }
+{
+    let check = check_of(image);
+    put_u32(image, 508, check);
+}
+
+// Blocks to be replaced: the first `count` of `numbers`, in ascending order. The new bodies are the blocks of a slice
+// of images, in the same order.
+pub struct Change {
+    pub count: usize,
+    pub numbers: [u32; 8],
+}
+
+// Writes the check of image `n`.
+fn seal_one(images: &mut [u8], n: usize)
+    requires { ⌜ 512 * n + 512 ≤ length (now images) ⌝ }
+    ensures { λ _. ⌜ now (images .exit) ≡ setBlock (now (images .entry)) n (sealed (block (now (images .entry)) n)) ⌝ }
+{
+    let from = 512 * n;
+    seal_block(&mut images[from..from + 512]);
+}
+
+// Writes the checks of a change's images.
+pub fn seal_change(change: Change, images: &mut [u8])
+    requires { ⌜ (change .count ≤ 8) × (length (now images) ≡ 4096) ⌝ }
+    ensures { λ _. ⌜ now (images .exit) ≡ seals (now (images .entry)) (change .count) ⌝ }
+{
+    let count = change.count;
+    let mut n = 0;
+    while n < count {
+        seal_one(images, n);
+        n += 1;
+    }
+}
+
+// Does the `n`-th block store of a change.
+pub fn commit_one(store: &mut [u8], change: Change, images: &[u8], n: usize)
+    requires { ⌜ (n < 8) × (512 * getD (change .numbers) n 0 + 512 ≤ length (now store)) ⌝ }
+    requires { ⌜ length (now images) ≡ 4096 ⌝ }
+    ensures { λ _. ⌜ now (store .exit) ≡ stored (now (store .entry)) (change .numbers) (now (images .entry)) n ⌝ }
+{
+    let numbers = change.numbers;
+    put_block(store, numbers[n] as usize, block_at(images, n));
+}
+
+// Does all block stores of a change.
+pub fn commit(store: &mut [u8], change: Change, images: &[u8])
+    requires { ⌜ Fits (now store) (change .numbers) (change .count) ⌝ }
+    requires { ⌜ length (now images) ≡ 4096 ⌝ }
+    ensures { λ _. ⌜ now (store .exit)
+        ≡ commits (now (store .entry)) (change .numbers) (now (images .entry)) (change .count) ⌝ }
+{
+    let count = change.count;
+    let mut done = 0;
+    while done < count {
+        commit_one(store, change, images, done);
+        done += 1;
+    }
+}
