@@ -1,0 +1,83 @@
+-- The book of demand 3: "The book is a set of pairs. It is fed each call's arguments and whether the call was accepted (gave 0), and nothing
+-- from the store." With it, what else the calls tell of a split.
+use mathlib.Core.Bool.{Bool, cond, not}
+use mathlib.Core.List.{List, []}
+use Prim.Native.Nat.{ℕ, suc}
+use lib.Dec.{eqb}
+use lib.ListN.{length}
+use Rattle.lists.specs.Lists.{any, keep}
+use Rattle.address.specs.Address.{bucketOf}
+use Rattle.page.specs.declared.Pair.{Pair}
+use Rattle.page.specs.Pair.{same, enter}
+use Rattle.model.specs.Held.{self}
+use Rattle.model.specs.Machine.{Call, formatting, inserting, removing, looking, working, asking}
+
+-- ---- the book: a set of pairs, as the ascending list of its elements
+
+abbrev pub Book : Type 0
+Book = List Pair
+
+abbrev pub has : Book → Pair → Bool
+has bk p = any (same p) bk
+
+-- What an accepted call does to the book. A call that is new to the list is one line of `effect`.
+pub data Effect : Type 0 where
+  empties : (fill : ℕ) → Effect
+  puts takes : Pair → Effect
+  leaves : Effect
+  hasSteps : (budget : ℕ) → Effect
+
+abbrev pub effect : Call → Effect
+effect (formatting fill) = empties fill
+effect (inserting p) = puts p
+effect (removing p) = takes p
+effect (looking h out) = leaves
+effect (working budget) = hasSteps budget
+effect asking = leaves
+
+abbrev pub noted : Effect → Book → Book
+noted (empties fill) bk = []
+noted (puts p) bk = cond (has bk p) bk (enter self p bk)
+noted (takes p) bk = keep (λ q. not (same p q)) bk
+noted leaves bk = bk
+noted (hasSteps budget) bk = bk
+
+-- the book's pairs under a hash code
+abbrev pub under : ℕ → Book → Book
+under h bk = keep (λ p. eqb (p .hash) h) bk
+
+-- a split's m: "the book's pairs whose bucket, with that as max bucket, is the new one"
+abbrev pub movers : (new : ℕ) → Book → ℕ
+movers n bk = length (keep (λ p. eqb (bucketOf n (p .hash)) n) bk)
+
+-- The split that began last, with its m and its steps so far, the begin included; unknown once a format, insert or removal was accepted.
+pub data Split : Type 0 where
+  unknown : Split
+  since : (m steps : ℕ) → Split
+
+abbrev pub oneStep : Split → Split
+oneStep unknown = unknown
+oneStep (since m k) = since m (suc k)
+
+-- an accepted call ends the count of a split's steps, unless it leaves the book alone
+abbrev pub counted : Effect → Split → Split
+counted (empties fill) k = unknown
+counted (puts p) k = unknown
+counted (takes p) k = unknown
+counted leaves k = k
+counted (hasSteps budget) k = k
+
+-- the fill of the last accepted format, and the begins since
+abbrev pub filled : Effect → ℕ → ℕ
+filled (empties fill) f = fill
+filled (puts p) f = f
+filled (takes p) f = f
+filled leaves f = f
+filled (hasSteps budget) f = f
+
+abbrev pub begun : Effect → ℕ → ℕ
+begun (empties fill) n = 0
+begun (puts p) n = n
+begun (takes p) n = n
+begun leaves n = n
+begun (hasSteps budget) n = n

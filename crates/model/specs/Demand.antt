@@ -1,0 +1,105 @@
+-- DEMAND 3, as a claim on any machine that runs the calls: document 01, "The book of demand 3". Open this file first.
+--   Book      (Book.antt) what was inserted and not removed since, fed arguments and acceptance alone
+--   history   (History.antt) the moments of a list of calls: after each call and after each single step
+--   Faithful  what holds at a moment, by the calls' answers alone
+--   Demand3   at the start and at every moment of every list of calls, it is so
+use mathlib.Core.Path.{_≡_}
+use mathlib.Core.Logic.{_≢_, _↔_, _⊎_}
+use mathlib.Core.Bool.{Bool, true, false}
+use mathlib.Core.List.{List, _∷_, _++_}
+use mathlib.Core.Option.{Option, none, some}
+use Prim.Native.Nat.{ℕ, zero, suc, _+_, _*_, _/_, _≤_, _<_}
+use lib.IntN.{subℕ}
+use lib.ListN.{length, drop}
+use Rattle.lists.specs.Lists.{bind, Each}
+use Rattle.address.specs.Address.{splitFrom}
+use Rattle.page.specs.declared.Pair.{Pair}
+use Rattle.page.specs.Pair.{ascending}
+use Rattle.model.specs.declared.Refusal.{Refusal}
+use Rattle.model.specs.declared.Answer.{Answer}
+use Rattle.model.specs.declared.LookupAnswer.{LookupAnswer}
+use Rattle.model.specs.declared.Stop.{Stop}
+use Rattle.model.specs.declared.WorkAnswer.{WorkAnswer}
+use Rattle.model.specs.declared.Phase.{Phase}
+use Rattle.model.specs.declared.StandingAnswer.{StandingAnswer}
+use Rattle.model.specs.Held.{self}
+use Rattle.model.specs.Steps.{Step, next, stopped}
+use Rattle.model.specs.Calls.{pairOk, placeBytes}
+use Rattle.model.specs.Machine.{Call, formatting, inserting, removing, looking, working, asking, CallFits, plain, looked, worked, stands, accepted, Machine}
+use Rattle.model.specs.Book.{Book, has, under, Split, unknown, since}
+use Rattle.model.specs.History.{Moment, phaseAt, history, start}
+
+module _ (M : Machine) where
+  -- "with less room it gets 8 and that number", and the output stays
+  pub record LookupsIs (bk : Book) (s : M .State) (h : ℕ) (out : List ℕ) : Type 0 where
+    pub room : length (under h bk) ≤ length out / 6
+        → M .run (looking h out) s .reply
+        ≡ looked (record {
+          answer = LookupAnswer.Found (length (under h bk));
+          output = bind (under h bk) placeBytes ++ drop (6 * length (under h bk)) out;
+        })
+    pub short : length out / 6 < length (under h bk)
+        → M .run (looking h out) s .reply
+        ≡ looked (record { answer = LookupAnswer.Refused (Refusal.OutputShort (length (under h bk))); output = out })
+
+  -- the job's two buckets, by the new one
+  abbrev pub JobIs : (new : ℕ) → Phase → Type 0
+  JobIs n Phase.None = Unit {0}
+  JobIs n (Phase.Copying old new) = (old ≡ splitFrom n) × (new ≡ n)
+  JobIs n (Phase.Clearing old new) = (old ≡ splitFrom n) × (new ≡ n)
+
+  -- the state after n steps, if none of them stops
+  abbrev pub afterSteps : ℕ → M .State → Option (M .State)
+  afterSteps zero s = some s
+  afterSteps (suc n) s = elim (M .step s) [ next t ↦ afterSteps n t | stopped r ↦ none ]
+
+  -- a work call's steps were made, and it stopped because the budget was spent or for what the next step says
+  pub record WorkIs (s : M .State) (budget : ℕ) : Type 0 where
+    pub steps : ℕ
+    pub stop : Stop
+    pub reply : M .run (working budget) s .reply ≡ worked (WorkAnswer.Worked steps stop)
+    pub reached : afterSteps steps s ≡ some (M .run (working budget) s .state)
+    pub spent : steps ≡ budget → stop ≡ Stop.Spent
+    pub ended : steps ≢ budget → (steps < budget) × (M .step (M .run (working budget) s .state) ≡ stopped stop)
+
+  abbrev pub SplitIs : Split → M .State → Type 0
+  SplitIs unknown s = Unit {0}
+  SplitIs (since m k) s =
+      (k < 2 * m + 3 → (phaseAt M s ≢ Phase.None) × (M .step s ≢ stopped Stop.Idle))
+      × (k ≡ 2 * m + 3 → phaseAt M s ≡ Phase.None)
+      × (k ≤ 2 * m + 3)
+
+  pub record Faithful (t : Moment M) : Type 0 where
+    -- the book lists each of its pairs once, ascending by hash, then block, then offset
+    pub set : ascending self (t .book) ≡ true
+    pub lookups : (h : ℕ) (out : List ℕ) → CallFits (looking h out) → LookupsIs (t .book) (t .state) h out
+    pub count : M .stored (t .state) ≡ length (t .book)
+    pub standing : M .run asking (t .state) .reply
+        ≡ stands (StandingAnswer.Stands (record {
+          count = length (t .book);
+          buckets = 2 + t .begins;
+          phase = phaseAt M (t .state);
+          slack = subℕ (t .fill * (2 + t .begins)) (length (t .book));
+        }))
+    pub job : JobIs (1 + t .begins) (phaseAt M (t .state))
+    pub inserts : (p : Pair) → CallFits (inserting p) → pairOk p ≡ true
+        → (M .run (inserting p) (t .state) .reply ≡ plain (Answer.Refused Refusal.HeldAlready)) ↔ (has (t .book) p ≡ true)
+    -- an insert of another pair is done or finds no room
+    pub inserted : (p : Pair) → CallFits (inserting p) → pairOk p ≡ true → has (t .book) p ≡ false
+        → (M .run (inserting p) (t .state) .reply ≡ plain Answer.Done)
+        ⊎ (M .run (inserting p) (t .state) .reply ≡ plain (Answer.Refused Refusal.NoRoom))
+    pub removals : (p : Pair) → CallFits (removing p) → pairOk p ≡ true
+        → (M .run (removing p) (t .state) .reply ≡ plain (Answer.Refused Refusal.NotHeld)) ↔ (has (t .book) p ≡ false)
+    pub removed : (p : Pair) → CallFits (removing p) → pairOk p ≡ true → has (t .book) p ≡ true
+        → M .run (removing p) (t .state) .reply ≡ plain Answer.Done
+    pub works : (budget : ℕ) → budget ≤ 65535 → WorkIs (t .state) budget
+    -- work stops with 9 exactly when there is no job and no split wanted
+    pub rests : (M .step (t .state) ≡ stopped Stop.Idle)
+        ↔ ((phaseAt M (t .state) ≡ Phase.None) × (length (t .book) ≤ t .fill * (2 + t .begins)))
+    pub splits : SplitIs (t .split) (t .state)
+
+  abbrev pub Demand3 : Type 0
+  Demand3 =
+      (s : M .State) (fill : ℕ) → accepted (M .run (formatting fill) s .reply) ≡ true
+      → (cs : List Call) → Each CallFits cs
+      → let t = start M (M .run (formatting fill) s .state) fill in Each Faithful (t ∷ history M cs t)

@@ -1,0 +1,87 @@
+-- A formatted index is well-formed and holds no pair.
+use mathlib.Core.Path.{_≡_, refl}
+use mathlib.Core.Bool.{Bool, true, false}
+use mathlib.Core.List.{[], _∷_}
+use Prim.Native.Nat.{ℕ, zero, suc, _+_, _≤_, _<_}
+use native.Mathlib.Omega.{arith}
+use borrow.Author.Tests.{leb-true}
+use lib.Dec.{leb}
+use lib.ListN.{getD}
+use Rattle.lists.specs.ListsLaws.{and-left, and-right}
+use Rattle.address.specs.Address.{bucketsAt, point, made}
+use Rattle.address.specs.Role.{SparesOk}
+use Rattle.page.specs.declared.Pair.{Pair}
+use Rattle.model.specs.Index.{Index, noChain, chain, bucket}
+use Rattle.model.specs.Held.{held}
+use Rattle.model.specs.Calls.{maxBlocks, sizeOk, fillOk, done, format, formatIn, formatted}
+use Rattle.model.specs.WellFormed.{unmovedAt, movedAt, PlacedIn, Laid, WF}
+use Rattle.model.specs.HeldIn.{heldIn}
+use Rattle.model.specs.PlacedLaws.{idle-copying}
+use Rattle.model.specs.ChainOkLaws.{noChain-ok}
+use Rattle.model.specs.HeldLaws.{held-is}
+
+module _ (n fill : ℕ) (so : sizeOk n ≡ true) (fo : fillOk fill ≡ true) where
+  format-spares : SparesOk (0 ∷ 1 ∷ []) (point 1) n
+  unfolding made point bucketsAt
+  format-spares =
+      record {
+        points = refl;
+        zeroth = refl;
+        rising = rising;
+        bitmap = omega arith;
+        room = omega (arith, leb-true 4 n (and-left (leb 4 n) (leb n maxBlocks) so));
+      }
+    where
+      rising : (i : ℕ) → i < 1 → getD (0 ∷ 1 ∷ []) i 0 ≤ getD (0 ∷ 1 ∷ []) (suc i) 0
+      rising zero l = omega arith
+      rising (suc i) l = absurd (omega arith)
+
+  format-chain : (b : ℕ) → chain (format n fill) b ≡ noChain
+  unfolding format
+  format-chain zero = refl
+  format-chain (suc zero) = refl
+  format-chain (suc (suc b)) = refl
+
+  format-laid : Laid (format n fill)
+  unfolding format
+  format-laid =
+      record {
+        size = leb-true n maxBlocks (and-right (leb 4 n) (leb n maxBlocks) so);
+        fillLow = leb-true 1 fill (and-left (leb 1 fill) (leb fill 40) fo);
+        fillHigh = leb-true fill 40 (and-right (leb 1 fill) (leb fill 40) fo);
+        two = omega arith;
+        spares = format-spares;
+        whole = refl;
+        once = λ k. omega arith;
+        made = λ k l. absurd (omega arith);
+        pages = λ b. rw (format-chain b) noChain-ok;
+      }
+
+  format-stands : (p : Pair) (b : ℕ) → unmovedAt (format n fill) p b + movedAt (format n fill) p b ≡ 0
+  format-stands p b = rw (format-chain b)
+
+  pub format-wf : WF (format n fill)
+  unfolding format
+  format-wf = record { laid = format-laid; placed = placed }
+    where
+      placed : (p : Pair) → PlacedIn (format n fill) p
+      placed p =
+          record {
+            once = λ b. omega (arith, format-stands p b);
+            home = λ b l f. absurd (omega (arith, format-stands p b));
+            copied = λ c. absurd (idle-copying c);
+            fresh = λ c. absurd (idle-copying c);
+          }
+
+  pub format-held : (p : Pair) → held (format n fill) p ≡ false
+  unfolding heldIn format
+  format-held p = held-is (format n fill) format-wf p false (format-stands p (bucket (format n fill) p))
+
+pub formatted-wf : (x : Index) (fill : ℕ) (y : Index) → formatted x fill ≡ done y → WF y
+unfolding formatted
+formatted-wf x fill y h = go (sizeOk (x .size)) (fillOk fill) refl refl h
+  where
+    go : (a b : Bool) → sizeOk (x .size) ≡ a → fillOk fill ≡ b → formatIn a b (format (x .size) fill) ≡ done y → WF y
+    go false b e f h = let z : _≡_ {A = ℕ} 0 1 = cc in absurd (omega arith)
+    go true false e f h = let z : _≡_ {A = ℕ} 0 1 = cc in absurd (omega arith)
+    go true true e f h = let k : format (x .size) fill ≡ y = cc in rw k at (format-wf (x .size) fill e f)

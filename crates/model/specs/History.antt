@@ -1,0 +1,87 @@
+-- The moments of a list of calls on a machine: at the start, after each single step of a work call, and after each call.
+use mathlib.Core.Bool.{Bool, true, false}
+use mathlib.Core.List.{List, [], _∷_, _++_}
+use Prim.Native.Nat.{ℕ, zero, suc, _+_}
+use Rattle.model.specs.declared.Phase.{Phase}
+use Rattle.model.specs.Answers.{standingOf}
+use Rattle.model.specs.Steps.{Step, next, stopped}
+use Rattle.model.specs.Machine.{Call, asking, Reply, plain, looked, worked, stands, accepted, Ran, Machine}
+use Rattle.model.specs.Book.{Book, Effect, empties, puts, takes, leaves, hasSteps, effect, noted, movers, Split, unknown, since, oneStep, counted, filled, begun}
+
+module _ (M : Machine) where
+  abbrev State : Type 0
+  State = M .State
+
+  -- What is known after some calls and steps; the state is that of the machine.
+  pub record Moment : Type 0 where
+    pub state : State
+    pub book : Book
+    pub fill : ℕ
+    pub begins : ℕ
+    pub split : Split
+
+  -- the phase that standing gives
+  abbrev pub phaseAt : State → Phase
+  phaseAt s = elim (M .run asking s .reply) [ plain a ↦ Phase.None | looked l ↦ Phase.None | worked a ↦ Phase.None | stands a ↦ standingOf a .phase ]
+
+  -- a step at phase none is a begin
+  abbrev pub stepIn : Phase → Moment → State → Moment
+  stepIn Phase.None t s =
+      record {
+        state = s;
+        book = t .book;
+        fill = t .fill;
+        begins = suc (t .begins);
+        split = since (movers (2 + t .begins) (t .book)) 1;
+      }
+  stepIn (Phase.Copying o n) t s =
+      record { state = s; book = t .book; fill = t .fill; begins = t .begins; split = oneStep (t .split) }
+  stepIn (Phase.Clearing o n) t s =
+      record { state = s; book = t .book; fill = t .fill; begins = t .begins; split = oneStep (t .split) }
+
+  abbrev pub stepped : Moment → State → Moment
+  stepped t s = stepIn (phaseAt (t .state)) t s
+
+  -- after each single step of a work call
+  abbrev pub trail : (budget : ℕ) → Moment → List Moment
+  trail zero t = []
+  trail (suc n) t = elim (M .step (t .state)) [ next s ↦ stepped t s ∷ trail n (stepped t s) | stopped r ↦ [] ]
+
+  abbrev pub lastOf : Moment → List Moment → Moment
+  lastOf t [] = t
+  lastOf t (u ∷ us) = lastOf u us
+
+  -- the moments within a call, by whether it was accepted
+  abbrev pub within : (accepted : Bool) → Effect → Moment → List Moment
+  within false e t = []
+  within true (empties fill) t = []
+  within true (puts p) t = []
+  within true (takes p) t = []
+  within true leaves t = []
+  within true (hasSteps budget) t = trail budget t
+
+  -- the moment after a call that left the state s; a refused call leaves all but the state alone
+  abbrev pub marked : (accepted : Bool) → Effect → Moment → State → Moment
+  marked false e t s = record { state = s; book = t .book; fill = t .fill; begins = t .begins; split = t .split }
+  marked true e t s =
+      record {
+        state = s;
+        book = noted e (t .book);
+        fill = filled e (t .fill);
+        begins = begun e (t .begins);
+        split = counted e (t .split);
+      }
+
+  abbrev pub after : Call → Moment → Moment
+  after c t =
+      let r = M .run c (t .state) in
+      let a = accepted (r .reply) in
+      marked a (effect c) (lastOf t (within a (effect c) t)) (r .state)
+
+  abbrev pub history : List Call → Moment → List Moment
+  history [] t = []
+  history (c ∷ cs) t =
+      within (accepted (M .run c (t .state) .reply)) (effect c) t ++ (after c t ∷ history cs (after c t))
+
+  abbrev pub start : State → (fill : ℕ) → Moment
+  start s fill = record { state = s; book = []; fill = fill; begins = 0; split = unknown }

@@ -1,0 +1,66 @@
+-- Work as an iteration of steps: what a work call then gives, for any machine.
+use mathlib.Core.Path.{_≡_, refl, ap}
+use mathlib.Core.Logic.{_≢_}
+use mathlib.Core.Bool.{Bool}
+use mathlib.Core.Option.{some}
+use Prim.Native.Nat.{ℕ, zero, suc, _≤_, _<_}
+use native.Mathlib.Omega.{arith}
+use borrow.Author.Tests.{le-leb}
+use Rattle.model.specs.declared.Stop.{Stop}
+use Rattle.model.specs.declared.WorkAnswer.{WorkAnswer}
+use Rattle.model.specs.Index.{Index}
+use Rattle.model.specs.Steps.{Step, next, stopped, Worked, step, iterate}
+use Rattle.model.specs.Calls.{work}
+use Rattle.model.specs.Machine.{working, worked, Ran, Machine, workedIn, runIndex, onIndex}
+use Rattle.model.specs.Demand.{afterSteps, WorkIs}
+
+-- from two constructors that would be equal, by `never (cc)`
+pub never : {A : Type 0} → _≡_ {A = ℕ} 0 1 → A
+never z = absurd (omega arith)
+
+-- the reply and the state of a work call whose budget is no refusal
+abbrev pub workedBy : {S : Type 0} → Worked S → Ran S
+workedBy w = record { reply = worked (WorkAnswer.Worked (w .steps) (w .stop)); state = w .state }
+
+module _ (M : Machine) where
+  -- the steps were made, and the iteration ended because the budget was spent or for what the next step says
+  record Ends (s : M .State) (budget : ℕ) (w : Worked (M .State)) : Type 0 where
+    reached : afterSteps M (w .steps) s ≡ some (w .state)
+    spent : w .steps ≡ budget → w .stop ≡ Stop.Spent
+    ended : w .steps ≢ budget → (w .steps < budget) × (M .step (w .state) ≡ stopped (w .stop))
+
+  iterate-ends : (budget : ℕ) (s : M .State) → Ends s budget (iterate (M .step) budget s)
+  iterate-ends zero s = record { reached = refl; spent = λ e. refl; ended = λ ne. absurd (ne refl) }
+  iterate-ends (suc n) s = go (M .step s) refl (iterate-ends n)
+    where
+      go : (r : Step (M .State)) → M .step s ≡ r → ((t : M .State) → Ends t n (iterate (M .step) n t))
+          → Ends s (suc n) (iterate (M .step) (suc n) s)
+      go (next t) e ih =
+          rw (e, iterate)
+          (record {
+            reached = rw (e, afterSteps) (ih t .reached);
+            spent = λ k. ih t .spent (omega arith);
+            ended = λ ne. (let d = ih t .ended (λ k. ne (ap suc k)) in (omega (arith, d .0), d .1));
+          })
+      go (stopped c) e ih =
+          rw (e, iterate) (record { reached = refl; spent = λ k. absurd (omega arith); ended = λ ne. (omega arith, e) })
+
+  -- a machine whose work call is the iteration of its steps
+  pub iterate-works : (s : M .State) (budget : ℕ) → M .run (working budget) s ≡ workedBy (iterate (M .step) budget s)
+      → WorkIs M s budget
+  iterate-works s budget e =
+      let d = iterate-ends budget s in
+      record {
+        steps = iterate (M .step) budget s .steps;
+        stop = iterate (M .step) budget s .stop;
+        reply = ap (λ (r : Ran (M .State)). r .reply) e;
+        reached = rw e (d .reached);
+        spent = d .spent;
+        ended = λ ne. (d .ended ne .0, rw e (d .ended ne .1));
+      }
+
+-- the index as a machine is one
+pub index-works : (x : Index) (budget : ℕ) → budget ≤ 65535 → WorkIs onIndex x budget
+unfolding runIndex work
+index-works x budget h =
+    iterate-works onIndex x budget (ap (λ (b : Bool). workedIn b x (work budget x)) (le-leb budget 65535 h))

@@ -1,0 +1,112 @@
+-- No room: exactly when neither the chain nor the overflow bits nor the blocks past the made ones have any.
+use mathlib.Core.Path.{_≡_, refl, ap}
+use mathlib.Core.Logic.{_↔_}
+use mathlib.Core.Bool.{Bool, true, false, not, _||_}
+use mathlib.Core.List.{List, [], _∷_}
+use mathlib.Core.Option.{Option, none, some}
+use Prim.Native.Nat.{ℕ, pred, _≤_, _<_}
+use native.Mathlib.Omega.{arith}
+use borrow.Author.Tests.{ltb-false, le-ltb}
+use lib.Dec.{eqb}
+use lib.ListN.{length}
+use Rattle.lists.specs.Lists.{b2n, any, upFrom, Each}
+use Rattle.lists.specs.ListsLaws.{any-yes, find-no}
+use Rattle.address.specs.Address.{point, made}
+use Rattle.page.specs.declared.Pair.{Pair}
+use Rattle.page.specs.declared.Entry.{Entry}
+use Rattle.page.specs.PairLaws.{no-way}
+use Rattle.model.specs.declared.Refusal.{Refusal}
+use Rattle.model.specs.Index.{Page, Index, chain, bucket, topBit}
+use Rattle.model.specs.Pages.{hasRoom, pageRoom, bitsUsed, freeBit, Taken, put}
+use Rattle.model.specs.Held.{held}
+use Rattle.model.specs.Calls.{pairOk, Result, refused, insert}
+use Rattle.model.specs.WellFormed.{uses}
+use Rattle.model.specs.TallyLaws.{or-left, or-right, tally-upFrom}
+use Rattle.model.specs.LaidLaws.{TakenAs, nothing, again, fresh, take-view}
+use Rattle.model.specs.Views.{Putting, full, inPage, inNew, put-view, Inserting, already, noRoom, inserted, insert-view}
+
+-- no page for an entry of bucket b: no page of its chain has fewer than 40 entries, no made overflow bit is free, and
+-- the next block past the made ones is not below N
+pub record NoPage (x : Index) (b : ℕ) : Type 0 where
+  pub first : 40 ≤ length (chain x b .first)
+  pub more : Each (λ (g : Page). 40 ≤ length (g .entries)) (chain x b .more)
+  pub bits : (n : ℕ) → 1 ≤ n → n < topBit x → 1 ≤ uses n x
+  pub blocks : x .size ≤ made (x .spares) (point (x .maxBucket))
+
+-- ---- the chain
+
+pages-full : (gs : List Page) → any pageRoom gs ≡ false → Each (λ (g : Page). 40 ≤ length (g .entries)) gs
+pages-full [] h = tt
+pages-full (g ∷ gs) h = go (pageRoom g) refl h (pages-full gs)
+  where
+    go : (b : Bool) → pageRoom g ≡ b → b || any pageRoom gs ≡ false
+        → (any pageRoom gs ≡ false → Each (λ (k : Page). 40 ≤ length (k .entries)) gs)
+        → Each (λ (k : Page). 40 ≤ length (k .entries)) (g ∷ gs)
+    go true e h ih = no-way refl h
+    go false e h ih = (ltb-false (length (g .entries)) 40 e, ih h)
+
+full-pages : (gs : List Page) → Each (λ (g : Page). 40 ≤ length (g .entries)) gs → any pageRoom gs ≡ false
+full-pages [] h = refl
+full-pages (g ∷ gs) h = rw (le-ltb (length (g .entries)) 40 (h .0)) (full-pages gs (h .1))
+
+-- ---- the overflow bits
+
+bits-used : (x : Index) → freeBit x ≡ none → (n : ℕ) → 1 ≤ n → n < topBit x → 1 ≤ uses n x
+unfolding freeBit
+bits-used x h n l g = go (any (eqb n) (bitsUsed x)) refl
+  where
+    free : ℕ → Bool
+    free k = not (any (eqb k) (bitsUsed x))
+
+    go : (b : Bool) → any (eqb n) (bitsUsed x) ≡ b → 1 ≤ uses n x
+    go true e = any-yes (eqb n) (bitsUsed x) e
+    go false e =
+        absurd (omega (
+          arith,
+          find-no free (upFrom 1 (pred (topBit x))) h,
+          tally-upFrom free n 1 (pred (topBit x)) l (omega arith),
+          ap (λ (c : Bool). b2n (not c)) e,
+        ))
+
+-- ---- put and insert
+
+module _ {x : Index} {b : ℕ} {e : Entry} where
+  pub putting-none : Putting x b e none → NoPage x b
+  putting-none (full r t) =
+      let k = taken (rw t at (take-view x)) in
+      record {
+        first = ltb-false (length (chain x b .first)) 40 (or-left (hasRoom (chain x b .first)) _ r);
+        more = pages-full (chain x b .more) (or-right (hasRoom (chain x b .first)) _ r);
+        bits = bits-used x (k .0);
+        blocks = k .1;
+      }
+    where
+      taken : TakenAs x none → (freeBit x ≡ none) × (x .size ≤ made (x .spares) (point (x .maxBucket)))
+      taken (nothing f s) = (f, s)
+
+  pub noPage-none : NoPage x b → {r : Option Index} → Putting x b e r → r ≡ none
+  noPage-none f (full r t) = refl
+  noPage-none f (inPage r) =
+      no-way r (rw (le-ltb (length (chain x b .first)) 40 (f .first)) (full-pages (chain x b .more) (f .more)))
+  noPage-none f (inNew t r k) = absurd (taken (rw k at (take-view x)))
+    where
+      taken : {t : Taken} → TakenAs x (some t) → ⊥
+      taken (again n u l g) = omega (arith, f .bits n l g)
+      taken (fresh e l) = omega (arith, f .blocks)
+
+pub put-none : (x : Index) (b : ℕ) (e : Entry) → (put x b e ≡ none) ↔ NoPage x b
+put-none x b e = (λ h. putting-none (rw h at (put-view x b e)), λ f. noPage-none f (put-view x b e))
+
+-- an insert that no earlier test refuses
+pub insert-noRoom : (x : Index) (q : Pair) → pairOk q ≡ true → held x q ≡ false
+    → (insert x q ≡ refused Refusal.NoRoom) ↔ NoPage x (bucket x q)
+insert-noRoom x q ok nh = (λ h. to (rw h at (insert-view x q)), λ f. from f (insert-view x q))
+  where
+    to : Inserting x q (refused Refusal.NoRoom) → NoPage x (bucket x q)
+    to (noRoom k l v) = putting-none v
+
+    from : NoPage x (bucket x q) → {r : Result} → Inserting x q r → r ≡ refused Refusal.NoRoom
+    from f (Inserting.wrong k) = no-way ok k
+    from f (already k l) = no-way l nh
+    from f (noRoom k l v) = refl
+    from f (inserted k l v) = let n = noPage-none f v in let z : _≡_ {A = ℕ} 0 1 = cc in absurd (omega arith)
