@@ -1,0 +1,21 @@
+-- The lowest bit of a bitmap block that is 0, with the bits as rule 6 reads them.
+use mathlib.Core.List.{List}
+use mathlib.Core.Option.{Option, none, some}
+use Prim.Native.Nat.{ℕ}
+use lib.Dec.{eqb}
+use Rattle.lists.specs.Lists.{find, upFrom}
+use Rattle.image.specs.BitmapLaws.{bitOf}
+use Rattle.chain.specs.declared.Free.{Free}
+
+abbrev pub freeAs : Option ℕ → Free
+freeAs none = Free.Nothing
+freeAs (some n) = Free.Bit n
+
+-- "the lowest 0 bit"
+unfoldable pub lowestFree : List ℕ → Free
+lowestFree l = freeAs (find (λ n. eqb (bitOf l n) 0) (upFrom 0 2048))
+
+-- "the lowest 0 bit or, without one, spares[s]"
+abbrev pub freeOr : (top : ℕ) → Free → ℕ
+freeOr top Free.Nothing = top
+freeOr top (Free.Bit n) = n

@@ -1,0 +1,10 @@
+pub mod FindLaws
+pub mod Walk
+pub mod WalkLaws
+pub mod Search
+pub mod SearchLaws
+pub mod WithinLaws
+pub mod Bitmap
+pub mod BitmapLaws
+pub mod DecodeLaws
+pub mod SoundLaws

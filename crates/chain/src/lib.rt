@@ -1,0 +1,40 @@
+// Chains of blocks in a store of legal length, whatever its bytes: walks, searches along a walk, the lowest free bit.
+pub mod links; // links.rt: the blocks of a chain
+pub mod search; // search.rt: a pair in a chain, the first page with room
+pub mod bitmap; // bitmap.rt: the lowest free bit
+
+// The largest N of a store.
+pub const MAX_BLOCKS: usize = 128;
+
+// A link field's "none".
+pub const NO_LINK: u32 = 0xFFFFFFFF;
+
+// The blocks of a chain, in order: the first `count` of `blocks`.
+pub struct Walk {
+    pub count: usize,
+    pub blocks: [u32; MAX_BLOCKS + 1],
+}
+
+// The slot of a pair in a page.
+pub enum Slot {
+    At(u32),
+    Nothing,
+}
+
+// The block and slot of a pair in a chain.
+pub enum Found {
+    At { block: u32, slot: u32 },
+    Nothing,
+}
+
+// The first page of a chain with room for an entry; the chain's last block if none has.
+pub enum Room {
+    Page { block: u32 },
+    Full { last: u32 },
+}
+
+// The lowest free bit of a bitmap.
+pub enum Free {
+    Bit(u32),
+    Nothing,
+}

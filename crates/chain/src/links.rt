@@ -1,0 +1,45 @@
+// The blocks of a chain: the one loop that follows next fields.
+use crate::MAX_BLOCKS;
+use crate::NO_LINK;
+use crate::Walk;
+use store::block_at;
+use store::next_of;
+ghost use mathlib.Core.Path.{_≡_};
+ghost use Rattle.lists.specs.Block.{block};
+ghost use Rattle.store.specs.Store.{nextAt};
+ghost use Rattle.chain.specs.Walk.{Sized, Walked};
+
+// The next field of block `k`; 0 past the store's end.
+pub fn next_block(store: &[u8], k: u32) -> u32
+    requires { ⌜ Sized (now store) ⌝ }
+    ensures { λ r. ⌜ r ≡ nextAt (block (now (store .entry)) k) ⌝ }
+{
+    let at = k as usize;
+    if at < store.len() / 512 {
+        next_of(block_at(store, at))
+    } else {
+        0
+    }
+}
+
+// The blocks from `first` on, as the next fields lead. A ring is walked until N steps are done.
+pub fn walk_chain(store: &[u8], first: u32) -> Walk
+    requires { ⌜ Sized (now store) ⌝ }
+    ensures { λ r. ⌜ Walked (now (store .entry)) first r ⌝ }
+{
+    let n = store.len() / 512;
+    let mut blocks = [0u32; MAX_BLOCKS + 1];
+    blocks[0] = first;
+    let mut last = first;
+    let mut count = 1;
+    while count <= n {
+        let next = next_block(store, last);
+        if next == NO_LINK {
+            break;
+        }
+        blocks[count] = next;
+        last = next;
+        count += 1;
+    }
+    Walk { count, blocks }
+}
