@@ -1,0 +1,4 @@
+pub mod Spares
+pub mod TurnLaws
+pub mod SparesLaws
+pub mod Addressed
