@@ -1,0 +1,85 @@
+use mathlib.Core.Path.{_≡_, sym, _∙_}
+use Prim.Native.Nat.{_-_, _≤_}
+use native.Mathlib.Omega.{arith}
+use borrow.Author.Tests.{not-true, not-false}
+use Rattle.lists.specs.Block.{blocks}
+use Rattle.image.specs.Rules.{lowestDamaged}
+use Rattle.chain.specs.WalkLaws.{lengthOk-sized}
+use Rattle.verify.proofs.Judging.{damagedFrom, damaged-start, damaged-here, damaged-later, undamaged}
+use Rattle.verify.proofs.judge.Statement.{statement}
+use Rattle.verify.proofs.judge.Tie as tie
+
+abbrev Inv-loop : tie.InvT-loop
+Inv-loop store size k₀ k = (k ≤ size) × (damagedFrom store k ≡ lowestDamaged store)
+
+abbrev μ-loop : tie.MeasureT-loop
+μ-loop store size k₀ k = size - k
+
+loop-holds : tie.Need-loop-holds Inv-loop μ-loop
+loop-holds c = (omega arith, damaged-start (c .before .args .store .now))
+
+check-block-requires : tie.Need-check-block-requires Inv-loop μ-loop
+check-block-requires c κs = omega arith
+
+cast-t7 : tie.Need-cast-t7 Inv-loop μ-loop
+unfolding blocks
+cast-t7 c =
+    let s = c .before .before .before .before .before in
+    omega (arith, lengthOk-sized (s .args .store .now) (s .pre) .few)
+
+returns : tie.Need-returns Inv-loop μ-loop
+unfolding blocks
+returns c =
+    let n = c .before in
+    let l = n .before .before in
+    let s = l .before .before in
+    let a = s .args in
+    let inv = l .loop .inv .1 in
+    damaged-here (a .store .now) (l .loop .k) inv (n .before .loop-test .taken)
+    (sym (n .check-block .ensures) ∙ not-true (n .check-block .result) (c .if1 .taken))
+
+add-k : tie.Need-add-k Inv-loop μ-loop
+add-k c = omega arith
+
+loop-less : tie.Need-loop-less Inv-loop μ-loop
+loop-less c = omega arith
+
+loop-again : tie.Need-loop-again Inv-loop μ-loop
+unfolding blocks
+loop-again c =
+    let n = c .before in
+    let l = n .before .before in
+    let s = l .before .before in
+    let a = s .args in
+    let inv = l .loop .inv .1 in (
+      omega arith,
+      damaged-later (a .store .now) (l .loop .k) inv (n .before .loop-test .taken)
+          (sym (n .check-block .ensures) ∙ not-false (n .check-block .result) (c .if1 .left)),
+    )
+
+judge-rules-requires : tie.Need-judge-rules-requires Inv-loop μ-loop
+judge-rules-requires c κs = c .before .before .before .pre
+
+returns-2 : tie.Need-returns-2 Inv-loop μ-loop
+unfolding blocks
+returns-2 c =
+    let l = c .before .before in
+    let s = l .before .before in
+    c .judge-rules .ensures
+    ∙ undamaged (s .args .store .now) (l .loop .k) (l .loop .inv .1) (c .before .loop-test .left)
+
+pub judge-spec : {M : Type 1} → statement M
+judge-spec =
+    tie.close
+    (tie.spec
+    Inv-loop
+    μ-loop
+    loop-holds
+    check-block-requires
+    cast-t7
+    returns
+    add-k
+    loop-less
+    loop-again
+    judge-rules-requires
+    returns-2)
