@@ -1,0 +1,6 @@
+pub mod Shifting
+pub mod Opening
+pub mod Editing
+pub mod Clearing
+pub mod Rewriting
+pub mod Trimming

@@ -1,0 +1,24 @@
+use borrow.Author.Needs.{needs}
+use Rattle.draft.specs.Finish.{finished}
+use Rattle.draft.proofs.finish.finish.Statement.{statement}
+use Rattle.draft.proofs.finish.finish.Tie as tie
+
+seal-change-requires : tie.Need-seal-change-requires
+seal-change-requires c κs = search needs
+
+commit-requires : tie.Need-commit-requires
+commit-requires c κs = search needs
+
+same-length : tie.Need-same-length
+same-length c = search needs
+
+same-length-2 : tie.Need-same-length-2
+same-length-2 c = search needs
+
+returns : tie.Need-returns
+unfolding finished
+returns c = cc
+
+pub finish-spec : {M : Type 1} → statement M
+finish-spec =
+    tie.close (tie.spec seal-change-requires commit-requires same-length same-length-2 returns)

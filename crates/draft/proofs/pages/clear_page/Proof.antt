@@ -1,0 +1,26 @@
+use borrow.Author.Needs.{needs}
+use Rattle.store.specs.Store.{trailer}
+use Rattle.store.specs.TrailerLaws.{length-trailer}
+use Rattle.draft.proofs.Clearing.{empty-page}
+use Rattle.draft.proofs.pages.clear_page.Statement.{statement}
+use Rattle.draft.proofs.pages.clear_page.Tie as tie
+
+clear-front-requires : tie.Need-clear-front-requires
+clear-front-requires c κs = search needs
+
+put-trailer-requires : tie.Need-put-trailer-requires
+put-trailer-requires c κs = search needs
+
+same-length : tie.Need-same-length
+same-length c = search needs
+
+returns : tie.Need-returns
+returns c =
+    let s = c .before .before .before .before .before .before .before .before .before in
+    let a = s .args in
+    let t = trailer (a .prev) (a .next) (a .bucket) (a .flags) in
+    cc (empty-page (a .part .now) t (s .pre) (length-trailer (a .prev) (a .next) (a .bucket) (a .flags)))
+
+pub clear-page-spec : {M : Type 1} → statement M
+clear-page-spec =
+    tie.close (tie.spec clear-front-requires put-trailer-requires same-length returns)

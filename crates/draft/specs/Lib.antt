@@ -1,0 +1,12 @@
+pub mod Draft
+pub mod SetLaws
+pub mod DraftLaws
+pub mod Open
+pub mod OpenLaws
+pub mod Bits
+pub mod BitLaws
+pub mod ShapeLaws
+pub mod Finish
+pub mod FinishLaws
+pub mod Trim
+pub mod TrimLaws
