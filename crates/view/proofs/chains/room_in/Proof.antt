@@ -1,0 +1,25 @@
+use mathlib.Core.Path.{ap, _∙_}
+use borrow.Author.Needs.{needs}
+use Rattle.chain.specs.Search.{roomIn}
+use Rattle.view.specs.ChainLaws.{walks-within}
+use Rattle.view.specs.PlacesLaws.{room-read}
+use Rattle.view.proofs.chains.room_in.Statement.{statement}
+use Rattle.view.proofs.chains.room_in.Tie as tie
+
+walk-bucket-requires : tie.Need-walk-bucket-requires
+walk-bucket-requires c κs = search needs
+
+first-room-requires : tie.Need-first-room-requires
+first-room-requires c κs =
+    let s = c .before .before in
+    walks-within (s .pre .0) (s .args .b) (s .pre .1) (c .walk-bucket .ensures)
+
+returns : tie.Need-returns
+returns c =
+    let s = c .before .before .before in
+    c .first-room .ensures
+    ∙ ap (roomIn (s .args .store .now)) (c .before .walk-bucket .ensures .blocks)
+    ∙ room-read (s .pre .0) (s .args .b) (s .pre .1)
+
+pub room-in-spec : {M : Type 1} → statement M
+room-in-spec = tie.close (tie.spec walk-bucket-requires first-room-requires returns)

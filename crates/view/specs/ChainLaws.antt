@@ -1,0 +1,111 @@
+-- The chain of a bucket by its blocks: the walk from the bucket's page, and the entries page by page.
+use mathlib.Core.Path.{_≡_, refl, sym, ap, _∙_, subst}
+use mathlib.Core.Bool.{Bool, true}
+use mathlib.Core.List.{List, [], _∷_, map}
+use Prim.Native.Nat.{ℕ, zero, suc, _≤_, _<_}
+use native.Mathlib.Omega.{arith}
+use lib.ListN.{length, getD, length-map}
+use Rattle.lists.specs.Lists.{all, bind, Each}
+use Rattle.lists.specs.RunLaws.{all-get}
+use Rattle.lists.specs.Block.{blocks, block}
+use Rattle.address.specs.Address.{bucketBlock}
+use Rattle.page.specs.declared.Entry.{Entry}
+use Rattle.page.specs.Rule.{pageOk}
+use Rattle.model.specs.Index.{Page, Chain, Index, chain, entriesAt}
+use Rattle.image.specs.declared.Meta.{Meta}
+use Rattle.image.specs.Layout.{noLink, encode}
+use Rattle.image.specs.Decode.{maxAt, blockOf, trail, readPage, readChain, decode}
+use Rattle.image.specs.Frame.{blockOfBit, blocksAfter, chainBlocks, pageBlock, placeEntries, pageEntries}
+use Rattle.lists.specs.TestLaws.{each-all}
+use Rattle.image.specs.EncodePages.{max-encode}
+use Rattle.image.specs.EncodeDecode.{trail-encode}
+use Rattle.image.specs.EncodeChains.{pagesRule, pages-encode}
+use Rattle.image.specs.FrameLists.{getD-map}
+use Rattle.image.specs.FrameImages.{page-inside}
+use Rattle.chain.specs.declared.Walk.{Walk}
+use Rattle.chain.specs.Walk.{walk, blocksOf, Walked}
+use Rattle.chain.specs.WalkLaws.{walk-trail}
+use Rattle.chain.specs.Search.{entriesOn, Within, PagesOk}
+use Rattle.chain.specs.WithinLaws.{walked-within}
+use Rattle.chain.specs.DecodeLaws.{chain-decode, entries-walk}
+use Rattle.view.specs.Reads.{Reads}
+use Rattle.view.specs.Places.{Walks}
+use Rattle.view.specs.ReadsLaws.{reads-laid, reads-sized, reads-size, reads-max}
+
+module _ {s : List ℕ} {m : Meta} (r : Reads s m) (b : ℕ) (made : b ≤ m .max) where
+  abbrev x : Index
+  x = decode s
+
+  under : b ≤ decode s .maxBucket
+  under = omega (arith, reads-max r)
+
+  pub under-max : b ≤ maxAt s
+  unfolding decode
+  under-max = under
+
+  -- ---- its blocks
+
+  pub trail-read : trail s b ≡ blocksAfter (decode s) (chain (decode s) b .more)
+  trail-read = ap (λ (t : List ℕ). trail t b) (r .bytes) ∙ trail-encode x (r .wf) b under
+
+  first-read : blockOf s b ≡ bucketBlock (decode s .spares) b
+  unfolding decode
+  first-read = refl
+
+  pub walk-read : walk s (blockOf s b) ≡ chainBlocks (decode s) b (chain (decode s) b)
+  walk-read =
+      sym (walk-trail s b) ∙ ap (λ (k : ℕ). k ∷ trail s b) first-read
+      ∙ ap (λ (ks : List ℕ). bucketBlock (x .spares) b ∷ ks) trail-read
+
+  pub blocks-inside : Each (λ k. k < blocks s) (chainBlocks (decode s) b (chain (decode s) b))
+  blocks-inside =
+      each-all (λ k. k < blocks s) noLink (chainBlocks x b (chain x b)) (λ i h.
+      rw (reads-size r) (page-inside x (reads-laid r) b i under
+      (omega (arith, length-map (chain x b .more) (λ (g : Page). blockOfBit x (g .bit))))))
+
+  pub pages-read : PagesOk s (chainBlocks (decode s) b (chain (decode s) b))
+  pages-read =
+      let l = r .wf in
+      let rule : pagesRule x l b ≡ true =
+      all-get (pagesRule x l) 0 (suc (maxAt (encode x))) (pages-encode x l) b (omega arith)
+      (omega (arith, under, max-encode x l)) in
+      let here : all (λ k. pageOk (block s k)) (blockOf s b ∷ trail s b) ≡ true =
+      subst (λ (t : List ℕ). all (λ k. pageOk (block t k)) (blockOf t b ∷ trail t b) ≡ true) (sym (r .bytes)) rule in
+      subst (PagesOk s) (walk-trail s b ∙ walk-read) here
+
+  pub entries-read : bind (chainBlocks (decode s) b (chain (decode s) b)) (entriesOn s) ≡ entriesAt (decode s) b
+  entries-read = ap (λ (ks : List ℕ). bind ks (entriesOn s)) (sym walk-read) ∙ entries-walk s b under-max
+
+  -- the page at place i of the chain
+  pub page-read : (i : ℕ) → i ≤ length (chain (decode s) b .more)
+      → entriesOn s (pageBlock (decode s) b i) ≡ pageEntries (decode s) b i
+  page-read i h =
+      ap (λ (ks : List ℕ). entriesOn s (getD ks i noLink)) (sym (walk-trail s b ∙ walk-read))
+      ∙ go i (omega (arith, ap length trail-read, length-map (chain x b .more) (λ (g : Page). blockOfBit x (g .bit))))
+      ∙ ap (λ (c : Chain). placeEntries c i) (sym (chain-decode s b under-max))
+    where
+      go : (j : ℕ) → j ≤ length (trail s b)
+          → entriesOn s (getD (blockOf s b ∷ trail s b) j noLink) ≡ placeEntries (readChain s b) j
+      go zero l = refl
+      go (suc j) l =
+          sym (getD-map (λ (g : Page). g .entries) (map (readPage s) (trail s b)) j (readPage s noLink) []
+          (omega (arith, length-map (trail s b) (readPage s)))
+          ∙ ap (λ (g : Page). g .entries) (getD-map (readPage s) (trail s b) j noLink (readPage s noLink) l))
+
+  -- ---- a Walk of it
+
+  pub walked-walks : (w : Walk) → Walked s (blockOf s b) w → Walks (decode s) b w
+  walked-walks w h = record { blocks = h .blocks ∙ walk-read; count = h .count ∙ ap length (sym (h .blocks)) }
+
+  module _ {w : Walk} (h : Walks (decode s) b w) where
+    pub walks-within : Within s w
+    walks-within =
+        let e : blocksOf w ≡ walk s (blockOf s b) = h .blocks ∙ sym walk-read in
+        walked-within (record { blocks = e; count = h .count ∙ ap length e }) (reads-sized r)
+        (subst (Each (λ k. k < blocks s)) (sym walk-read) blocks-inside)
+
+    pub walks-pages : PagesOk s (blocksOf w)
+    walks-pages = subst (PagesOk s) (sym (h .blocks)) pages-read
+
+    pub walks-entries : bind (blocksOf w) (entriesOn s) ≡ entriesAt (decode s) b
+    walks-entries = ap (λ (ks : List ℕ). bind ks (entriesOn s)) (h .blocks) ∙ entries-read

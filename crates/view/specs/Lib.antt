@@ -1,0 +1,12 @@
+pub mod Reads
+pub mod Places
+pub mod ReadsLaws
+pub mod FirstLaws
+pub mod ChainLaws
+pub mod PlacesLaws
+pub mod SourcesLaws
+pub mod HeldLaws
+pub mod Next
+pub mod NextLaws
+pub mod PairsLaws
+pub mod LookupLaws
