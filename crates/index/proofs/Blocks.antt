@@ -1,0 +1,68 @@
+-- A store that is written block by block.
+use mathlib.Core.Path.{_≡_, refl, sym, ap, _∙_}
+use mathlib.Core.List.{List}
+use Prim.Native.Nat.{ℕ, zero, suc, _+_, _*_, _≤_, _<_}
+use native.Mathlib.Nat.{zero-add}
+use native.Mathlib.Omega.{arith}
+use borrow.Author.Count.{below-more}
+use lib.ListN.{length, getD, replicate}
+use Rattle.lists.specs.Lists.{bind, upFrom}
+use Rattle.lists.specs.Block.{block, setBlock}
+use Rattle.lists.specs.BlockLaws.{length-setBlock, block-same, block-other, blocks-ext, length-bind, block-bind}
+use Rattle.endian.specs.Endian.{le16, le32}
+use Rattle.store.specs.Store.{sealed, seals, stored, commits, Fits}
+use Rattle.store.specs.ChangeLaws.{block-seals}
+use Rattle.image.specs.Layout.{noLink}
+use Rattle.image.specs.Format.{formatMeta, formatBlock}
+use Rattle.image.specs.PagedLaws.{length-paged, length-blank}
+
+-- ---- one block
+
+-- a change of one block fits
+pub fits-one : (s numbers : List ℕ) → 512 * getD numbers 0 0 + 512 ≤ length s → Fits s numbers 1
+fits-one s numbers h =
+    record { few = omega arith; inside = inside; ascending = λ i j l m. absurd (omega arith) }
+  where
+    inside : (j : ℕ) → j < 1 → 512 * getD numbers j 0 + 512 ≤ length s
+    inside zero l = h
+    inside (suc j) l = absurd (omega arith)
+
+-- its image sealed and stored
+pub commits-one : (s numbers zeros body images : List ℕ) → length zeros ≡ 4096 → length body ≡ 512
+    → images ≡ seals (setBlock zeros 0 body) 1
+    → commits s numbers images 1 ≡ setBlock s (getD numbers 0 0) (sealed body)
+unfolding commits stored
+commits-one s numbers zeros body images lz lb e =
+    let fits : 512 * 0 + 512 ≤ length zeros = omega arith in
+    let l : length (setBlock zeros 0 body) ≡ length zeros = length-setBlock zeros 0 body fits lb in
+    ap (setBlock s (getD numbers 0 0))
+    (ap (λ (x : List ℕ). block x 0) e
+    ∙ block-seals (setBlock zeros 0 body) 1 (omega arith) 0 (omega arith)
+    ∙ ap sealed (block-same zeros 0 body fits lb))
+
+-- ---- all blocks, which f gives
+
+module _ (f : ℕ → List ℕ) (whole : (k : ℕ) → length (f k) ≡ 512) where
+  -- one more
+  pub turn : (s t : List ℕ) (k : ℕ) → t ≡ setBlock s k (f k) → 512 * k + 512 ≤ length s
+      → ((j : ℕ) → j < k → block s j ≡ f j) → (j : ℕ) → j < k + 1 → block t j ≡ f j
+  turn s t k e fits before =
+      rw e
+      (below-more (λ j. block (setBlock s k (f k)) j ≡ f j) k
+      (λ j h. block-other s k (f k) fits (whole k) j (omega arith) (λ q. omega arith) ∙ before j h)
+      (block-same s k (f k) fits (whole k)))
+
+  -- after the last
+  pub written : (n : ℕ) (s : List ℕ) → length s ≡ 512 * n → ((j : ℕ) → j < n → block s j ≡ f j)
+      → s ≡ bind (upFrom 0 n) f
+  written n s ls h =
+      blocks-ext n s (bind (upFrom 0 n) f) ls (length-bind f whole 0 n)
+      (λ k lt. h k lt ∙ ap f (sym (zero-add k)) ∙ sym (block-bind f whole 0 n k lt))
+
+pub length-formatBlock : (n fill k : ℕ) → length (formatBlock n fill k) ≡ 512
+unfolding formatBlock formatMeta le16 le32
+length-formatBlock n fill zero = length-paged (formatMeta n fill) refl noLink noLink noLink 8
+length-formatBlock n fill (suc zero) = length-paged (replicate 492 0) refl 1 noLink 0 2
+length-formatBlock n fill (suc (suc zero)) = length-paged (replicate 492 0) refl 1 noLink 1 2
+length-formatBlock n fill (suc (suc (suc zero))) = length-paged _ refl noLink noLink noLink 4
+length-formatBlock n fill (suc (suc (suc (suc k)))) = length-blank

@@ -1,0 +1,82 @@
+use mathlib.Core.Path.{_≡_, refl, sym, _∙_}
+use mathlib.Core.Bool.{true, false}
+use native.Mathlib.Omega.{arith}
+use borrow.Author.Tests.{leb-true, not-true, not-false}
+use lib.Dec.{leb}
+use Rattle.lists.specs.ListsLaws.{and-right}
+use Rattle.lists.specs.Block.{blocks}
+use Rattle.model.specs.Calls.{fillOk}
+use Rattle.image.specs.Outcomes.{lengthOk, formatOutcome}
+use Rattle.image.specs.FormatLaws.{format-bytes}
+use Rattle.chain.specs.WalkLaws.{lengthOk-sized}
+use borrow.Author.Needs.{needs}
+use Rattle.index.proofs.format.format.Statement.{statement}
+use Rattle.index.proofs.format.format.Tie as tie
+
+-- what the two tests let through
+legal : (c : tie.Else1) → lengthOk (c .before .before .before .before .args .store .now) ≡ true
+legal c = sym (c .before .check-length .ensures) ∙ not-false _ (c .if1 .left)
+
+filled : (c : tie.Else2) → fillOk (c .before .before .before .before .before .before .args .fill) ≡ true
+filled c = sym (c .before .check-fill .ensures) ∙ not-false _ (c .if2 .left)
+
+check-length-requires : tie.Need-check-length-requires
+check-length-requires c κs = search needs
+
+same-length : tie.Need-same-length
+same-length c = search needs
+
+returns : tie.Need-returns
+unfolding formatOutcome
+returns c =
+    let no : lengthOk (c .before .before .before .before .args .store .now) ≡ false =
+    sym (c .before .check-length .ensures) ∙ not-true _ (c .if1 .taken) in
+    rw no (refl, refl)
+
+check-fill-requires : tie.Need-check-fill-requires
+check-fill-requires c κs = search needs
+
+same-length-2 : tie.Need-same-length-2
+same-length-2 c = search needs
+
+returns-2 : tie.Need-returns-2
+unfolding formatOutcome
+returns-2 c =
+    let no : fillOk (c .before .before .before .before .before .before .args .fill) ≡ false =
+    sym (c .before .check-fill .ensures) ∙ not-true _ (c .if2 .taken) in
+    rw (legal (c .before .before), no) (refl, refl)
+
+cast-format-blocks : tie.Need-cast-format-blocks
+cast-format-blocks c =
+    let e = c .before in
+    let fill = e .before .before .before .before .before .before .args .fill in
+    omega (arith, leb-true fill 40 (and-right (leb 1 fill) (leb fill 40) (filled e)))
+
+format-blocks-requires : tie.Need-format-blocks-requires
+format-blocks-requires c κs = lengthOk-sized _ (legal (c .before .before .before))
+
+same-length-3 : tie.Need-same-length-3
+same-length-3 c = search needs
+
+returns-3 : tie.Need-returns-3
+unfolding formatOutcome
+returns-3 c =
+    let e = c .before .before .before .before in
+    let a = e .before .before .before .before .before .before .args in
+    rw (legal (e .before .before), filled e)
+    (refl, c .before .before .format-blocks .ensures ∙ sym (format-bytes (blocks (a .store .now)) (a .fill)))
+
+pub format-spec : {M : Type 1} → statement M
+format-spec =
+    tie.close
+    (tie.spec
+    check-length-requires
+    same-length
+    returns
+    check-fill-requires
+    same-length-2
+    returns-2
+    cast-format-blocks
+    format-blocks-requires
+    same-length-3
+    returns-3)

@@ -1,0 +1,83 @@
+-- What the tests before a call say of a store, and what a store that passes them is.
+use mathlib.Core.Path.{_≡_, refl, sym, ap, _∙_, subst}
+use mathlib.Core.Bool.{Bool, true, false, cond, _&&_}
+use mathlib.Core.List.{List}
+use Prim.Native.Nat.{ℕ, _%_, _≤_}
+use native.Mathlib.Omega.{arith}
+use borrow.Author.Tests.{leb-true}
+use lib.Dec.{eqb, leb}
+use lib.ListN.{length}
+use Rattle.lists.specs.ListsLaws.{and-left, and-right}
+use Rattle.lists.specs.Bytes.{Bytes}
+use Rattle.lists.specs.Block.{blocks}
+use Rattle.model.specs.declared.Refusal.{Refusal}
+use Rattle.model.specs.Index.{Index}
+use Rattle.model.specs.Calls.{maxBlocks}
+use Rattle.model.specs.MachineLaws.{never}
+use Rattle.image.specs.declared.Meta.{Meta}
+use Rattle.image.specs.declared.Verdict.{Verdict}
+use Rattle.image.specs.Decode.{metaAt, decode}
+use Rattle.image.specs.Rules.{Judged, damaged, notIndex, sound, verdict}
+use Rattle.image.specs.Bridge.{sound-is-encoding}
+use Rattle.image.specs.Outcomes.{Tested, passed, failed, judged, testedIn, tested, lengthOk, verdictOf, verifyOutcome}
+use Rattle.chain.specs.WalkLaws.{lengthOk-sized}
+use Rattle.view.specs.Reads.{Reads}
+use Rattle.view.specs.ReadsLaws.{sound-reads}
+use Rattle.index.specs.declared.Test.{Test}
+use Rattle.index.specs.Tested.{testOf}
+
+-- the test that a verdict gives
+abbrev pub testFrom : Verdict → Test
+testFrom Verdict.BadLength = Test.Failed Refusal.Length
+testFrom (Verdict.Damaged k) = Test.Failed (Refusal.Damaged k)
+testFrom (Verdict.NotIndex r) = Test.Failed (Refusal.NotIndex r)
+testFrom Verdict.Sound = Test.Passed
+
+pub test-verdict : (s : List ℕ) → testFrom (verifyOutcome s) ≡ testOf (tested true s)
+unfolding verifyOutcome tested
+test-verdict s = go (lengthOk s) (verdict s)
+  where
+    judge : (j : Judged) → testFrom (verdictOf j) ≡ testOf (judged j)
+    judge (damaged k) = refl
+    judge (notIndex r) = refl
+    judge (sound x) = refl
+
+    go : (l : Bool) (j : Judged) → testFrom (cond l (verdictOf j) Verdict.BadLength) ≡ testOf (testedIn l true j)
+    go true j = judge j
+    go false j = refl
+
+-- a store that passes: its meta block is there, it is read as its index, and that is the index to work on
+pub record Passes (s : List ℕ) : Type 0 where
+  pub legal : lengthOk s ≡ true
+  pub reads : (m : Meta) → m ≡ metaAt s → Reads s m
+  pub index : tested true s ≡ passed (decode s)
+
+pub passes : (s : List ℕ) → Bytes s → testOf (tested true s) ≡ Test.Passed → Passes s
+unfolding tested
+passes s b h = go (lengthOk s) (verdict s) refl refl h
+  where
+    go : (l : Bool) (j : Judged) → lengthOk s ≡ l → verdict s ≡ j → testOf (testedIn l true j) ≡ Test.Passed → Passes s
+    go false j e v h = never (cc)
+    go true (damaged k) e v h = never (cc)
+    go true (notIndex r) e v h = never (cc)
+    go true (sound x) e v h =
+        record {
+          legal = e;
+          reads = λ m q. sound-reads s m x b e v q;
+          index = rw (e, v) (ap passed (sound-is-encoding s x b e v .read));
+        }
+
+pub passes-room : {s : List ℕ} → Passes s → 512 ≤ length s
+unfolding lengthOk
+passes-room {s} p =
+    let z = lengthOk-sized s (p .legal) in
+    let few = and-right (eqb (length s % 512) 0) (leb 4 (blocks s) && leb (blocks s) maxBlocks) (p .legal) in
+    omega (arith, z .whole, leb-true 4 (blocks s) (and-left (leb 4 (blocks s)) (leb (blocks s) maxBlocks) few))
+
+-- one that does not: the refusal
+pub fails : (s : List ℕ) (r : Refusal) → testOf (tested true s) ≡ Test.Failed r → tested true s ≡ failed r
+fails s r h = go (tested true s) h
+  where
+    go : (t : Tested) → testOf t ≡ Test.Failed r → t ≡ failed r
+    go (passed x) h = never (cc)
+    go (failed q) h = cc

@@ -1,0 +1,136 @@
+// Format: a store made new, with no entries.
+use chain::NO_LINK;
+use image::Meta;
+use meta::put_meta;
+use model::Answer;
+use model::Refusal;
+use store::Change;
+use store::commit;
+use store::copy_over;
+use store::put_block;
+use store::put_trailer;
+use store::seal_change;
+use verify::check_length;
+ghost use mathlib.Core.Path.{_≡_};
+ghost use mathlib.Core.List.{_++_};
+ghost use Prim.Native.Nat.{_+_, _*_, _≤_};
+ghost use lib.ListN.{length, replicate};
+ghost use Rattle.lists.specs.Lists.{bind, upFrom};
+ghost use Rattle.lists.specs.Block.{blocks, setBlock};
+ghost use Rattle.store.specs.Store.{sealed};
+ghost use Rattle.model.specs.Calls.{fillOk};
+ghost use Rattle.image.specs.Layout.{noLink, paged};
+ghost use Rattle.image.specs.Format.{formatMeta, formatBlock};
+ghost use Rattle.image.specs.Outcomes.{formatOutcome};
+ghost use Rattle.chain.specs.Walk.{Sized};
+
+// Refusal 2.
+fn check_fill(fill: u32) -> bool
+    ensures { λ r. ⌜ r ≡ fillOk fill ⌝ }
+{
+    1 <= fill && fill <= 40
+}
+
+// The blocks of a new store, without their checks.
+
+fn build_meta(size: u32, fill: u16) -> [u8; 512]
+    ensures { λ r. ⌜ sealed r ≡ paged (formatMeta size fill) noLink noLink noLink 8 ⌝ }
+{
+    let mut spares = [0u32; 16];
+    spares[1] = 1;
+    let mut body = [0u8; 512];
+    put_meta(
+        &mut body,
+        Meta {
+            count: 0,
+            fill,
+            max: 1,
+            high: 3,
+            low: 1,
+            point: 1,
+            free: 1,
+            size,
+            spares,
+        },
+    );
+    put_trailer(&mut body, NO_LINK, NO_LINK, NO_LINK, 8);
+    body
+}
+
+// The page of a bucket without entries, from which none has split off.
+fn build_bucket(bucket: u32) -> [u8; 512]
+    ensures { λ r. ⌜ sealed r ≡ paged (replicate 492 0) 1 noLink bucket 2 ⌝ }
+{
+    let mut body = [0u8; 512];
+    put_trailer(&mut body, 1, NO_LINK, bucket, 2);
+    body
+}
+
+// A bitmap whose bits are all 1.
+fn build_bitmap() -> [u8; 512]
+    ensures { λ r. ⌜ sealed r ≡ paged (replicate 256 255 ++ replicate 236 0) noLink noLink noLink 4 ⌝ }
+{
+    let ones = [255u8; 256];
+    let mut body = [0u8; 512];
+    copy_over(&mut body[..256], &ones);
+    put_trailer(&mut body, NO_LINK, NO_LINK, NO_LINK, 4);
+    body
+}
+
+// Block `k` of `size`.
+fn build_body(k: u32, size: u32, fill: u16) -> [u8; 512]
+    ensures { λ r. ⌜ sealed r ≡ formatBlock size fill k ⌝ }
+{
+    match k {
+        0 => build_meta(size, fill),
+        1 => build_bucket(0),
+        2 => build_bucket(1),
+        3 => build_bitmap(),
+        _ => [0u8; 512],
+    }
+}
+
+// Writes block `k` of a new store, with its check.
+fn format_block(store: &mut [u8], k: u32, size: u32, fill: u16)
+    requires { ⌜ 512 * k + 512 ≤ length (now store) ⌝ }
+    ensures { λ _. ⌜ now (store .exit) ≡ setBlock (now (store .entry)) k (formatBlock size fill k) ⌝ }
+{
+    let change = Change {
+        count: 1,
+        numbers: [k, 0, 0, 0, 0, 0, 0, 0],
+    };
+    let body = build_body(k, size, fill);
+    let mut images = [0u8; 4096];
+    put_block(&mut images, 0, &body);
+    seal_change(change, &mut images);
+    commit(store, change, &images);
+}
+
+// Writes every block of a new store.
+fn format_blocks(store: &mut [u8], fill: u16)
+    requires { ⌜ Sized (now store) ⌝ }
+    ensures { λ _. ⌜ now (store .exit)
+        ≡ bind (upFrom 0 (blocks (now (store .entry)))) (formatBlock (blocks (now (store .entry))) fill) ⌝ }
+{
+    let size = (store.len() / 512) as u32;
+    let mut k = 0;
+    while k < size {
+        format_block(store, k, size, fill);
+        k += 1;
+    }
+}
+
+// Makes a store new: two empty buckets, the bitmap, and all other blocks unused.
+pub fn format(store: &mut [u8], fill: u32) -> Answer
+    ensures { λ r. ⌜ r ≡ formatOutcome (now (store .entry)) fill .answer ⌝ }
+    ensures { λ _. ⌜ now (store .exit) ≡ formatOutcome (now (store .entry)) fill .store ⌝ }
+{
+    if !check_length(store) {
+        return Answer::Refused(Refusal::Length);
+    }
+    if !check_fill(fill) {
+        return Answer::Refused(Refusal::Number);
+    }
+    format_blocks(store, fill as u16);
+    Answer::Done
+}
