@@ -1,0 +1,10 @@
+pub mod Freeing
+pub mod Cutting
+pub mod Ending
+pub mod FirstFreeLaws
+pub mod PairLaws
+pub mod FieldLaws
+pub mod ShowLaws
+pub mod CutLaws
+pub mod FreedLaws
+pub mod CutNoneLaws
