@@ -1,33 +1,36 @@
+use mathlib.Core.Path.{subst}
 use borrow.Author.Needs.{needs}
+use Rattle.removal.specs.Freeing.{Below}
+use Rattle.removal.proofs.Clearing.{map-ready, cleared-none, cleared-some}
 use Rattle.removal.proofs.ending.clear_bit.Statement.{statement}
 use Rattle.removal.proofs.ending.clear_bit.Tie as tie
-use Rattle.removal.proofs.ending.clear_bit.Reads as reads
-use Rattle.removal.proofs.ending.clear_bit.Lts as lts
-use Rattle.draft.proofs.edit.put_bit.Reads as put-bit-reads
 
--- src/ending.rt:24:20
 enum-known-freed : tie.Need-enum-known-freed
 enum-known-freed c = search needs
 
--- src/ending.rt:25:9
 enum-told : tie.Need-enum-told
 enum-told c = search needs
 
--- src/ending.rt:25:9
 returns : tie.Need-returns
-returns c = ?
+returns c d bit a =
+    cleared-none a (c .before .before .before .before .args .freed) (c .enum-told .given .1)
 
--- src/ending.rt:27:5
 put-bit-requires : tie.Need-put-bit-requires
-put-bit-requires c κs = ?
+put-bit-requires c κs =
+    let t = c .before .before in
+    let a = t .before .before .before .before .pre in
+    ((a .1 .0, map-ready (a .1 .2)), subst Below (t .freed .given .1) (a .0))
 
--- src/ending.rt:18:1
 same-length : tie.Need-same-length
 same-length c = search needs
 
--- src/ending.rt:18:1
 returns-2 : tie.Need-returns-2
-returns-2 c = ?
+returns-2 c d bit a =
+    let w = c .before .before in
+    let t = w .before .before .before in
+    let s = t .before .before .before .before in
+    cleared-some a (t .freed .given .0 .0) (subst Below (t .freed .given .1) (s .pre .0)) (w .put-bit .ensures)
+    (s .args .freed) (t .freed .given .1)
 
 pub clear-bit-spec : {M : Type 1} → statement M
 clear-bit-spec =

@@ -1,54 +1,117 @@
+use mathlib.Core.Path.{_≡_, sym, ap, _∙_, subst}
+use mathlib.Core.List.{List}
+use Prim.Native.Nat.{ℕ, _^_}
+use native.Mathlib.Omega.{arith}
 use borrow.Author.Needs.{needs}
+use Rattle.model.specs.Index.{Index}
+use Rattle.image.specs.Decode.{decode}
+use Rattle.image.specs.Frame.{mapBlock}
+use Rattle.view.specs.ReadsLaws.{reads-laid}
+use Rattle.plan.specs.StoreLaws.{map-inside}
+use Rattle.removal.specs.Ending.{fieldsAfter, Ending}
+use Rattle.removal.specs.Freeing.{lowers}
+use Rattle.removal.specs.FieldLaws.{reads-addressed, map-read}
+use Rattle.removal.proofs.Closing.{map-start, meta-ready, last-draft, planned}
 use Rattle.removal.proofs.ending.end_cut.Statement.{statement}
 use Rattle.removal.proofs.ending.end_cut.Tie as tie
-use Rattle.removal.proofs.ending.end_cut.Reads as reads
-use Rattle.removal.proofs.ending.end_cut.Lts as lts
-use Rattle.address.proofs.bit_block.Reads as bit-block-reads
-use Rattle.draft.proofs.edit.put_fields.Reads as put-fields-reads
-use Rattle.draft.proofs.trim.drop_unchanged.Reads as drop-unchanged-reads
-use Rattle.removal.proofs.ending.clear_bit.Reads as clear-bit-reads
-use Rattle.removal.proofs.ending.fields_after.Reads as fields-after-reads
-use Rattle.removal.proofs.ending.lower_free.Reads as lower-free-reads
 
--- src/ending.rt:73:9
 bit-block-requires : tie.Need-bit-block-requires
-bit-block-requires c κs = ?
+bit-block-requires c κs =
+    let s = c .before .before .before in
+    let r = s .pre .1 .reads in
+    let a = reads-addressed r in
+    (omega (arith, a .low), omega (arith, map-read r, map-inside r, reads-laid r .size))
 
--- src/ending.rt:74:9
+-- the bitmap's block
+map-at : (c : tie.After-bit-block) (y : Index)
+    → Ending (c .before .before .before .before .args .store .now) (c .before .before .before .before .args .m)
+    (c .before .before .before .before .args .change) (c .before .before .before .before .args .images .now)
+    (c .before .before .before .before .args .held) (c .before .before .before .before .args .first)
+    (c .before .before .before .before .args .second) y
+    → c .bit-block .result ≡ mapBlock (decode (c .before .before .before .before .args .store .now))
+map-at c y e = c .bit-block .ensures ∙ map-read (e .reads)
+
 clear-bit-requires : tie.Need-clear-bit-requires
-clear-bit-requires c κs = ?
+clear-bit-requires c κs =
+    let k = c .before in
+    let s = k .before .before .before .before in
+    let e = s .pre .1 in
+    (e .below .0, (_, _, map-start e (map-at k (s .pre .0) e)))
 
--- src/ending.rt:75:9
 clear-bit-requires-2 : tie.Need-clear-bit-requires-2
-clear-bit-requires-2 c κs = ?
+clear-bit-requires-2 c κs =
+    let o = c .before .before .before in
+    let k = o .before .before in
+    let s = k .before .before .before .before in
+    let e = s .pre .1 in
+    (e .below .1, (_, _, o .clear-bit .ensures _ _ (map-start e (map-at k (s .pre .0) e)) .sketch))
 
--- src/ending.rt:76:27
 lower-free-requires : tie.Need-lower-free-requires
 lower-free-requires c κs = search needs
 
--- src/ending.rt:76:9
 lower-free-requires-2 : tie.Need-lower-free-requires-2
 lower-free-requires-2 c κs = search needs
 
--- src/ending.rt:77:50
 fields-after-requires : tie.Need-fields-after-requires
 fields-after-requires c κs = search needs
 
--- src/ending.rt:77:9
 put-fields-requires : tie.Need-put-fields-requires
-put-fields-requires c κs = ?
+put-fields-requires c κs =
+    let t = c .before .before .before .before .before .before in
+    let o = t .before .before .before .before in
+    let k = o .before .before in
+    let s = k .before .before .before .before in
+    let e = s .pre .1 in
+    let q = map-at k (s .pre .0) e in
+    let a = o .clear-bit .ensures _ _ (map-start e q) in
+    let b = t .clear-bit2 .ensures _ _ (a .sketch) in
+    (_, meta-ready e q a b)
 
--- src/ending.rt:78:5
+abbrev from : tie.After-put-fields → tie.Start
+from c =
+    c .before .before .before .before .before .before .before .before .before .before .before .before .before .before
+    .before .before .before
+
+-- the fields that are written
+fields : (c : tie.After-put-fields) → c .before .fields-after .result
+    ≡ fieldsAfter (from c .args .m) (from c .args .held)
+    (lowers (from c .args .second) (lowers (from c .args .first) (from c .args .m .free)))
+fields c =
+    let l = c .before .before .before in
+    c .before .fields-after .ensures
+    ∙ ap (fieldsAfter (from c .args .m) (from c .args .held))
+    (l .lower-free2 .ensures ∙ ap (lowers (from c .args .second)) (l .before .lower-free .ensures))
+
 drop-unchanged-requires : tie.Need-drop-unchanged-requires
-drop-unchanged-requires c κs = ?
+drop-unchanged-requires c κs =
+    let f = c .before .before .before in
+    let t = f .before .before .before .before .before .before .before in
+    let o = t .before .before .before .before in
+    let k = o .before .before in
+    let s = k .before .before .before .before in
+    let e = s .pre .1 in
+    let q = map-at k (s .pre .0) e in
+    let a = o .clear-bit .ensures _ _ (map-start e q) in
+    let b = t .clear-bit2 .ensures _ _ (a .sketch) in
+    let d = last-draft e q a b (f .before .fields-after .result) (fields f) (f .put-fields .ensures) in
+    (d .fits, d .eight)
 
--- src/ending.rt:59:1
 same-length : tie.Need-same-length
 same-length c = search needs
 
--- src/ending.rt:59:1
 returns : tie.Need-returns
-returns c = ?
+returns c y e =
+    let u = c .before .before in
+    let f = u .before .before .before .before in
+    let t = f .before .before .before .before .before .before .before in
+    let o = t .before .before .before .before in
+    let k = o .before .before in
+    let q = map-at k y e in
+    let a = o .clear-bit .ensures _ _ (map-start e q) in
+    let b = t .clear-bit2 .ensures _ _ (a .sketch) in
+    let n = f .before .fields-after .result in
+    planned e q a b n (fields f) (f .put-fields .ensures)
+    (u .drop-unchanged .ensures _ (last-draft e q a b n (fields f) (f .put-fields .ensures)))
 
 pub end-cut-spec : {M : Type 1} → statement M
 end-cut-spec =
