@@ -8,3 +8,5 @@ pub mod ShowLaws
 pub mod CutLaws
 pub mod FreedLaws
 pub mod CutNoneLaws
+pub mod CutFieldLaws
+pub mod StartLaws

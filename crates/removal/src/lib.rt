@@ -18,10 +18,10 @@ use view::Sources;
 use view::held::find_held;
 use view::held::sources_of;
 ghost use mathlib.Core.Path.{_≡_};
+ghost use mathlib.Core.Logic.{_≢_};
 ghost use mathlib.Core.Bool.{true};
 ghost use Prim.Native.Nat.{_≤_};
 ghost use lib.ListN.{length};
-ghost use Rattle.model.specs.Index.{newBucket, oldBucket};
 ghost use Rattle.model.specs.Pages.{cut};
 ghost use Rattle.model.specs.Held.{count};
 ghost use Rattle.model.specs.WellFormed.{WF};
@@ -64,18 +64,10 @@ pub fn plan_cut(
 {
     let cut = cut_entry(store, m, new_draft(), images, block, slot);
     let freed = cut.freed;
-    end_cut(
-        store,
-        m,
-        cut.change,
-        images,
-        held,
-        cut.freed,
-        Freed::Nothing,
-    )
+    end_cut(store, m, cut.change, images, held, freed, Freed::Nothing)
 }
 
-// Plans the pair out of both chains of the job; `held` is the count of held pairs afterwards.
+// Plans the pair out of the chains of both buckets; `held` is the count of held pairs afterwards.
 fn plan_cuts(
     store: &[u8],
     m: Meta,
@@ -86,23 +78,16 @@ fn plan_cuts(
     images: &mut [u8],
 ) -> Change
     requires { ⌜ (Reads (now store) m) × (length (now images) ≡ 4096) ⌝ }
-    requires { ⌜ (new ≡ newBucket (decode (now store))) × (old ≡ oldBucket (decode (now store))) ⌝ }
-    requires { ⌜ (WF (cut pair new (cut pair old (decode (now store)))))
-        × (count (cut pair new (cut pair old (decode (now store)))) ≡ held) ⌝ }
+    requires { ⌜ (new ≤ m .max) × (old ≤ m .max) × (new ≢ old) ⌝ }
+    requires { ⌜ count (cut pair new (cut pair old (decode (now store)))) ≡ held ⌝ }
     ensures { λ r. ⌜ Plans (now (store .entry)) r (now (images .exit))
         (cut pair new (cut pair old (decode (now (store .entry))))) ⌝ }
 {
     let first = cut_in(store, m, new_draft(), images, old, pair);
     let second = cut_in(store, m, first.change, images, new, pair);
-    end_cut(
-        store,
-        m,
-        second.change,
-        images,
-        held,
-        first.freed,
-        second.freed,
-    )
+    let once = first.freed;
+    let twice = second.freed;
+    end_cut(store, m, second.change, images, held, once, twice)
 }
 
 // Plans a removal: "takes the held entry away and, while copying, its moved copy too".
