@@ -10,3 +10,4 @@ pub mod FreedLaws
 pub mod CutNoneLaws
 pub mod CutFieldLaws
 pub mod StartLaws
+pub mod RemovalLaws

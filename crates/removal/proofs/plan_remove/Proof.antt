@@ -1,73 +1,138 @@
+use mathlib.Core.Path.{_≡_, sym, _∙_}
+use native.Mathlib.Omega.{arith}
 use borrow.Author.Needs.{needs}
+use Rattle.model.specs.Pages.{cut}
+use Rattle.model.specs.Calls.{done, remove}
+use Rattle.image.specs.Decode.{decode}
+use Rattle.chain.specs.declared.Found.{Found}
+use Rattle.view.specs.Places.{heldAt}
+use Rattle.view.specs.SourcesLaws.{home-made, both-made}
+use Rattle.view.specs.HeldLaws.{held-home}
+use Rattle.removal.specs.RemovalLaws.{refused-none, done-wf, done-count, done-some, settled, done-any, done-home}
+use Rattle.removal.specs.RemovalLaws.{done-both, both-apart}
 use Rattle.removal.proofs.plan_remove.Statement.{statement}
 use Rattle.removal.proofs.plan_remove.Tie as tie
-use Rattle.removal.proofs.plan_remove.Reads as reads
-use Rattle.removal.proofs.plan_remove.Lts as lts
-use Rattle.plan.proofs.refuse.Reads as refuse-reads
-use Rattle.removal.proofs.plan_cut.Reads as plan-cut-reads
-use Rattle.removal.proofs.plan_cuts.Reads as plan-cuts-reads
-use Rattle.view.proofs.held.find_held.Reads as find-held-reads
-use Rattle.view.proofs.held.sources_of.Reads as sources-of-reads
 
--- src/lib.rt:114:9
 find-held-requires : tie.Need-find-held-requires
 find-held-requires c κs = search needs
 
--- src/lib.rt:115:21
 enum-known-found : tie.Need-enum-known-found
 enum-known-found c = search needs
 
--- src/lib.rt:116:23
 enum-told : tie.Need-enum-told
 enum-told c = search needs
 
--- src/lib.rt:116:9
 refuse-requires : tie.Need-refuse-requires
 refuse-requires c κs = search needs
 
--- src/lib.rt:116:9
 returns : tie.Need-returns
-returns c = ?
+returns c =
+    let f = c .before .before .before in
+    let s = f .before .before .before in
+    refused-none (s .pre .0) (s .args .pair) (s .pre .2) (sym (f .find-held .ensures) ∙ c .before .enum-told .given .1)
+    (c .refuse .ensures .0) (c .refuse .ensures .1)
 
--- src/lib.rt:118:16
+-- where the held entry stands
+stands : (c : tie.After-found)
+    → let s = c .before .before .before .before .before in
+    heldAt (decode (s .args .store .now)) (s .args .pair) ≡ Found.At (c .found .given .0 .0) (c .found .given .0 .1 .0)
+stands c = sym (c .before .before .find-held .ensures) ∙ c .found .given .1
+
 sub-held : tie.Need-sub-held
-sub-held c = ?
+sub-held c =
+    let t = c .before .before in
+    let s = t .before .before .before .before .before in
+    done-some (s .pre .0) (s .args .pair) (s .pre .2) _
+    (done-any (s .pre .0) (s .args .pair) (s .pre .2) _ _ (stands t))
 
--- src/lib.rt:119:9
 sources-of-requires : tie.Need-sources-of-requires
 sources-of-requires c κs = search needs
 
--- src/lib.rt:121:25
 enum-known-sources : tie.Need-enum-known-sources
 enum-known-sources c = search needs
 
--- src/lib.rt:121:35
-plan-cut-requires : tie.Need-plan-cut-requires
-plan-cut-requires c κs = ?
+-- out of the pair's own bucket
+home : (c : tie.After-sources)
+    → let s = c .before .before .before .before .before .before .before .before .before .before in
+    remove (decode (s .args .store .now)) (s .args .pair)
+    ≡ done (cut (s .args .pair) (c .sources .given .0 .0) (decode (s .args .store .now)))
+home c =
+    let w = c .before .before in
+    let t = w .before .before .before in
+    let s = t .before .before .before .before .before in
+    done-home (s .pre .0) (s .args .pair) (s .pre .2) _ _ (stands t) _ (sym (w .sources-of .ensures) ∙ c .sources .given .1)
 
--- src/lib.rt:122:25
+plan-cut-requires : tie.Need-plan-cut-requires
+plan-cut-requires c κs =
+    let e = c .before .before in
+    let w = e .before .before in
+    let t = w .before .before .before in
+    let s = t .before .before .before .before .before in
+    let r = s .pre .0 in
+    let q = sym (w .sources-of .ensures) ∙ e .sources .given .1 in
+    (
+      (r, home-made r (s .args .pair .hash) _ q, s .pre .1),
+      (
+        held-home (decode (s .args .store .now)) (s .args .pair) _ q ∙ stands t,
+        (
+          done-wf r (s .args .pair) (s .pre .2) _ (home e),
+          done-count r (s .args .pair) (s .pre .2) _ (home e),
+        ),
+      ),
+    )
+
 enum-known-sources-2 : tie.Need-enum-known-sources-2
 enum-known-sources-2 c = search needs
 
--- src/lib.rt:122:39
-plan-cuts-requires : tie.Need-plan-cuts-requires
-plan-cuts-requires c κs = ?
+-- out of both chains of the job
+both : (c : tie.After-sources2)
+    → let s = c .before .before .before .before .before .before .before .before .before .before in
+    remove (decode (s .args .store .now)) (s .args .pair)
+    ≡ done (cut (s .args .pair) (c .sources2 .given .0 .0)
+    (cut (s .args .pair) (c .sources2 .given .0 .1 .0) (decode (s .args .store .now))))
+both c =
+    let w = c .before .before in
+    let t = w .before .before .before in
+    let s = t .before .before .before .before .before in
+    done-both (s .pre .0) (s .args .pair) (s .pre .2) _ _ (stands t) _ _
+    (sym (w .sources-of .ensures) ∙ c .sources2 .given .1)
 
--- src/lib.rt:109:1
+plan-cuts-requires : tie.Need-plan-cuts-requires
+plan-cuts-requires c κs =
+    let e = c .before .before in
+    let w = e .before .before in
+    let t = w .before .before .before in
+    let s = t .before .before .before .before .before in
+    let r = s .pre .0 in
+    let q = sym (w .sources-of .ensures) ∙ e .sources2 .given .1 in
+    let m = both-made r (s .args .pair .hash) _ _ q in
+    (
+      (r, s .pre .1),
+      (
+        (m .0, m .1, both-apart r (s .args .pair) (s .pre .2) _ _ q),
+        done-count r (s .args .pair) (s .pre .2) _ (both e),
+      ),
+    )
+
 same-length : tie.Need-same-length
 same-length c = search needs
 
--- src/lib.rt:109:1
 returns-2 : tie.Need-returns-2
-returns-2 c = ?
+returns-2 c =
+    let g = c .before .before in
+    let e = g .before .before .before in
+    let s = e .before .before .before .before .before .before .before .before .before .before in
+    settled (s .pre .0) (s .args .pair) (s .pre .2) _ (home e) (g .plan-cut .ensures)
 
--- src/lib.rt:109:1
 same-length-2 : tie.Need-same-length-2
 same-length-2 c = search needs
 
--- src/lib.rt:109:1
 returns-3 : tie.Need-returns-3
-returns-3 c = ?
+returns-3 c =
+    let g = c .before .before in
+    let e = g .before .before .before in
+    let s = e .before .before .before .before .before .before .before .before .before .before in
+    settled (s .pre .0) (s .args .pair) (s .pre .2) _ (both e) (g .plan-cuts .ensures)
 
 pub plan-remove-spec : {M : Type 1} → statement M
 plan-remove-spec =
