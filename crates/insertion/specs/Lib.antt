@@ -1,0 +1,9 @@
+pub mod Put
+pub mod FieldLaws
+pub mod FreeLaws
+pub mod FieldsLast
+pub mod PutLaws
+pub mod LinkLaws
+pub mod FreePageLaws
+pub mod FreshPageLaws
+pub mod PlacesLaws
