@@ -3,7 +3,7 @@ use mathlib.Core.Path.{_≡_, refl, sym, ap, _∙_}
 use mathlib.Core.Bool.{Bool, true, false, cond, not}
 use mathlib.Core.List.{List}
 use mathlib.Core.Option.{Option, none, some, Option·getD}
-use Prim.Native.Nat.{ℕ, _*_, _/_, _%_, _^_, _≤_, _<_}
+use Prim.Native.Nat.{ℕ, _*_, _/_, _%_, _^_, _<_}
 use native.Mathlib.Decide.{ℕ-discrete}
 use native.Mathlib.Omega.{arith}
 use lib.Dec.{eqb}
@@ -11,7 +11,6 @@ use lib.Bits.{bitOr}
 use lib.ListN.{length, getD, set}
 use Rattle.lists.specs.Lists.{b2n, find, upFrom}
 use Rattle.lists.specs.ListsLaws.{eqb-yes, eqb-no}
-use Rattle.page.specs.declared.Entry.{Entry}
 use Rattle.model.specs.Index.{Index, topBit}
 use Rattle.model.specs.Pages.{freeBit, firstFree}
 use Rattle.model.specs.WellFormed.{Laid}

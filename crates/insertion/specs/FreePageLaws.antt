@@ -3,7 +3,7 @@ use mathlib.Core.Path.{_≡_, refl, sym, ap, ap₂, _∙_, subst}
 use mathlib.Core.Logic.{_≢_}
 use mathlib.Core.Bool.{true, cond}
 use mathlib.Core.List.{List, [], _∷_, _++_}
-use Prim.Native.Nat.{ℕ, _+_, _≤_, _<_}
+use Prim.Native.Nat.{ℕ, _≤_, _<_}
 use native.Mathlib.Omega.{arith}
 use lib.Dec.{eqb}
 use lib.ListN.{length, drop}
@@ -29,7 +29,6 @@ use Rattle.image.specs.FrameChain.{Free}
 use Rattle.image.specs.FrameImages.{top-one, map-image}
 use Rattle.image.specs.FramePages.{taken-map}
 use Rattle.image.specs.FramePut.{frame-again}
-use Rattle.chain.specs.declared.Free as chain
 use Rattle.chain.specs.Bitmap.{freeOr, lowestFree}
 use Rattle.view.specs.Reads.{Reads}
 use Rattle.view.specs.ReadsLaws.{reads-laid, reads-size, reads-max}
@@ -45,7 +44,7 @@ use Rattle.plan.specs.StoreLaws.{map-inside, map-shape}
 use Rattle.insertion.specs.Put.{extended, fieldsOf, AtEnd, Linked}
 use Rattle.insertion.specs.FieldLaws.{read-spares, fields-set}
 use Rattle.insertion.specs.FreeLaws.{bits-shaped, bits-put, first-read}
-use Rattle.insertion.specs.FieldsLast.{fields-ready, plans-fields}
+use Rattle.insertion.specs.PlanFieldsLaws.{fields-ready, plans-fields}
 use Rattle.insertion.specs.PutLaws.{chain-there}
 use Rattle.insertion.specs.LinkLaws.{last-under, last-meta, last-shown, new-shown}
 use Rattle.insertion.specs.LinkLaws.{bit-some}

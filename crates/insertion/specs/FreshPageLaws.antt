@@ -2,7 +2,7 @@
 use mathlib.Core.Path.{_≡_, refl, sym, ap, _∙_}
 use mathlib.Core.Logic.{_≢_}
 use mathlib.Core.List.{List, [], _∷_, _++_}
-use Prim.Native.Nat.{ℕ, suc, _+_, _<_}
+use Prim.Native.Nat.{ℕ, suc, _<_}
 use native.Mathlib.Omega.{arith}
 use lib.ListN.{drop, set}
 use lib.Seq.{getD-set-same}
@@ -36,7 +36,7 @@ use Rattle.plan.specs.StoreLaws.{block-is, map-inside}
 use Rattle.insertion.specs.Put.{extended, fieldsOf, AtEnd, Linked}
 use Rattle.insertion.specs.FieldLaws.{read-made, more-spares, fields-set}
 use Rattle.insertion.specs.FreeLaws.{bits-shaped, first-read}
-use Rattle.insertion.specs.FieldsLast.{fields-ready, plans-fields}
+use Rattle.insertion.specs.PlanFieldsLaws.{fields-ready, plans-fields}
 use Rattle.insertion.specs.PutLaws.{chain-there}
 use Rattle.insertion.specs.LinkLaws.{last-meta, last-shown, new-shown}
 use Rattle.insertion.specs.LinkLaws.{bit-some, page-low}

@@ -7,7 +7,7 @@ use Prim.Native.Nat.{ℕ, suc, _≤_, _<_}
 use native.Mathlib.Omega.{arith}
 use borrow.Author.Tests.{ltb-true, lt-ltb, le-ltb}
 use lib.Dec.{ltb}
-use lib.ListN.{length, getD, drop, length-map}
+use lib.ListN.{length, drop, length-map}
 use Rattle.lists.specs.Lists.{b2n}
 use Rattle.lists.specs.Block.{blocks, block, setBlock}
 use Rattle.address.specs.Address.{point, lastSplit, made}
@@ -21,23 +21,21 @@ use Rattle.page.specs.SlotLaws.{length-insertAt}
 use Rattle.page.specs.SublistLaws.{all-each, each-getD}
 use Rattle.store.specs.declared.Change.{Change}
 use Rattle.store.specs.Store.{trailer, sealed}
-use Rattle.model.specs.Index.{Page, Index, chain, topBit, setChain}
-use Rattle.model.specs.Pages.{hasRoom, chainRoom, enterEntry, addEntry, freeBit, firstFree, Taken, takeFrom, takePage, putIn, put}
-use Rattle.model.specs.WellFormed.{Laid}
+use Rattle.model.specs.Index.{Page, Index, chain, topBit}
+use Rattle.model.specs.Pages.{chainRoom, addEntry, freeBit, firstFree, Taken, takeFrom, takePage, putIn, put}
 use Rattle.image.specs.declared.Meta.{Meta}
-use Rattle.image.specs.Layout.{noLink, paged, metaFront, metaOf, flagsOf, encodeBlock}
+use Rattle.image.specs.Layout.{noLink, paged, metaFront, flagsOf, encodeBlock}
 use Rattle.image.specs.Decode.{decode}
 use Rattle.image.specs.PageOkLaws.{length-pageFront}
-use Rattle.image.specs.Frame.{Apart, blockOfBit, mapBlock, chainBlocks, pageBlock, pageEntries, prevIn, flagsFor, pageWith}
+use Rattle.image.specs.Frame.{blockOfBit, mapBlock, chainBlocks, pageBlock, pageEntries, prevIn, flagsFor, pageWith}
 use Rattle.image.specs.Frame.{entriesAfter, roomPlace}
 use Rattle.image.specs.FrameApart.{page-meta}
 use Rattle.image.specs.FrameFresh.{moreSpares}
 use Rattle.image.specs.FrameMeta.{room-free}
 use Rattle.image.specs.FramePages.{RoomAt, room-at, room-image}
 use Rattle.image.specs.FramePut.{frame-room}
-use Rattle.chain.specs.Bitmap.{freeOr, lowestFree}
 use Rattle.view.specs.Reads.{Reads}
-use Rattle.view.specs.ReadsLaws.{reads-laid, reads-size, reads-sized, reads-max}
+use Rattle.view.specs.ReadsLaws.{reads-laid, reads-size, reads-max}
 use Rattle.view.specs.ChainLaws.{pages-read, page-read}
 use Rattle.draft.specs.Draft.{Draft, Ready, Edited, PageEdited}
 use Rattle.draft.specs.ShapeLaws.{room-page}
@@ -47,11 +45,11 @@ use Rattle.plan.specs.Shape.{Shaped}
 use Rattle.plan.specs.ShapeLaws.{shaped-length, shaped-page, shaped-entries, sealed-entries}
 use Rattle.plan.specs.Sketch.{Sketch}
 use Rattle.plan.specs.SketchLaws.{sketch-none, ready, sketch-here, sketch-more, page-edited}
-use Rattle.plan.specs.StoreLaws.{map-shape, page-under, page-few, page-shape}
+use Rattle.plan.specs.StoreLaws.{map-shape, page-under, page-shape}
 use Rattle.insertion.specs.Put.{entered, extended, fieldsOf, Leaves, InRoom}
 use Rattle.insertion.specs.FieldLaws.{read-free, read-spares, fields-set}
 use Rattle.insertion.specs.FreeLaws.{bits-shaped, first-read}
-use Rattle.insertion.specs.FieldsLast.{fields-ready, plans-fields}
+use Rattle.insertion.specs.PlanFieldsLaws.{fields-ready, plans-fields}
 
 -- ---- what a put answers
 

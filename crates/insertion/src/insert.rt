@@ -29,12 +29,12 @@ pub fn plan_insert(store: &[u8], m: Meta, pair: Pair, images: &mut [u8]) -> Plan
     let b = bucket_of(pair.hash, m.max);
     let e = Entry { pair, moved: false };
     let put = plan_put(store, m, b, e, m.count + 1, images);
-    if !put.room {
-        return refuse(Refusal::NoRoom);
+    if put.room {
+        let change = put.change;
+        return Plan {
+            answer: Answer::Done,
+            change,
+        };
     }
-    let change = put.change;
-    Plan {
-        answer: Answer::Done,
-        change,
-    }
+    refuse(Refusal::NoRoom)
 }

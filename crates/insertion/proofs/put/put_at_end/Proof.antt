@@ -1,78 +1,126 @@
+use mathlib.Core.Path.{_≡_, sym, ap, _∙_}
 use borrow.Author.Needs.{needs}
+use native.Mathlib.Omega.{arith}
+use Rattle.lists.specs.Block.{block}
+use Rattle.image.specs.Decode.{decode}
+use Rattle.image.specs.Frame.{mapBlock}
+use Rattle.image.specs.FrameImages.{top-one}
+use Rattle.chain.specs.Bitmap.{lowestFree}
+use Rattle.view.specs.ReadsLaws.{reads-laid, reads-size, reads-whole, reads-block}
+use Rattle.plan.specs.StoreLaws.{map-inside}
+use Rattle.insertion.specs.FieldLaws.{point-low, read-bit, bit-fits}
+use Rattle.insertion.specs.PlacesLaws.{places-some, places-none, NoRoomIn, bit-free, put-again, end-again}
+use Rattle.insertion.specs.PlacesLaws.{blocks-left, put-next, end-fresh, put-nowhere}
 use Rattle.insertion.proofs.put.put_at_end.Statement.{statement}
 use Rattle.insertion.proofs.put.put_at_end.Tie as tie
-use Rattle.insertion.proofs.put.put_at_end.Reads as reads
-use Rattle.insertion.proofs.put.put_at_end.Lts as lts
-use Rattle.address.proofs.bit_block.Reads as bit-block-reads
-use Rattle.address.proofs.made_blocks.Reads as made-blocks-reads
-use Rattle.chain.proofs.bitmap.lowest_free.Reads as lowest-free-reads
-use Rattle.draft.proofs.new_draft.Reads as new-draft-reads
-use Rattle.insertion.proofs.put.put_in_free.Reads as put-in-free-reads
-use Rattle.insertion.proofs.put.put_in_fresh.Reads as put-in-fresh-reads
-use Rattle.store.proofs.block_at.Reads as block-at-reads
 
--- src/put.rt:178:9
 bit-block-requires : tie.Need-bit-block-requires
-bit-block-requires c κs = ?
+bit-block-requires c κs = let r = c .before .before .before .pre .0 .0 in bit-fits r 0 (top-one _ (reads-laid r))
 
--- src/put.rt:179:44
 cast-block-at : tie.Need-cast-block-at
 cast-block-at c = search needs
 
--- src/put.rt:179:28
 block-at-requires : tie.Need-block-at-requires
-block-at-requires c κs = ?
+block-at-requires c κs =
+    let r = c .before .before .before .before .pre .0 .0 in
+    reads-whole r _ (omega (arith, c .bit-block .ensures, read-bit r 0, map-inside r, reads-size r))
 
--- src/put.rt:179:9
 lowest-free-requires : tie.Need-lowest-free-requires
-lowest-free-requires c κs = ?
+lowest-free-requires c κs =
+    let r = c .before .before .before .before .before .pre .0 .0 in
+    rw (c .block-at .ensures)
+    (reads-block r _ (omega (arith, c .before .bit-block .ensures, read-bit r 0, map-inside r, reads-size r)))
 
--- src/put.rt:180:22
+-- what the search finds in the bitmap, and the chain's end
+found : (c : tie.After-lowest-free)
+    → c .lowest-free .result ≡ lowestFree (block (c .before .before .before .before .before .before .args .store .now) (mapBlock (decode (c .before .before .before .before .before .before .args .store .now))))
+found c =
+    c .lowest-free .ensures
+    ∙ ap lowestFree (c .before .block-at .ensures
+    ∙ ap (block (c .before .before .before .before .before .before .args .store .now)) (c .before .before .bit-block .ensures ∙ read-bit (c .before .before .before .before .before .before .pre .0 .0) 0))
+
+end : (c : tie.After-lowest-free) → NoRoomIn (decode (c .before .before .before .before .before .before .args .store .now)) (c .before .before .before .before .before .before .args .b) (c .before .before .before .before .before .before .args .last)
+end c = let p = c .before .before .before .before .before .before .pre .1 .0 in record { room = p .0; page = p .1 }
+
 enum-known-free : tie.Need-enum-known-free
 enum-known-free c = search needs
 
--- src/put.rt:183:21
 put-in-free-requires : tie.Need-put-in-free-requires
-put-in-free-requires c κs = ?
+put-in-free-requires c κs =
+    let f = c .before .before .before .before in
+    let s = f .before .before .before .before .before .before in
+    let a = s .args in
+    let q = sym (found f) ∙ c .before .before .free .given .1 in (
+      end-again (s .pre .0 .0) (a .b) (s .pre .0 .1) (a .e) (a .held) (s .pre .1 .1) (a .last) (end f) _ q,
+      (
+        bit-free (s .pre .0 .0) (a .b) (s .pre .0 .1) (a .e) (a .held) (s .pre .1 .1) (a .last) (end f) _ q,
+        s .pre .0 .2,
+      ),
+    )
 
--- src/put.rt:181:9
 same-length : tie.Need-same-length
 same-length c = search needs
 
--- src/put.rt:181:9
 returns : tie.Need-returns
-returns c = ?
+returns c =
+    let f = c .before .before .before .before .before .before .before in
+    let s = f .before .before .before .before .before .before in
+    let a = s .args in
+    let q = sym (found f) ∙ c .before .before .before .before .before .free .given .1 in
+    places-some
+    (put-again (s .pre .0 .0) (a .b) (s .pre .0 .1) (a .e) (a .held) (s .pre .1 .1) (a .last) (end f) _ q)
+    (c .before .before .put-in-free .ensures)
 
 enum-told : tie.Need-enum-told
 enum-told c = search needs
 
--- src/put.rt:186:8
 made-blocks-requires : tie.Need-made-blocks-requires
-made-blocks-requires c κs = ?
+made-blocks-requires c κs = point-low (c .before .before .before .before .before .before .before .before .pre .0 .0)
 
--- src/put.rt:186:39
 cast-if1 : tie.Need-cast-if1
 cast-if1 c = search needs
 
--- src/put.rt:189:21
 put-in-fresh-requires : tie.Need-put-in-fresh-requires
-put-in-fresh-requires c κs = ?
+put-in-fresh-requires c κs =
+    let f = c .before .before .before .before .before .before in
+    let s = f .before .before .before .before .before .before in
+    let a = s .args in
+    let q = sym (found f) ∙ c .before .before .before .before .enum-told .given .1 in
+    let l = rw (c .before .before .before .made-blocks .ensures) at (c .before .if1 .taken) in (
+      end-fresh (s .pre .0 .0) (a .b) (s .pre .0 .1) (a .e) (a .held) (s .pre .1 .1) (a .last) (end f) q l,
+      (
+        (blocks-left (s .pre .0 .0) (a .b) (s .pre .0 .1) (a .e) (a .held) (s .pre .1 .1) (a .last) (end f) q l, q),
+        s .pre .0 .2,
+      ),
+    )
 
--- src/put.rt:187:9
 same-length-2 : tie.Need-same-length-2
 same-length-2 c = search needs
 
--- src/put.rt:187:9
 returns-2 : tie.Need-returns-2
-returns-2 c = ?
+returns-2 c =
+    let f = c .before .before .before .before .before .before .before .before .before in
+    let s = f .before .before .before .before .before .before in
+    let a = s .args in
+    let q = sym (found f) ∙ c .before .before .before .before .before .before .before .enum-told .given .1 in
+    let l = rw (c .before .before .before .before .before .before .made-blocks .ensures) at (c .before .before .before .before .if1 .taken) in
+    places-some
+    (put-next (s .pre .0 .0) (a .b) (s .pre .0 .1) (a .e) (a .held) (s .pre .1 .1) (a .last) (end f) q l)
+    (c .before .before .put-in-fresh .ensures)
 
--- src/put.rt:194:17
 new-draft-requires : tie.Need-new-draft-requires
 new-draft-requires c κs = search needs
 
--- src/put.rt:161:1
 returns-3 : tie.Need-returns-3
-returns-3 c = ?
+returns-3 c =
+    let f = c .before .before .before .before .before .before in
+    let s = f .before .before .before .before .before .before in
+    let a = s .args in
+    let q = sym (found f) ∙ c .before .before .before .before .enum-told .given .1 in
+    let l = rw (c .before .before .before .made-blocks .ensures) at (c .before .if1 .left) in
+    places-none
+    (put-nowhere (s .pre .0 .0) (a .b) (s .pre .0 .1) (a .e) (a .held) (s .pre .1 .1) (a .last) (end f) q l)
+    (c .new-draft .ensures .0)
 
 pub put-at-end-spec : {M : Type 1} → statement M
 put-at-end-spec =

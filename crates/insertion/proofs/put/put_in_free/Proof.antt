@@ -50,17 +50,19 @@ link-page-requires : tie.Need-link-page-requires
 link-page-requires c κs =
     let k = c .before in
     let s = k .before .before .before .before .before .before in
-    let h = s .pre .0 in
-    ((reads-sized (h .leaves .reads) .whole, s .pre .1 .1),
-    (last-under h, omega (arith, page-is k, free-under h (s .pre .1 .0))))
+    let h = s .pre .0 in (
+      (reads-sized (h .leaves .reads) .whole, s .pre .1 .1),
+      (last-under h, omega (arith, page-is k, free-under h (s .pre .1 .0))),
+    )
 
 put-bit-requires : tie.Need-put-bit-requires
 put-bit-requires c κs =
     let k = c .before .before .before .before .before in
     let s = k .before .before .before .before .before .before in
-    let h = s .pre .0 in
-    (bit-ready h (s .pre .1 .0) (linked-at (c .before .before .before .link-page .ensures) (h .page) (page-is k)) _ (map-is k),
-    free-small h (s .pre .1 .0))
+    let h = s .pre .0 in (
+      bit-ready h (s .pre .1 .0) (linked-at (c .before .before .before .link-page .ensures) (h .page) (page-is k)) _ (map-is k),
+      free-small h (s .pre .1 .0),
+    )
 
 cast-block-at : tie.Need-cast-block-at
 cast-block-at c = search needs

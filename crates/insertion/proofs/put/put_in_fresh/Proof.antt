@@ -1,7 +1,5 @@
 use mathlib.Core.Path.{_≡_, ap, _∙_}
-use mathlib.Core.List.{List}
-use Prim.Native.Nat.{ℕ, suc, _+_}
-use native.Mathlib.Numerals.{add-one}
+use Prim.Native.Nat.{suc, _+_}
 use native.Mathlib.Omega.{arith}
 use borrow.Author.Needs.{needs}
 use lib.ListN.{getD, set}
@@ -60,9 +58,10 @@ link-page-requires c κs =
     let k = c .before in
     let s = k .before .before .before .before .before in
     let h = s .pre .0 in
-    let r = h .leaves .reads in
-    ((reads-sized r .whole, s .pre .1 .1),
-    (last-under h, omega (arith, k .made-blocks .ensures, read-made r, s .pre .1 .0 .0, reads-size r)))
+    let r = h .leaves .reads in (
+      (reads-sized r .whole, s .pre .1 .1),
+      (last-under h, omega (arith, k .made-blocks .ensures, read-made r, s .pre .1 .0 .0, reads-size r)),
+    )
 
 with-fields-requires : tie.Need-with-fields-requires
 with-fields-requires c κs = search needs
