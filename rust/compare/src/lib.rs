@@ -8,7 +8,6 @@
 
 pub mod book;
 pub mod build;
-pub mod fill;
 pub mod lists;
 pub mod random;
 pub mod sha256;
