@@ -70,8 +70,8 @@ impl fmt::Display for Refusal {
 
 impl Error for Refusal {}
 
-/// The job of a store. A job is the split of a bucket: entries are copied to the new bucket first, and then cleared from
-/// the old one.
+/// The job of a store. A job is the split of a bucket: entries are copied to the new bucket first, and then cleared
+/// from the old one.
 #[derive(Debug, Clone, Copy, PartialEq, Eq, Hash, Default)]
 pub enum Phase {
     /// No job.

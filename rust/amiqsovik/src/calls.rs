@@ -16,7 +16,8 @@ pub fn verify(store: &[u8]) -> Result<(), Refusal> {
     Word(foreign::verify(store)).done().map(drop)
 }
 
-/// Makes a store of any bytes an empty index. `fill`, 1 to 40, is the number of pairs a bucket above which buckets split.
+/// Makes a store of any bytes an empty index. `fill`, 1 to 40, is the number of pairs a bucket above which buckets
+/// split.
 ///
 /// ```
 /// let mut store = [0; 8 * 512];
@@ -56,8 +57,8 @@ pub fn remove(store: &mut [u8], hash: u32, block: u32, offset: u32) -> Result<()
     Word(foreign::remove(store, hash, block, offset)).done().map(drop)
 }
 
-/// Writes the readings held under a hash code to the output, 6 bytes each, and gives them. Later bytes of the output stay
-/// as they are.
+/// Writes the readings held under a hash code to the output, 6 bytes each, and gives them. Later bytes of the output
+/// stay as they are.
 ///
 /// ```
 /// # let mut store = [0; 8 * 512];
@@ -77,7 +78,8 @@ pub fn lookup<'o>(store: &[u8], hash: u32, output: &'o mut [u8]) -> Result<Match
     Ok(Matches::new(output, word.gives()))
 }
 
-/// Makes up to `budget` steps, at most 65535, of the splits that are wanted. The store is a sound index after each step.
+/// Makes up to `budget` steps, at most 65535, of the splits that are wanted. The store is a sound index after each
+/// step.
 ///
 /// ```
 /// # let mut store = [0; 8 * 512];

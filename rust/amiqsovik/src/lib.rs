@@ -1,8 +1,9 @@
 //! Amiqsovik's hash index: a safe interface to the proved one.
 //!
-//! A store is a byte slice of 4 to 128 blocks of 512 bytes that you own and lend. The index keeps pairs in it: a 32-bit
-//! hash code and the place of a [`Reading`]. The code behind the calls is machine-checked: whatever bytes and numbers it is
-//! given, each call ends, and either is done or gives a [`Refusal`] and changes nothing. It allocates nothing.
+//! A store is a byte slice of 4 to 128 blocks of 512 bytes that you own and lend. The index keeps pairs in it: a
+//! 32-bit hash code and the place of a [`Reading`]. The code behind the calls is machine-checked: whatever bytes and
+//! numbers it is given, each call ends, and either is done or gives a [`Refusal`] and changes nothing. It allocates
+//! nothing.
 //!
 //! The seven calls are functions over slices; [`Store`] has them as methods.
 //!
@@ -17,8 +18,8 @@
 //! # Ok::<(), amiqsovik::Refusal>(())
 //! ```
 //!
-//! Splits of buckets go step by step, when you say so: call [`work`] when [`standing`]'s slack is below zero. Lookups find
-//! the same readings before, between and after the steps.
+//! Splits of buckets go step by step, when you say so: call [`work`] when [`standing`]'s slack is below zero. Lookups
+//! find the same readings before, between and after the steps.
 
 #![warn(missing_docs)]
 #![deny(unsafe_code)]

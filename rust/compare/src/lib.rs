@@ -1,8 +1,8 @@
 //! The proved index and the ordinary one, side by side.
 //!
 //! The tests in `tests/` make calls through [`twin::Twin`], which makes each on both and compares answers, stores and
-//! outputs to the byte. Everything else here is aid: a generator of numbers, stores built or spoilt from outside, and the
-//! book of demand 3.
+//! outputs to the byte. Everything else here is aid: a generator of numbers, stores built or spoilt from outside, and
+//! the book of demand 3.
 
 #![forbid(unsafe_code)]
 

@@ -172,9 +172,7 @@ impl Store<'_> {
 
     fn copies_fit(&self, old: u32, new: u32) -> bool {
         let originals = self.sorted_pairs(old);
-        self.view
-            .entries(new)
-            .all(|spot| spot.entry.moved == originals.binary_search(&spot.entry.pair).is_ok())
+        self.view.entries(new).all(|spot| spot.entry.moved == originals.binary_search(&spot.entry.pair).is_ok())
     }
 
     /// Previous fields of bucket pages, and the count.

@@ -25,9 +25,8 @@ mod tests {
         let mut seen = 0;
         for line in text.lines().filter(|line| !line.starts_with('#')) {
             let (hex, check) = line.split_once(' ').expect("bytes and a check");
-            let bytes: Vec<u8> = (0..hex.len() / 2)
-                .map(|i| u8::from_str_radix(&hex[2 * i..2 * i + 2], 16).expect("hex"))
-                .collect();
+            let bytes: Vec<u8> =
+                (0..hex.len() / 2).map(|i| u8::from_str_radix(&hex[2 * i..2 * i + 2], 16).expect("hex")).collect();
             assert_eq!(crc32c(&bytes), u32::from_str_radix(check, 16).expect("hex"), "{line}");
             seen += 1;
         }

@@ -1,8 +1,8 @@
 //! The hash index of document 01 in ordinary Rust.
 //!
-//! A store is a byte slice of 4 to 128 blocks of 512 bytes. Every call takes any bytes and any numbers, judges the whole
-//! store first, and either is done or gives a [`Refusal`] and leaves the store and the output as they were. This crate is
-//! written from the document alone, so that the proved index can be compared with it.
+//! A store is a byte slice of 4 to 128 blocks of 512 bytes. Every call takes any bytes and any numbers, judges the
+//! whole store first, and either is done or gives a [`Refusal`] and leaves the store and the output as they were.
+//! This crate is written from the document alone, so that the proved index can be compared with it.
 //!
 //! ```
 //! let mut store = vec![0; 16 * 512];

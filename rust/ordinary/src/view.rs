@@ -82,10 +82,8 @@ impl<'a> View<'a> {
         let old = self.populated_from(bucket);
         let run = |bucket| self.chain(bucket).flat_map(move |number| page::run(&self.blocks[number], hash));
         let own = run(bucket).filter(|entry| old.is_none() || !entry.moved);
-        let mut places: Vec<_> = own
-            .chain(old.into_iter().flat_map(run))
-            .map(|entry| (entry.pair.block, entry.pair.offset))
-            .collect();
+        let mut places: Vec<_> =
+            own.chain(old.into_iter().flat_map(run)).map(|entry| (entry.pair.block, entry.pair.offset)).collect();
         places.sort_unstable();
         places
     }
