@@ -1,0 +1,2 @@
+pub mod Mover
+pub mod MoverLaws

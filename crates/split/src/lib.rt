@@ -1,0 +1,10 @@
+// The steps of a split, planned: its begin, one entry copied or cleared, and the ends of copying and clearing.
+pub mod search; // search.rt: the entry that a step moves
+
+use page::Entry;
+
+// The first entry of the old chain that is left to copy or to clear.
+pub enum Mover {
+    At(Entry),
+    Nothing,
+}
