@@ -1,15 +1,15 @@
--- Whether an entry is left to move, as code tests it, and the search for the first such entry, slot by slot and page by page.
-use mathlib.Core.Path.{_≡_, refl, sym, ap, _∙_}
+-- Whether an entry is left to move, as code tests it, and the search for one among a page's slots.
+use mathlib.Core.Path.{_≡_, sym, ap, _∙_}
 use mathlib.Core.Logic.{_≢_}
 use mathlib.Core.Bool.{Bool, true, false, not, _&&_}
-use mathlib.Core.List.{List, [], _++_}
-use mathlib.Core.Option.{Option, none, some}
-use Prim.Native.Nat.{ℕ, suc, _+_, _≤_, _<_}
+use mathlib.Core.List.{List}
+use mathlib.Core.Option.{none, some}
+use Prim.Native.Nat.{ℕ, _+_, _≤_, _<_}
 use native.Mathlib.Omega.{arith}
 use borrow.Author.Tests.{eq-eqb, ne-eqb}
 use lib.Dec.{eqb}
 use lib.ListN.{length, drop}
-use Rattle.lists.specs.Lists.{any, find, bind}
+use Rattle.lists.specs.Lists.{any, find}
 use Rattle.address.specs.Address.{bucketOf}
 use Rattle.endian.specs.Endian.{u16At}
 use Rattle.page.specs.declared.Entry.{Entry}
@@ -20,7 +20,6 @@ use Rattle.model.specs.Index.{Index, entriesAt, newBucket}
 use Rattle.model.specs.Steps.{moves}
 use Rattle.image.specs.declared.Meta.{Meta}
 use Rattle.image.specs.Decode.{decode}
-use Rattle.image.specs.FrameLists.{find-left, find-right}
 use Rattle.chain.specs.declared.Found.{Found}
 use Rattle.chain.specs.Search.{isFound}
 use Rattle.chain.specs.FindLaws.{find-here, find-later, find-end}
@@ -28,8 +27,7 @@ use Rattle.view.specs.Reads.{Reads}
 use Rattle.view.specs.ReadsLaws.{reads-max}
 use Rattle.view.specs.Places.{findAt}
 use Rattle.view.specs.HeldLaws.{isFound-findAt}
-use Rattle.split.specs.declared.Mover.{Mover}
-use Rattle.split.specs.Mover.{movable, moverOf}
+use Rattle.split.specs.Mover.{movable}
 
 -- ---- one entry
 
@@ -83,22 +81,3 @@ module _ (t : Entry → Bool) (l : List ℕ) (i : ℕ) where
 
   pub slot-end : u16At l 0 ≤ i → find t (drop i (entriesOf l)) ≡ none
   slot-end past = find-end t (entriesOf l) i (omega (arith, length-entriesOf l))
-
--- ---- a page, and the pages after it
-
-module _ (t : Entry → Bool) (es fs : List Entry) (f : Mover) (here : f ≡ moverOf (find t es)) where
-  pub page-found : (e : Entry) → f ≡ Mover.At e → moverOf (find t (es ++ fs)) ≡ Mover.At e
-  page-found e q = go (find t es) refl
-    where
-      go : (o : Option Entry) → find t es ≡ o → moverOf (find t (es ++ fs)) ≡ Mover.At e
-      go none k = let z : Mover.Nothing ≡ Mover.At e = sym (ap moverOf k) ∙ sym here ∙ q in
-          let w : _≡_ {A = ℕ} 0 1 = cc in absurd (omega arith)
-      go (some d) k = ap moverOf (find-left t es fs d k) ∙ sym (ap moverOf k) ∙ sym here ∙ q
-
-  pub page-none : f ≡ Mover.Nothing → moverOf (find t (es ++ fs)) ≡ moverOf (find t fs)
-  page-none q = go (find t es) refl
-    where
-      go : (o : Option Entry) → find t es ≡ o → moverOf (find t (es ++ fs)) ≡ moverOf (find t fs)
-      go none k = ap moverOf (find-right t es fs k)
-      go (some d) k = let z : Mover.At d ≡ Mover.Nothing = sym (ap moverOf k) ∙ sym here ∙ q in
-          let w : _≡_ {A = ℕ} 0 1 = cc in absurd (omega arith)

@@ -37,8 +37,8 @@ enum-told-2 c = search needs
 
 -- what the search for a copy tells
 copied : (c : tie.After-find-in)
-    → let s = c .before .before .before .before .before .before in
-    not (isFound (c .find-in .result)) ≡ _
+    → let a = c .before .before .before .before .before .before .args in
+    not (isFound (c .find-in .result)) ≡ movable (a .copying) (decode (a .store .now)) (a .e)
 copied c =
     let b = c .before .before .before in
     let s = b .before .before .before in
