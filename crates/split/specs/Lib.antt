@@ -1,2 +1,4 @@
 pub mod Mover
 pub mod MoverLaws
+pub mod Job
+pub mod JobLaws
