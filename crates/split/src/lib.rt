@@ -1,6 +1,7 @@
 // The steps of a split, planned: its begin, one entry copied or cleared, and the ends of copying and clearing.
 pub mod search; // search.rt: the entry that a step moves
 pub mod job; // job.rt: the ends of copying and clearing
+pub mod begin; // begin.rt: the begin of a split
 
 use page::Entry;
 
