@@ -1,7 +1,7 @@
 -- The edits of a begin, one after the other, and its plan.
 use mathlib.Core.Path.{_≡_, refl, sym, ap, _∙_, subst}
 use mathlib.Core.Logic.{_≢_}
-use mathlib.Core.Bool.{Bool, true, false}
+use mathlib.Core.Bool.{true, false}
 use mathlib.Core.List.{List, [], _∷_, _++_}
 use mathlib.Core.Option.{Option, none, some}
 use Prim.Native.Nat.{ℕ, suc, _+_, _^_, _≤_, _<_}
@@ -17,9 +17,9 @@ use Rattle.address.specs.BlockLaws.{point-pos, bucket-pos}
 use Rattle.page.specs.Entries.{encodePage}
 use Rattle.store.specs.declared.Change.{Change}
 use Rattle.store.specs.Store.{trailer, sealed}
-use Rattle.model.specs.Index.{Job, idle, Index, chain}
+use Rattle.model.specs.Index.{idle, Index, chain}
 use Rattle.model.specs.Held.{count, wanted}
-use Rattle.model.specs.Steps.{next, orFull, begin, stepIn, step}
+use Rattle.model.specs.Steps.{orFull, begin}
 use Rattle.model.specs.BoundLaws.{laid-size}
 use Rattle.model.specs.Views.{Beginning, begin-view}
 use Rattle.model.specs.MachineLaws.{never}
@@ -46,6 +46,7 @@ use Rattle.plan.specs.Sketch.{Sketch}
 use Rattle.plan.specs.SketchLaws.{sketch-here, sketch-there, sketch-more, sketch-again, edited}
 use Rattle.plan.specs.StoreLaws.{meta-shape, page-shape, page-few}
 use Rattle.plan.specs.PlanLaws.{plans-of}
+use Rattle.split.specs.StepLaws.{step-begins}
 use Rattle.split.specs.Job.{bucketAt}
 use Rattle.split.specs.JobLaws.{at-inside}
 use Rattle.split.specs.Begin.{nextBucket, parentBucket, newPage, madeDraft, oldLinked, linkedDraft, oldPage, begunDraft}
@@ -178,14 +179,8 @@ module _ {s : List ℕ} {m : Meta} (r : Reads s m) (y : Index) (b : begin (decod
   pub zero-at : 0 < blocks s
   zero-at = omega (arith, reads-size r, laid-size x (reads-laid r))
 
-  module _ (job : decode s .job ≡ idle) (want : wanted (decode s) ≡ true) where
-    begins-step : step (decode s) ≡ next y
-    unfolding step
-    begins-step =
-        ap (λ (j : Job). stepIn j (wanted x) x) job ∙ ap (λ (w : Bool). stepIn idle w x) want ∙ ap orFull b
-
-    pub begin-count : count y ≡ count (decode s)
-    begin-count = step-count x (r .wf) y begins-step
+  pub begin-count : decode s .job ≡ idle → wanted (decode s) ≡ true → count y ≡ count (decode s)
+  begin-count job want = step-count x (r .wf) y (step-begins x job want ∙ ap orFull b)
 
   module _ {c c′ : Change} {images images′ : List ℕ} (u : Begun s c images) (f : Meta) (fields : f ≡ metaOf y)
       (e : Edited s c images 0 (λ l. metaFront f ++ drop 492 l) c′ images′) where

@@ -2,7 +2,7 @@
 use mathlib.Core.Path.{_≡_, refl, sym, ap, _∙_, subst}
 use mathlib.Core.Logic.{_≢_}
 use mathlib.Core.List.{List, [], _∷_}
-use mathlib.Core.Option.{Option, none}
+use mathlib.Core.Option.{none}
 use Prim.Native.Nat.{ℕ, suc, _*_, _≤_, _<_}
 use native.Mathlib.Decide.{ℕ-discrete}
 use native.Mathlib.Omega.{arith}
@@ -14,13 +14,11 @@ use Rattle.endian.specs.Endian.{le16}
 use Rattle.address.specs.Address.{lastSplit, point}
 use Rattle.address.specs.MaskLaws.{split-lt}
 use Rattle.address.specs.BlockLaws.{point-pos, bucket-apart}
-use Rattle.page.specs.declared.Entry.{Entry}
 use Rattle.page.specs.Entries.{encodePage}
 use Rattle.store.specs.declared.Change.{Change}
 use Rattle.store.specs.Store.{sealed}
 use Rattle.model.specs.Index.{Job, idle, copying, clearing, Index, chain, entriesAt, newBucket, oldBucket, setJob}
-use Rattle.model.specs.Held.{wanted}
-use Rattle.model.specs.Steps.{next, moves, toCopy, copyIn, clearIn, stepIn, step}
+use Rattle.model.specs.Steps.{next, moves, toCopy, step}
 use Rattle.model.specs.HeldLaws.{old-new}
 use Rattle.model.specs.LaidLaws.{job-laid}
 use Rattle.model.specs.MachineLaws.{never}
@@ -45,6 +43,7 @@ use Rattle.plan.specs.Sketch.{Sketch}
 use Rattle.plan.specs.SketchLaws.{sketch-more, edited}
 use Rattle.plan.specs.StoreLaws.{page-shape, page-few}
 use Rattle.plan.specs.PlanLaws.{plans-of}
+use Rattle.split.specs.StepLaws.{step-copies, step-clears}
 use Rattle.split.specs.Job.{bucketAt, flagged, copiedDraft, clearedDraft}
 
 module _ {s : List ℕ} {m : Meta} (r : Reads s m) where
@@ -113,10 +112,6 @@ module _ {s : List ℕ} {m : Meta} (r : Reads s m) where
   module _ (new old : ℕ) (is-new : new ≡ newBucket (decode s)) (is-old : old ≡ oldBucket (decode s))
       (job : decode s .job ≡ copying)
       (left : find (toCopy (decode s)) (entriesAt (decode s) (oldBucket (decode s))) ≡ none) where
-    copied-step : step (decode s) ≡ next (setJob (decode s) clearing)
-    unfolding step
-    copied-step = ap (λ (j : Job). stepIn j (wanted x) x) job ∙ ap (λ (f : Option Entry). copyIn f x) left
-
     pub plans-copied : {c c′ : Change} {images images′ : List ℕ}
         → Sketch s c images (copiedDraft s new old) 2 (bucketAt s old ∷ bucketAt s new ∷ [])
         → Trimmed s (copiedDraft s new old) c′ images′
@@ -124,7 +119,7 @@ module _ {s : List ℕ} {m : Meta} (r : Reads s m) where
     plans-copied g t =
         let y : Index = setJob x clearing in
         plans-of r g y (job-laid x clearing (reads-laid r)) refl (bucketAt s old ∷ bucketAt s new ∷ [])
-        (frame-all clearing busy copied-step (bucketAt s old ∷ bucketAt s new ∷ [])
+        (frame-all clearing busy (step-copies x job left) (bucketAt s old ∷ bucketAt s new ∷ [])
         (λ k a.
         frame-copied x (reads-laid r) k (
           a .0,
@@ -181,16 +176,12 @@ module _ {s : List ℕ} {m : Meta} (r : Reads s m) where
 
   module _ (old : ℕ) (is-old : old ≡ oldBucket (decode s)) (job : decode s .job ≡ clearing)
       (left : find (moves (decode s)) (entriesAt (decode s) (oldBucket (decode s))) ≡ none) where
-    cleared-step : step (decode s) ≡ next (setJob (decode s) idle)
-    unfolding step
-    cleared-step = ap (λ (j : Job). stepIn j (wanted x) x) job ∙ ap (λ (f : Option Entry). clearIn f x) left
-
     pub plans-cleared : {c c′ : Change} {images images′ : List ℕ}
         → Sketch s c images (clearedDraft s old) 1 (bucketAt s old ∷ []) → Trimmed s (clearedDraft s old) c′ images′
         → Plans s c′ images′ (setJob (decode s) idle)
     plans-cleared g t =
         plans-of r g (setJob x idle) (job-laid x idle (reads-laid r)) refl (bucketAt s old ∷ [])
-        (frame-all idle busy cleared-step (bucketAt s old ∷ [])
+        (frame-all idle busy (step-clears x job left) (bucketAt s old ∷ [])
         (λ k a. frame-cleared x (reads-laid r) job k (a .0, ((λ q. a .1 .0 (q ∙ ap (bucketAt s) (sym is-old))), tt))))
         (λ k a. a)
         ((λ h. ap sealed here-old ∙ flagged-job old old-under 2 idle refl), tt)

@@ -1,5 +1,7 @@
 pub mod Mover
 pub mod MoverLaws
+pub mod Step
+pub mod StepLaws
 pub mod Job
 pub mod JobLaws
 pub mod Begin

@@ -2,6 +2,7 @@
 pub mod search; // search.rt: the entry that a step moves
 pub mod job; // job.rt: the ends of copying and clearing
 pub mod begin; // begin.rt: the begin of a split
+pub mod step; // step.rt: one step
 
 use page::Entry;
 
