@@ -2,6 +2,7 @@ pub mod Mover
 pub mod MoverLaws
 pub mod Step
 pub mod StepLaws
+pub mod CopyLaws
 pub mod Job
 pub mod JobLaws
 pub mod Begin

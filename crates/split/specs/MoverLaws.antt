@@ -1,9 +1,9 @@
 -- Whether an entry is left to move, as code tests it, and the search for one among a page's slots.
-use mathlib.Core.Path.{_≡_, sym, ap, _∙_}
+use mathlib.Core.Path.{_≡_, refl, sym, ap, _∙_}
 use mathlib.Core.Logic.{_≢_}
 use mathlib.Core.Bool.{Bool, true, false, not, _&&_}
 use mathlib.Core.List.{List}
-use mathlib.Core.Option.{none, some}
+use mathlib.Core.Option.{Option, none, some}
 use Prim.Native.Nat.{ℕ, _+_, _≤_, _<_}
 use native.Mathlib.Omega.{arith}
 use borrow.Author.Tests.{eq-eqb, ne-eqb}
@@ -18,6 +18,7 @@ use Rattle.page.specs.Entries.{entryAt, entriesOf}
 use Rattle.page.specs.EntriesLaws.{length-entriesOf, getD-entriesOf}
 use Rattle.model.specs.Index.{Index, entriesAt, newBucket}
 use Rattle.model.specs.Steps.{moves}
+use Rattle.model.specs.MachineLaws.{never}
 use Rattle.image.specs.declared.Meta.{Meta}
 use Rattle.image.specs.Decode.{decode}
 use Rattle.chain.specs.declared.Found.{Found}
@@ -27,7 +28,8 @@ use Rattle.view.specs.Reads.{Reads}
 use Rattle.view.specs.ReadsLaws.{reads-max}
 use Rattle.view.specs.Places.{findAt}
 use Rattle.view.specs.HeldLaws.{isFound-findAt}
-use Rattle.split.specs.Mover.{movable}
+use Rattle.split.specs.declared.Mover.{Mover}
+use Rattle.split.specs.Mover.{movable, moverOf}
 
 -- ---- one entry
 
@@ -81,3 +83,13 @@ module _ (t : Entry → Bool) (l : List ℕ) (i : ℕ) where
 
   pub slot-end : u16At l 0 ≤ i → find t (drop i (entriesOf l)) ≡ none
   slot-end past = find-end t (entriesOf l) i (omega (arith, length-entriesOf l))
+
+-- ---- what was found
+
+pub mover-at : (o : Option Entry) (e : Entry) → Mover.At e ≡ moverOf o → o ≡ some e
+mover-at none e q = never (cc)
+mover-at (some d) e q = cc
+
+pub mover-none : (o : Option Entry) → Mover.Nothing ≡ moverOf o → o ≡ none
+mover-none none q = refl
+mover-none (some d) q = never (cc)
