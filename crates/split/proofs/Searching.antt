@@ -28,7 +28,8 @@ module _ {s : List ℕ} {w : Walk} (ok : Within s w) (t : Entry → Bool) (i : �
   turn : moverOf (find t (bind (drop i (blocksOf w)) (entriesOn s))) ≡ moverOf (find t (es ++ fs))
   turn = ap (λ (ds : List Entry). moverOf (find t ds)) (rest-turn ok i more)
 
-  pub walk-here : (e : Entry) → f ≡ Mover.At e → moverOf (find t (bind (drop i (blocksOf w)) (entriesOn s))) ≡ Mover.At e
+  pub walk-here : (e : Entry) → f ≡ Mover.At e → moverOf (find t (bind (drop i (blocksOf w)) (entriesOn s)))
+      ≡ Mover.At e
   walk-here e q = turn ∙ go (find t es) refl
     where
       go : (o : Option Entry) → find t es ≡ o → moverOf (find t (es ++ fs)) ≡ Mover.At e

@@ -46,12 +46,13 @@ module _ (s : List ℕ) where
   abbrev pub begunDraft : List ℕ
   begunDraft = setBlock linkedDraft (bucketAt s (parentBucket s)) oldPage
 
--- the draft has the new bucket's page, empty and "being populated", and the old one's, "being split"; both hold the new
--- bucket as their last split
+-- the draft has the new bucket's page, empty and "being populated", and the old one's, "being split"; both hold the
+-- new bucket as their last split
 pub record Begun (s : List ℕ) (c : Change) (images : List ℕ) : Type 0 where
   pub made : List ℕ
   pub sketch : Sketch s c images made 2
       (bucketAt s (parentBucket s) ∷ bucketAt s (parentBucket s) ∷ bucketAt s (nextBucket s) ∷ [])
   pub new : Shaped (block made (bucketAt s (nextBucket s))) (encodePage [] []) (nextBucket s) noLink (nextBucket s) 18
-  pub old : Shaped (block made (bucketAt s (parentBucket s))) (encodePage (chain (decode s) (parentBucket s) .first) [])
+  pub old : Shaped (block made (bucketAt s (parentBucket s)))
+      (encodePage (chain (decode s) (parentBucket s) .first) [])
       (nextBucket s) (pageBlock (decode s) (parentBucket s) 1) (parentBucket s) 34

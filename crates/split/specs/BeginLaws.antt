@@ -124,7 +124,8 @@ module _ (x : Index) (l : Laid x) where
       let r : 16 - length (x .spares) ≡ suc (16 - length (x .spares ++ topBit x ∷ [])) =
       omega (arith, length-append (x .spares) (topBit x ∷ []), l .spares .points, point-low) in
       ap₂ (λ (n i : ℕ). set (x .spares ++ replicate n 0) i (topBit x)) r (point-next m true k)
-      ∙ set-at (x .spares) 0 (replicate (16 - length (x .spares ++ topBit x ∷ [])) 0) (topBit x) (suc s) (l .spares .points)
+      ∙ set-at (x .spares) 0 (replicate (16 - length (x .spares ++ topBit x ∷ [])) 0) (topBit x) (suc s)
+      (l .spares .points)
       ∙ sym (append-assoc (x .spares) (topBit x ∷ []) (replicate (16 - length (x .spares ++ topBit x ∷ [])) 0))
 
   -- ---- what a begin leaves
@@ -137,13 +138,15 @@ module _ (x : Index) (l : Laid x) where
   widens (inGroup k) = refl
   widens (newGroup k h) = refl
 
-  first-wider : (sq : List ℕ) → getD sq (point (suc (x .maxBucket))) 0 ≡ topBit x → firstFree (widen x sq) ≡ firstFree x
+  first-wider : (sq : List ℕ) → getD sq (point (suc (x .maxBucket))) 0 ≡ topBit x → firstFree (widen x sq)
+      ≡ firstFree x
   unfolding firstFree freeBit
   first-wider sq e =
       let used : (n : ℕ) → any (eqb n) (bitsUsed (widen x sq)) ≡ any (eqb n) (bitsUsed x) =
       λ n. any-more (eqb n) (bitsUsed x) (bitsUsed (widen x sq)) false
       (omega (arith, tally-bind (eqb n) bitsOf (x .chains) (noChain ∷ []))) in
-      let tests : Path (ℕ → Bool) (λ n. not (any (eqb n) (bitsUsed (widen x sq)))) (λ n. not (any (eqb n) (bitsUsed x))) =
+      let tests : Path (ℕ → Bool) (λ n. not (any (eqb n) (bitsUsed (widen x sq))))
+      (λ n. not (any (eqb n) (bitsUsed x))) =
       fun-ext (λ n. ap not (used n)) in
       λ i. Option·getD (find (tests i) (upFrom 1 (pred (e i)))) (e i)
 
@@ -209,7 +212,8 @@ module _ (x : Index) (l : Laid x) where
           next-size,
         )
 
-    pub pages-apart : bucketBlock (x .spares) (splitFrom (suc (x .maxBucket))) ≢ bucketBlock (x .spares) (suc (x .maxBucket))
+    pub pages-apart : bucketBlock (x .spares) (splitFrom (suc (x .maxBucket))) ≢ bucketBlock (x .spares)
+        (suc (x .maxBucket))
     pages-apart q =
         let a = stays begins in
         let o : ℕ = splitFrom (suc m) in

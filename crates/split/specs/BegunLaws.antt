@@ -49,8 +49,8 @@ use Rattle.plan.specs.PlanLaws.{plans-of}
 use Rattle.split.specs.StepLaws.{step-begins}
 use Rattle.split.specs.Job.{bucketAt}
 use Rattle.split.specs.JobLaws.{at-inside}
-use Rattle.split.specs.Begin.{nextBucket, parentBucket, newPage, madeDraft, oldLinked, linkedDraft, oldPage, begunDraft}
-use Rattle.split.specs.Begin.{Begun}
+use Rattle.split.specs.Begin.{nextBucket, parentBucket, newPage, madeDraft, oldLinked, linkedDraft, oldPage}
+use Rattle.split.specs.Begin.{begunDraft, Begun}
 use Rattle.split.specs.BeginLaws.{padded-new, field-next, next-laid, next-size, new-inside, pages-apart}
 
 -- ---- whether there is a next index
@@ -129,9 +129,12 @@ module _ {s : List ℕ} {m : Meta} (r : Reads s m) (y : Index) (b : begin (decod
         → Edited s c images k (λ l. encodePage [] (trailer v noLink v 18 ++ drop 508 l)) c′ images′
         → Sketch s c′ images′ (madeDraft s) 1 (bucketAt s (nextBucket s) ∷ [])
     begun-made q w g e =
-        let e′ : Edited s c images (bucketAt s n) (λ l. encodePage [] (trailer n noLink n 18 ++ drop 508 l)) c′ images′ =
-        subst (λ (u : ℕ). Edited s c images (bucketAt s n) (λ l. encodePage [] (trailer u noLink u 18 ++ drop 508 l)) c′ images′) w
-        (subst (λ (j : ℕ). Edited s c images j (λ l. encodePage [] (trailer v noLink v 18 ++ drop 508 l)) c′ images′) q e) in
+        let e′ : Edited s c images (bucketAt s n)
+        (λ l. encodePage [] (trailer n noLink n 18 ++ drop 508 l)) c′ images′ =
+        subst (λ (u : ℕ). Edited s c images (bucketAt s n)
+        (λ l. encodePage [] (trailer u noLink u 18 ++ drop 508 l)) c′ images′) w
+        (subst (λ (j : ℕ). Edited s c images j
+        (λ l. encodePage [] (trailer v noLink v 18 ++ drop 508 l)) c′ images′) q e) in
         sketch-more g (bucketAt s n) new-at (newPage s) new-full (e′ .lists) (edited g e′)
 
     pub begun-linked : k ≡ bucketAt s (parentBucket s) → v ≡ nextBucket s
@@ -227,10 +230,12 @@ module _ {s : List ℕ} {m : Meta} (r : Reads s m) (y : Index) (b : begin (decod
               ∙ ap (λ (g : Meta). paged (metaFront g) noLink noLink noLink 8) fields
               ∙ sym (meta-image y (next-laid x l y b))),
           (
-            (λ h. ap sealed (sketch-there (u .sketch) 0 zero-at metaPage meta-full (bucketAt s n) new-at (λ q. block-pos n (sym q)))
+            (λ h. ap sealed (sketch-there (u .sketch) 0 zero-at metaPage meta-full (bucketAt s n) new-at
+                (λ q. block-pos n (sym q)))
                 ∙ shaped-sealed (length-pageFront [] (omega arith)) (u .new) ∙ sym (begin-new x l v)),
             (
-              (λ h. ap sealed (sketch-there (u .sketch) 0 zero-at metaPage meta-full (bucketAt s o) old-at (λ q. block-pos o (sym q)))
+              (λ h. ap sealed (sketch-there (u .sketch) 0 zero-at metaPage meta-full (bucketAt s o) old-at
+                  (λ q. block-pos o (sym q)))
                   ∙ shaped-sealed front (u .old) ∙ sym (begin-old x l v)),
               tt,
             ),

@@ -49,7 +49,8 @@ module _ {s : List ℕ} {m : Meta} (r : Reads s m) where
     copy-step =
         step-copies x job first ∙ ap (λ (b : ℕ). orFull (put x b (movedEntry (e .pair)))) (sym (reads-max r))
 
-    pub copy-next : (y : Index) → put (decode s) (m .max) (movedEntry (e .pair)) ≡ some y → (WF y) × (count y ≡ m .count)
+    pub copy-next : (y : Index) → put (decode s) (m .max) (movedEntry (e .pair)) ≡ some y → (WF y)
+        × (count y ≡ m .count)
     copy-next y k = next-ok y (copy-step ∙ ap orFull k)
 
   -- ---- an entry e of the new bucket in the old chain

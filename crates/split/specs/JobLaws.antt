@@ -169,7 +169,8 @@ module _ {s : List ℕ} {m : Meta} (r : Reads s m) where
         here-new =
             read-other (blocks s) one length-one (bucketAt s old) (at-inside old old-under) (flagged s old 66)
             (flagged-full old old-under 66) (bucketAt s new) (at-inside new new-under) apart
-            ∙ read-same (blocks s) s (reads-sized r .whole) (bucketAt s new) (at-inside new new-under) (flagged s new 2)
+            ∙ read-same (blocks s) s (reads-sized r .whole) (bucketAt s new) (at-inside new new-under)
+            (flagged s new 2)
             (flagged-full new new-under 2)
 
   -- ---- the end of clearing

@@ -36,7 +36,8 @@ pub fn mark_bucket(
     flags: u16,
 ) -> Change
     requires { ⌜ (Reads (now store) m) × (b ≤ m .max) ⌝ }
-    requires { ⌜ ((d : List ℕ) × Ready (now store) change (now images) d (bucketBlock (decode (now store) .spares) b)) ⌝ }
+    requires { ⌜ ((d : List ℕ) × Ready (now store) change (now images) d
+        (bucketBlock (decode (now store) .spares) b)) ⌝ }
     ensures { λ r. ⌜ Edited (now (store .entry)) change (now (images .entry))
         (bucketBlock (decode (now (store .entry)) .spares) b) (λ l. sets l 504 (le16 flags)) r (now (images .exit)) ⌝ }
 {
@@ -48,7 +49,8 @@ pub fn mark_bucket(
 pub fn plan_copied(store: &[u8], m: Meta, images: &mut [u8]) -> Change
     requires { ⌜ (Reads (now store) m) × (length (now images) ≡ 4096) ⌝ }
     requires { ⌜ (decode (now store) .job ≡ copying)
-        × (find (toCopy (decode (now store))) (entriesAt (decode (now store)) (oldBucket (decode (now store)))) ≡ none) ⌝ }
+        × (find (toCopy (decode (now store))) (entriesAt (decode (now store)) (oldBucket (decode (now store))))
+        ≡ none) ⌝ }
     ensures { λ r. ⌜ Plans (now (store .entry)) r (now (images .exit))
         (setJob (decode (now (store .entry))) clearing) ⌝ }
 {
@@ -61,7 +63,8 @@ pub fn plan_copied(store: &[u8], m: Meta, images: &mut [u8]) -> Change
 pub fn plan_cleared(store: &[u8], m: Meta, images: &mut [u8]) -> Change
     requires { ⌜ (Reads (now store) m) × (length (now images) ≡ 4096) ⌝ }
     requires { ⌜ (decode (now store) .job ≡ clearing)
-        × (find (moves (decode (now store))) (entriesAt (decode (now store)) (oldBucket (decode (now store)))) ≡ none) ⌝ }
+        × (find (moves (decode (now store))) (entriesAt (decode (now store)) (oldBucket (decode (now store))))
+        ≡ none) ⌝ }
     ensures { λ r. ⌜ Plans (now (store .entry)) r (now (images .exit)) (setJob (decode (now (store .entry))) idle) ⌝ }
 {
     let settled = mark_bucket(store, m, new_draft(), images, parent_of(m.max), BUCKET);

@@ -58,7 +58,8 @@ returns : tie.Need-returns
 returns c x y l e b n =
     let h = c .before in
     let p = h .before .before .before in
-    next-meta x l y b (p .before .before .args .m) e n _ (h .high-mask .result) (c .low-mask .result) (p .point-of .result)
+    next-meta x l y b (p .before .before .args .m) e n _ (h .high-mask .result) (c .low-mask .result)
+    (p .point-of .result)
     (field-next x l e) (h .high-mask .ensures) (c .low-mask .ensures) (p .point-of .ensures)
 
 pub begin-fields-spec : {M : Type 1} → statement M

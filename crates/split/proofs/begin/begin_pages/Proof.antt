@@ -11,7 +11,8 @@ use Rattle.plan.specs.Sketch.{Sketch}
 use Rattle.plan.specs.SketchLaws.{sketch-none, ready}
 use Rattle.split.specs.Job.{bucketAt}
 use Rattle.split.specs.Begin.{nextBucket, parentBucket, madeDraft, linkedDraft}
-use Rattle.split.specs.BegunLaws.{new-read, new-block, new-fits, new-at, old-under, old-at, begun-made, begun-linked, begun-last}
+use Rattle.split.specs.BegunLaws.{new-read, new-block, new-fits, new-at, old-under, old-at, begun-made}
+use Rattle.split.specs.BegunLaws.{begun-linked, begun-last}
 use Rattle.split.proofs.begin.begin_pages.Statement.{statement}
 use Rattle.split.proofs.begin.begin_pages.Tie as tie
 
@@ -22,7 +23,8 @@ parent-of-requires : tie.Need-parent-of-requires
 parent-of-requires c κs = search needs
 
 -- the old bucket, and the two blocks
-is-old : (c : tie.After-parent-of) → c .parent-of .result ≡ parentBucket (c .before .before .before .before .before .args .store .now)
+is-old : (c : tie.After-parent-of)
+    → let s = c .before .before .before .before .before .args .store .now in c .parent-of .result ≡ parentBucket s
 is-old c =
     let s = c .before .before .before .before .before in
     c .parent-of .ensures ∙ ap splitFrom (new-read (s .pre .0 .0) (s .pre .1 .0) (s .pre .1 .1))
@@ -40,17 +42,22 @@ bucket-block-requires c κs =
 bucket-block-requires-2 : tie.Need-bucket-block-requires-2
 bucket-block-requires-2 c κs =
     let p = c .before in
-    let s = p .before .before .before .before .before in
-    (bucket-low (s .pre .0 .0) (p .parent-of .result) (old p), block-small (s .pre .0 .0) (p .parent-of .result) (old p))
+    let s = p .before .before .before .before .before in (
+      bucket-low (s .pre .0 .0) (p .parent-of .result) (old p),
+      block-small (s .pre .0 .0) (p .parent-of .result)
+          (old p),
+    )
 
 to-is : (c : tie.After-bucket-block)
-    → let s = c .before .before .before .before .before .before .args .store .now in c .bucket-block .result ≡ bucketAt s (nextBucket s)
+    → let s = c .before .before .before .before .before .before .args .store .now in c .bucket-block .result
+    ≡ bucketAt s (nextBucket s)
 to-is c =
     let s = c .before .before .before .before .before .before in
     c .bucket-block .ensures ∙ new-block (s .pre .0 .0) (s .pre .1 .0) (s .pre .1 .1)
 
 from-is : (c : tie.After-bucket-block2)
-    → let s = c .before .before .before .before .before .before .before .args .store .now in c .bucket-block2 .result ≡ bucketAt s (parentBucket s)
+    → let s = c .before .before .before .before .before .before .before .args .store .now in c .bucket-block2 .result
+    ≡ bucketAt s (parentBucket s)
 unfolding decode
 from-is c =
     let p = c .before .before in
@@ -68,7 +75,8 @@ sketch-0 : (c : tie.After-write-empty-arg)
 sketch-0 c =
     let s = c .before .before .before .before .before .before .before .before .before in
     let n = c .before .new-draft .ensures in
-    sketch-none (n .1 (s .args .store .now) (s .args .images .now) (reads-sized (s .pre .0 .0) .whole) (s .pre .0 .1)) (n .0)
+    sketch-none (n .1 (s .args .store .now) (s .args .images .now) (reads-sized (s .pre .0 .0) .whole) (s .pre .0 .1))
+    (n .0)
 
 write-empty-requires : tie.Need-write-empty-requires
 write-empty-requires c κs =
@@ -94,18 +102,23 @@ put-prev-requires c κs =
     let s = b .before .before .before .before .before .before .before in
     let inside : b .bucket-block2 .result < blocks (s .args .store .now) =
     subst (λ (k : ℕ). k < blocks (s .args .store .now)) (sym (from-is b))
-    (old-at (s .pre .0 .0) (s .pre .1 .0) (s .pre .1 .1)) in
-    (madeDraft (s .args .store .now), ready (sketch-1 (c .before .before .before)) (b .bucket-block2 .result) inside (omega arith))
+    (old-at (s .pre .0 .0) (s .pre .1 .0) (s .pre .1 .1)) in (
+      madeDraft (s .args .store .now),
+      ready (sketch-1 (c .before .before .before)) (b .bucket-block2 .result) inside
+          (omega arith),
+    )
 
 sketch-2 : (c : tie.After-put-prev)
-    → let s = c .before .before .before .before .before .before .before .before .before .before .before .before .before .before .args .store .now in
+    → let b = c .before .before .before .before .before .before .before in
+    let s = b .before .before .before .before .before .before .before .args .store .now in
     Sketch s (c .put-prev .result) (c .put-prev .last .1 .1 .0) (linkedDraft s) 2
     (bucketAt s (parentBucket s) ∷ bucketAt s (nextBucket s) ∷ [])
 sketch-2 c =
     let b = c .before .before .before .before .before .before .before in
     let s = b .before .before .before .before .before .before .before in
     begun-linked (s .pre .0 .0) (s .pre .1 .0) (s .pre .1 .1) (b .bucket-block2 .result) _ (from-is b)
-    (new-read (s .pre .0 .0) (s .pre .1 .0) (s .pre .1 .1)) (sketch-1 (c .before .before .before .before)) (c .put-prev .ensures)
+    (new-read (s .pre .0 .0) (s .pre .1 .0) (s .pre .1 .1)) (sketch-1 (c .before .before .before .before))
+    (c .put-prev .ensures)
 
 mark-bucket-requires : tie.Need-mark-bucket-requires
 mark-bucket-requires c κs =
@@ -114,8 +127,10 @@ mark-bucket-requires c κs =
     let k : ℕ = bucketAt (s .args .store .now) (p .parent-of .result) in
     let inside : k < blocks (s .args .store .now) =
     subst (λ (o : ℕ). bucketAt (s .args .store .now) o < blocks (s .args .store .now)) (sym (is-old p))
-    (old-at (s .pre .0 .0) (s .pre .1 .0) (s .pre .1 .1)) in
-    ((s .pre .0 .0, old p), (linkedDraft (s .args .store .now), ready (sketch-2 (c .before .before .before)) k inside (omega arith)))
+    (old-at (s .pre .0 .0) (s .pre .1 .0) (s .pre .1 .1)) in (
+      (s .pre .0 .0, old p),
+      (linkedDraft (s .args .store .now), ready (sketch-2 (c .before .before .before)) k inside (omega arith)),
+    )
 
 same-length : tie.Need-same-length
 same-length c = search needs
@@ -124,10 +139,11 @@ returns : tie.Need-returns
 returns c =
     let b = c .before .before in
     let v = b .before .before .before .before in
-    let p = b .before .before .before .before .before .before .before .before .before .before .before .before .before in
+    let p = v .before .before .before .before .before .before .before .before .before in
     let s = p .before .before .before .before .before in
     begun-last (s .pre .0 .0) (s .pre .1 .0) (s .pre .1 .1) (bucketAt (s .args .store .now) (p .parent-of .result))
-    (ap (bucketAt (s .args .store .now)) (is-old p)) (sketch-1 (v .before .before .before .before)) (sketch-2 v) (b .mark-bucket .ensures)
+    (ap (bucketAt (s .args .store .now)) (is-old p)) (sketch-1 (v .before .before .before .before)) (sketch-2 v)
+    (b .mark-bucket .ensures)
 
 pub begin-pages-spec : {M : Type 1} → statement M
 begin-pages-spec =

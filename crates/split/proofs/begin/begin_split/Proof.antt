@@ -25,7 +25,8 @@ begin-fields-requires c κs =
     (decode (s .args .store .now), reads-laid (s .pre .0 .0), reads-meta (s .pre .0 .0))
 
 -- the fields are the next index's
-fields : (c : tie.After-begin-fields) (y : Index) → begin (decode (c .before .before .before .before .before .before .before .before .args .store .now)) ≡ some y
+fields : (c : tie.After-begin-fields) (y : Index)
+    → begin (decode (c .before .before .before .before .before .before .before .before .args .store .now)) ≡ some y
     → c .begin-fields .result ≡ metaOf y
 fields c y b =
     let s = c .before .before .before .before .before .before .before .before in
@@ -47,7 +48,8 @@ drop-unchanged-requires c κs =
     let g = f .before .before .before .before in
     let s = g .before .before .before .before in
     let k =
-    fields-sketch (s .pre .0 .0) (s .pre .1 .1 .0) (s .pre .1 .1 .1) (g .begin-pages .ensures) (f .begin-fields .result)
+    fields-sketch (s .pre .0 .0) (s .pre .1 .1 .0) (s .pre .1 .1 .1) (g .begin-pages .ensures)
+    (f .begin-fields .result)
     (fields f (s .pre .1 .1 .0) (s .pre .1 .1 .1)) (p .put-fields .ensures) .draft in
     (k .fits, k .eight)
 

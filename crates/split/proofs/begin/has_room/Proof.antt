@@ -11,7 +11,8 @@ use Rattle.model.specs.WellFormed.{Laid}
 use Rattle.image.specs.Layout.{metaOf}
 use Rattle.image.specs.BoundLaws.{max-small, top-small}
 use Rattle.model.specs.BoundLaws.{laid-point}
-use Rattle.split.specs.BeginLaws.{point-small, buckets-small, begin-room, field-next, field-point, field-top, field-size}
+use Rattle.split.specs.BeginLaws.{point-small, buckets-small, begin-room, field-next, field-point, field-top}
+use Rattle.split.specs.BeginLaws.{field-size}
 use Rattle.split.proofs.begin.has_room.Statement.{statement}
 use Rattle.split.proofs.begin.has_room.Tie as tie
 

@@ -19,7 +19,8 @@ has-room-requires c κs =
     (decode (s .args .store .now), reads-laid (s .pre .0 .0), reads-meta (s .pre .0 .0))
 
 -- the test
-room : (c : tie.After-has-room) → c .has-room .result ≡ isSome (begin (decode (c .before .before .before .args .store .now)))
+room : (c : tie.After-has-room)
+    → c .has-room .result ≡ isSome (begin (decode (c .before .before .before .args .store .now)))
 room c =
     let s = c .before .before .before in
     c .has-room .ensures (decode (s .args .store .now)) (reads-laid (s .pre .0 .0)) (reads-meta (s .pre .0 .0))
@@ -31,8 +32,10 @@ returns : tie.Need-returns
 returns c =
     let h = c .before .before in
     let s = h .before .before .before in
-    let n = none-is (begin (decode (s .args .store .now))) (sym (room h) ∙ not-true (h .has-room .result) (c .before .if1 .taken)) in
-    subst (λ (o : Option Index). Places (s .args .store .now) (c .new-draft .result) (s .args .images .now) o false) (sym n)
+    let n = none-is (begin (decode (s .args .store .now)))
+    (sym (room h) ∙ not-true (h .has-room .result) (c .before .if1 .taken)) in
+    subst (λ (o : Option Index). Places (s .args .store .now) (c .new-draft .result) (s .args .images .now) o false)
+    (sym n)
     (full (c .new-draft .ensures .0))
 
 -- the index that the begin leads to
@@ -40,10 +43,14 @@ begins : (c : tie.Else1)
     → (y : Index) × (begin (decode (c .before .before .before .before .args .store .now)) ≡ some y)
 begins c =
     let h = c .before in
-    some-is (begin (decode (h .before .before .before .args .store .now))) (sym (room h) ∙ not-false (h .has-room .result) (c .if1 .left))
+    some-is (begin (decode (h .before .before .before .args .store .now)))
+    (sym (room h) ∙ not-false (h .has-room .result) (c .if1 .left))
 
 begin-split-requires : tie.Need-begin-split-requires
-begin-split-requires c κs = (c .before .before .before .before .before .pre .0, (c .before .before .before .before .before .pre .1, begins (c .before)))
+begin-split-requires c κs = (
+  c .before .before .before .before .before .pre .0,
+  (c .before .before .before .before .before .pre .1, begins (c .before)),
+)
 
 same-length : tie.Need-same-length
 same-length c = search needs
@@ -54,7 +61,8 @@ returns-2 c =
     let e = g .before .before in
     let s = e .before .before .before .before in
     let w = begins e in
-    subst (λ (o : Option Index). Places (s .args .store .now) (g .begin-split .result) (g .begin-split .last .1 .1 .0) o true)
+    subst (λ (o : Option Index). Places (s .args .store .now) (g .begin-split .result)
+    (g .begin-split .last .1 .1 .0) o true)
     (sym (w .1)) (placed (g .begin-split .ensures (w .0) (w .1)))
 
 pub plan-begin-spec : {M : Type 1} → statement M

@@ -17,7 +17,8 @@ bucket-block-requires c κs =
     (bucket-low (s .pre .0 .0) (s .args .b) (s .pre .0 .1), block-small (s .pre .0 .0) (s .args .b) (s .pre .0 .1))
 
 block-is : (c : tie.After-bucket-block)
-    → let a = c .before .before .before .before .before .args in c .bucket-block .result ≡ bucketAt (a .store .now) (a .b)
+    → let a = c .before .before .before .before .before .args in
+    c .bucket-block .result ≡ bucketAt (a .store .now) (a .b)
 unfolding decode
 block-is c =
     let s = c .before .before .before .before .before in

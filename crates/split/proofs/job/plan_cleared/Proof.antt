@@ -29,14 +29,19 @@ sketch-0 : (c : tie.After-parent-of)
 sketch-0 c =
     let s = c .before .before .before .before .before in
     let n = c .before .before .new-draft .ensures in
-    sketch-none (n .1 (s .args .store .now) (s .args .images .now) (reads-sized (s .pre .0 .0) .whole) (s .pre .0 .1)) (n .0)
+    sketch-none (n .1 (s .args .store .now) (s .args .images .now) (reads-sized (s .pre .0 .0) .whole) (s .pre .0 .1))
+    (n .0)
 
 mark-bucket-requires : tie.Need-mark-bucket-requires
 mark-bucket-requires c κs =
     let s = c .before .before .before .before .before in
     let k : ℕ = bucketAt (s .args .store .now) (c .parent-of .result) in (
       (s .pre .0 .0, old c),
-      (s .args .store .now, ready (sketch-0 c) k (at-inside (s .pre .0 .0) (c .parent-of .result) (old c)) (omega arith)),
+      (
+        s .args .store .now,
+        ready (sketch-0 c) k (at-inside (s .pre .0 .0) (c .parent-of .result) (old c))
+            (omega arith),
+      ),
     )
 
 sketch-1 : (c : tie.After-mark-bucket)

@@ -26,14 +26,19 @@ sketch-0 : (c : tie.After-mark-bucket-arg)
 sketch-0 c =
     let s = c .before .before .before .before in
     let n = c .before .new-draft .ensures in
-    sketch-none (n .1 (s .args .store .now) (s .args .images .now) (reads-sized (s .pre .0 .0) .whole) (s .pre .0 .1)) (n .0)
+    sketch-none (n .1 (s .args .store .now) (s .args .images .now) (reads-sized (s .pre .0 .0) .whole) (s .pre .0 .1))
+    (n .0)
 
 mark-bucket-requires : tie.Need-mark-bucket-requires
 mark-bucket-requires c κs =
     let s = c .before .before .before .before in
     let k : ℕ = bucketAt (s .args .store .now) (s .args .m .max) in (
       (s .pre .0 .0, omega arith),
-      (s .args .store .now, ready (sketch-0 c) k (at-inside (s .pre .0 .0) (s .args .m .max) (omega arith)) (omega arith)),
+      (
+        s .args .store .now,
+        ready (sketch-0 c) k (at-inside (s .pre .0 .0) (s .args .m .max) (omega arith))
+            (omega arith),
+      ),
     )
 
 sketch-1 : (c : tie.After-mark-bucket)

@@ -38,7 +38,8 @@ loop-holds : tie.Need-loop-holds Inv-loop μ-loop
 loop-holds c = refl
 
 number : (c : tie.After-count-entries Inv-loop μ-loop)
-    → let s = c .before .before .before in c .count-entries .result ≡ u16At (block (s .args .store .now) (s .args .k)) 0
+    → let s = c .before .before .before in
+    c .count-entries .result ≡ u16At (block (s .args .store .now) (s .args .k)) 0
 number c = c .count-entries .ensures ∙ ap (λ (l : List ℕ). u16At l 0) (c .before .block-at .ensures)
 
 inside : (c : tie.In-loop Inv-loop μ-loop)
@@ -62,12 +63,14 @@ entry : (c : tie.After-get-entry Inv-loop μ-loop)
     → let l = c .before .before in
     let s = l .before .before .before .before in
     c .get-entry .result ≡ entryAt (block (s .args .store .now) (s .args .k)) (l .loop .i)
-entry c = c .get-entry .ensures ∙ ap (λ (p : List ℕ). entryAt p (c .before .before .loop .i)) (c .before .before .before .before .block-at .ensures)
+entry c = c .get-entry .ensures ∙ ap (λ (p : List ℕ). entryAt p (c .before .before .loop .i))
+    (c .before .before .before .before .block-at .ensures)
 
 tested : (c : tie.After-is-movable Inv-loop μ-loop)
     → let l = c .before .before .before in
     let a = l .before .before .before .before .args in
-    c .is-movable .result ≡ movable (a .copying) (decode (a .store .now)) (entryAt (block (a .store .now) (a .k)) (l .loop .i))
+    c .is-movable .result ≡ movable (a .copying) (decode (a .store .now))
+    (entryAt (block (a .store .now) (a .k)) (l .loop .i))
 tested c =
     let a = c .before .before .before .before .before .before .before .args in
     c .is-movable .ensures ∙ ap (movable (a .copying) (decode (a .store .now))) (entry (c .before))

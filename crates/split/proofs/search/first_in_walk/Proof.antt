@@ -52,7 +52,8 @@ returns c =
     sym
     (l .loop .inv
     ∙ walk-here (s .pre .1) (movable (s .args .copying) (decode (s .args .store .now))) (l .loop .i)
-    (f .before .loop-test .taken) (f .first-in-page .result) (f .first-in-page .ensures) _ (c .before .found .given .1))
+    (f .before .loop-test .taken) (f .first-in-page .result) (f .first-in-page .ensures) _
+    (c .before .found .given .1))
 
 enum-told : tie.Need-enum-told Inv-loop μ-loop
 enum-told c = search needs

@@ -17,7 +17,8 @@ returns : tie.Need-returns
 returns c =
     let b = c .before in
     let s = b .before .before .before in
-    movable-other (s .pre) (s .args .e) (b .bucket-of .result) (b .bucket-of .ensures) (s .args .copying) (c .if1 .taken)
+    movable-other (s .pre) (s .args .e) (b .bucket-of .result) (b .bucket-of .ensures) (s .args .copying)
+    (c .if1 .taken)
 
 returns-2 : tie.Need-returns-2
 returns-2 c =

@@ -28,7 +28,8 @@ left : (c : tie.After-enum-told)
     find (toCopy x) (entriesAt x (oldBucket x)) ≡ none
 left c =
     let x = decode (c .before .before .before .before .before .args .store .now) in
-    mover-none (find (toCopy x) (entriesAt x (oldBucket x))) (sym (c .enum-told .given .1) ∙ c .before .before .first-mover .ensures)
+    mover-none (find (toCopy x) (entriesAt x (oldBucket x)))
+    (sym (c .enum-told .given .1) ∙ c .before .before .first-mover .ensures)
 
 plan-copied-requires : tie.Need-plan-copied-requires
 plan-copied-requires c κs =

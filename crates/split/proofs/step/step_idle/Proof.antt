@@ -16,7 +16,8 @@ is-wanted-requires c κs =
     (decode (s .args .store .now), reads-laid (s .pre .0 .0), reads-meta (s .pre .0 .0))
 
 -- the test
-tested : (c : tie.After-is-wanted) → c .is-wanted .result ≡ wanted (decode (c .before .before .before .args .store .now))
+tested : (c : tie.After-is-wanted)
+    → c .is-wanted .result ≡ wanted (decode (c .before .before .before .args .store .now))
 tested c =
     let s = c .before .before .before in
     c .is-wanted .ensures (decode (s .args .store .now)) (reads-laid (s .pre .0 .0)) (reads-meta (s .pre .0 .0))
