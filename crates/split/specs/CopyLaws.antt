@@ -1,8 +1,8 @@
 -- An entry that is copied, and one that is cleared: what their planners ask, and the steps that they make.
-use mathlib.Core.Path.{_≡_, sym, ap, _∙_}
-use mathlib.Core.Bool.{true, false}
+use mathlib.Core.Path.{_≡_, refl, sym, ap, _∙_}
+use mathlib.Core.Bool.{Bool, true, false}
 use mathlib.Core.List.{List}
-use mathlib.Core.Option.{Option, some}
+use mathlib.Core.Option.{some}
 use Prim.Native.Nat.{ℕ}
 use native.Mathlib.Omega.{arith}
 use Rattle.lists.specs.Lists.{any, find}
@@ -20,11 +20,8 @@ use Rattle.model.specs.StepLaws.{step-wf}
 use Rattle.image.specs.declared.Meta.{Meta}
 use Rattle.image.specs.Decode.{decode}
 use Rattle.image.specs.FrameMeta.{step-count}
-use Rattle.chain.specs.declared.Found.{Found}
 use Rattle.view.specs.Reads.{Reads}
 use Rattle.view.specs.ReadsLaws.{reads-max, reads-count}
-use Rattle.view.specs.Places.{findAt}
-use Rattle.view.specs.HeldLaws.{findAt-none}
 use Rattle.split.specs.StepLaws.{step-copies, step-clears}
 
 module _ {s : List ℕ} {m : Meta} (r : Reads s m) where
@@ -56,16 +53,19 @@ module _ {s : List ℕ} {m : Meta} (r : Reads s m) where
   -- ---- an entry e of the new bucket in the old chain
 
   module _ (job : decode s .job ≡ clearing) (e : Entry)
-      (first : find (moves (decode s)) (entriesAt (decode s) (oldBucket (decode s))) ≡ some e)
-      (old : ℕ) (is-old : old ≡ oldBucket (decode s)) where
-    pub clear-step : step (decode s) ≡ next (cut (e .pair) old (decode s))
-    clear-step = step-clears x job first ∙ ap (λ (b : ℕ). next (cut (e .pair) b x)) (sym is-old)
+      (first : find (moves (decode s)) (entriesAt (decode s) (oldBucket (decode s))) ≡ some e) where
+    pub clear-stands : any (is (e .pair)) (entriesAt (decode s) (oldBucket (decode s))) ≡ true
+    clear-stands = go (any (is (e .pair)) (entriesAt x (oldBucket x))) refl
+      where
+        go : (b : Bool) → any (is (e .pair)) (entriesAt x (oldBucket x)) ≡ b → b ≡ true
+        go true q = refl
+        go false q =
+            absurd (omega (
+              arith,
+              found-stands x (moves x) (oldBucket x) e first,
+              stands-none x (e .pair) (oldBucket x) q,
+            ))
 
-    pub clear-next : (WF (cut (e .pair) old (decode s))) × (count (cut (e .pair) old (decode s)) ≡ m .count)
-    clear-next = next-ok (cut (e .pair) old x) clear-step
-
-    pub clear-found : findAt (decode s) old (e .pair) ≡ Found.Nothing → ⊥
-    clear-found q =
-        let none =
-        findAt-none x (oldBucket x) (e .pair) (ap (λ (b : ℕ). findAt x b (e .pair)) (sym is-old) ∙ q) in
-        omega (arith, found-stands x (moves x) (oldBucket x) e first, stands-none x (e .pair) (oldBucket x) none)
+    pub clear-next : (WF (cut (e .pair) (oldBucket (decode s)) (decode s)))
+        × (count (cut (e .pair) (oldBucket (decode s)) (decode s)) ≡ m .count)
+    clear-next = next-ok (cut (e .pair) (oldBucket x) x) (step-clears x job first)
