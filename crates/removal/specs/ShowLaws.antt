@@ -201,32 +201,32 @@ module _ {s : List ℕ} {m : Meta} {c : Change} {images : List ℕ} {n b : ℕ} 
 
   module _ (e : Bool) (frees : freesAt x b p ≡ e) (d′ : List ℕ)
       (rest : (j : ℕ) → j < blocks s → Apart j (pairBlocks e x b (chain x b) p) → block d′ j ≡ block (f .sketches .d) j)
-      where
-    no-map : (e : Bool) (j : ℕ) → j ≢ mapBlock x → Apart j (mapBlocks e x)
-    no-map true j ne = (ne, tt)
-    no-map false j ne = tt
+    where
+      no-map : (e : Bool) (j : ℕ) → j ≢ mapBlock x → Apart j (mapBlocks e x)
+      no-map true j ne = (ne, tt)
+      no-map false j ne = tt
 
-    framed : (j : ℕ) → j ≢ 0 → j ≢ mapBlock x → Apart j (pairBlocks e x b (chain x b) p)
-        → encodeBlock (cut p b x) j ≡ encodeBlock x j
-    framed j nz nm a =
-        frame-cut x (f .like .laid) b bucket-fits p (f .once) j
-        (subst (λ (e : Bool). Apart j (0 ∷ mapBlocks e x ++ pairBlocks e x b (chain x b) p)) (sym frees)
-        (nz, each-append (λ (i : ℕ). j ≢ i) (mapBlocks e x) _ (no-map e j nm) a))
+      framed : (j : ℕ) → j ≢ 0 → j ≢ mapBlock x → Apart j (pairBlocks e x b (chain x b) p)
+          → encodeBlock (cut p b x) j ≡ encodeBlock x j
+      framed j nz nm a =
+          frame-cut x (f .like .laid) b bucket-fits p (f .once) j
+          (subst (λ (e : Bool). Apart j (0 ∷ mapBlocks e x ++ pairBlocks e x b (chain x b) p)) (sym frees)
+          (nz, each-append (λ (i : ℕ). j ≢ i) (mapBlocks e x) _ (no-map e j nm) a))
 
-    pub shows-cut : Each (λ (j : ℕ). j < blocks s → sealed (block d′ j) ≡ encodeBlock (cut p b x) j)
-        (pairBlocks e x b (chain x b) p)
-        → Apart 0 (pairBlocks e x b (chain x b) p) → Apart (mapBlock x) (pairBlocks e x b (chain x b) p)
-        → Shows s d′ (cut p b x)
-    unfolding cut
-    shows-cut shown am ab =
-        record {
-          pages =
-              λ j l nz nm.
-              let u : j < blocks s = omega (arith, size-is) in
-              ⊎-elim (λ q. q u)
-              (λ a. ap sealed (rest j u a) ∙ f .sketches .shows .pages j l nz nm ∙ sym (framed j nz nm a))
-              (in-or-apart (λ (j : ℕ). j < blocks s → sealed (block d′ j) ≡ encodeBlock (cut p b x) j) j
-              (pairBlocks e x b (chain x b) p) shown);
-          meta = rest 0 (omega (arith, map-within)) am ∙ f .sketches .shows .meta;
-          map = rest (mapBlock x) map-within ab ∙ f .sketches .shows .map;
-        }
+      pub shows-cut : Each (λ (j : ℕ). j < blocks s → sealed (block d′ j) ≡ encodeBlock (cut p b x) j)
+          (pairBlocks e x b (chain x b) p)
+          → Apart 0 (pairBlocks e x b (chain x b) p) → Apart (mapBlock x) (pairBlocks e x b (chain x b) p)
+          → Shows s d′ (cut p b x)
+      unfolding cut
+      shows-cut shown am ab =
+          record {
+            pages =
+                λ j l nz nm.
+                let u : j < blocks s = omega (arith, size-is) in
+                ⊎-elim (λ q. q u)
+                (λ a. ap sealed (rest j u a) ∙ f .sketches .shows .pages j l nz nm ∙ sym (framed j nz nm a))
+                (in-or-apart (λ (j : ℕ). j < blocks s → sealed (block d′ j) ≡ encodeBlock (cut p b x) j) j
+                (pairBlocks e x b (chain x b) p) shown);
+            meta = rest 0 (omega (arith, map-within)) am ∙ f .sketches .shows .meta;
+            map = rest (mapBlock x) map-within ab ∙ f .sketches .shows .map;
+          }

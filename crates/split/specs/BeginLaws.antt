@@ -1,16 +1,16 @@
 -- The begin of a split: its room, the fields of its meta block, and where its pages stand.
-use mathlib.Core.Path.{_≡_, refl, sym, ap, ap₂, _∙_, subst, fun-ext}
+use mathlib.Core.Path.{_≡_, refl, sym, ap, ap₂, _∙_, fun-ext}
 use mathlib.Core.Logic.{_≢_}
 use mathlib.Core.Bool.{Bool, true, false, not}
 use mathlib.Core.List.{List, [], _∷_, _++_, append-assoc}
-use mathlib.Core.Option.{Option, none, some, Option·getD}
-use Prim.Native.Nat.{ℕ, zero, suc, pred, _+_, _-_, _≤_, _<_}
+use mathlib.Core.Option.{Option, some, Option·getD}
+use Prim.Native.Nat.{ℕ, suc, pred, _+_, _-_, _≤_, _<_}
 use native.Mathlib.Decide.{decLe}
 use native.Mathlib.Numerals.{add-one}
 use native.Mathlib.Omega.{arith}
 use borrow.Author.Tests.{le-leb, lt-leb}
 use lib.Dec.{eqb, leb, ltb}
-use lib.ListN.{length, getD, set, replicate, length-append, length-replicate, List·getD-append}
+use lib.ListN.{length, getD, set, replicate, length-append, List·getD-append}
 use lib.Seq.{set-at, set-getD}
 use Rattle.lists.specs.Lists.{any, find, upFrom}
 use Rattle.lists.specs.ListsLaws.{tally-bind}
@@ -27,7 +27,6 @@ use Rattle.model.specs.Steps.{widen, begin}
 use Rattle.model.specs.WellFormed.{Laid}
 use Rattle.model.specs.Views.{Beginning, noGroup, inGroup, newGroup, begin-view}
 use Rattle.model.specs.TallyLaws.{any-more}
-use Rattle.model.specs.BoundLaws.{laid-point, laid-room}
 use Rattle.model.specs.LaidLaws.{begin-laid}
 use Rattle.image.specs.declared.Meta.{Meta}
 use Rattle.image.specs.Layout.{padded, metaOf}

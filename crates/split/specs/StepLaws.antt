@@ -2,21 +2,21 @@
 use mathlib.Core.Path.{_≡_, refl, sym, ap, _∙_, subst}
 use mathlib.Core.Bool.{Bool, true, false}
 use mathlib.Core.List.{List}
-use mathlib.Core.Option.{Option, none, some}
+use mathlib.Core.Option.{Option}
 use Prim.Native.Nat.{ℕ}
-use Rattle.lists.specs.Lists.{any, find}
+use Rattle.lists.specs.Lists.{find}
 use Rattle.page.specs.declared.Entry.{Entry}
 use Rattle.store.specs.declared.Change.{Change}
 use Rattle.model.specs.declared.Stop.{Stop}
 use Rattle.model.specs.declared.Phase.{Phase}
-use Rattle.model.specs.Index.{Job, idle, copying, clearing, Index, entriesAt, oldBucket}
+use Rattle.model.specs.Index.{Job, idle, copying, clearing, Index, entriesAt, newBucket, oldBucket}
 use Rattle.model.specs.Held.{wanted}
 use Rattle.model.specs.Steps.{Step, stopped, orFull, begin, moves, toCopy, copyIn, clearIn, stepIn, step}
 use Rattle.model.specs.Calls.{phaseIn}
-use Rattle.model.specs.MachineLaws.{never}
+use Rattle.view.specs.Reads.{phaseOf}
 use Rattle.plan.specs.declared.Advance.{Advance}
 use Rattle.plan.specs.Plan.{Advances, advanced, halted, Places, placed, full}
-use Rattle.split.specs.Step.{advanceOf}
+use Rattle.split.specs.Step.{jobIn, advanceOf}
 
 -- ---- the step of an index
 
@@ -39,32 +39,14 @@ module _ (x : Index) where
   unfolding step
   step-clears j e = ap (λ (k : Job). stepIn k (wanted x) x) j ∙ ap (λ (g : Option Entry). clearIn g x) e
 
--- ---- the job, by its phase
-
-module _ (j : Job) {old new : ℕ} where
-  pub phase-idle : Phase.None ≡ phaseIn j old new → j ≡ idle
-  phase-idle e = go j e
-    where
-      go : (k : Job) → Phase.None ≡ phaseIn k old new → k ≡ idle
-      go idle e = refl
-      go copying e = never (cc)
-      go clearing e = never (cc)
-
-  pub phase-copying : {o n : ℕ} → Phase.Copying o n ≡ phaseIn j old new → j ≡ copying
-  phase-copying {o} {n} e = go j e
-    where
-      go : (k : Job) → Phase.Copying o n ≡ phaseIn k old new → k ≡ copying
-      go idle e = never (cc)
-      go copying e = refl
-      go clearing e = never (cc)
-
-  pub phase-clearing : {o n : ℕ} → Phase.Clearing o n ≡ phaseIn j old new → j ≡ clearing
-  phase-clearing {o} {n} e = go j e
-    where
-      go : (k : Job) → Phase.Clearing o n ≡ phaseIn k old new → k ≡ clearing
-      go idle e = never (cc)
-      go copying e = never (cc)
-      go clearing e = refl
+-- the job, by the phase that is read
+pub job-at : (x : Index) (p : Phase) → p ≡ phaseOf x → x .job ≡ jobIn p
+job-at x p e = sym (ap jobIn e ∙ go (x .job))
+  where
+    go : (j : Job) → jobIn (phaseIn j (oldBucket x) (newBucket x)) ≡ j
+    go idle = refl
+    go copying = refl
+    go clearing = refl
 
 -- ---- its plan
 

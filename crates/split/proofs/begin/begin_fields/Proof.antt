@@ -1,12 +1,8 @@
-use mathlib.Core.Path.{_≡_, ap, _∙_}
-use Prim.Native.Nat.{suc}
+use mathlib.Core.Path.{ap}
 use native.Mathlib.Omega.{arith}
 use borrow.Author.Needs.{needs}
 use Rattle.address.specs.Address.{point}
-use Rattle.model.specs.Index.{Index}
 use Rattle.model.specs.BoundLaws.{laid-point}
-use Rattle.model.specs.WellFormed.{Laid}
-use Rattle.image.specs.Layout.{metaOf}
 use Rattle.image.specs.BoundLaws.{max-small}
 use Rattle.split.specs.BeginLaws.{point-small, field-next, field-point, next-meta}
 use Rattle.split.proofs.begin.begin_fields.Statement.{statement}

@@ -1,11 +1,10 @@
 use mathlib.Core.Path.{_≡_, sym, _∙_, subst}
-use mathlib.Core.List.{List}
 use Prim.Native.Nat.{ℕ}
 use borrow.Author.Needs.{needs}
 use lib.Seq.{sets}
 use Rattle.endian.specs.Endian.{le16}
 use Rattle.draft.specs.Draft.{Ready, Edited}
-use Rattle.image.specs.Decode.{blockOf, decode}
+use Rattle.image.specs.Decode.{decode}
 use Rattle.view.specs.ReadsLaws.{bucket-low, block-read, block-small}
 use Rattle.split.specs.Job.{bucketAt}
 use Rattle.split.proofs.job.mark_bucket.Statement.{statement}

@@ -1,12 +1,10 @@
 use mathlib.Core.Path.{_≡_, refl, sym, ap, _∙_}
-use mathlib.Core.Bool.{true, false}
 use mathlib.Core.List.{List}
-use Prim.Native.Nat.{ℕ, _+_, _*_, _-_, _≤_, _<_}
+use Prim.Native.Nat.{ℕ, _-_, _<_}
 use native.Mathlib.Omega.{arith}
-use borrow.Author.Needs.{needs}
 use lib.ListN.{length, drop}
 use Rattle.lists.specs.Lists.{find}
-use Rattle.lists.specs.Block.{blocks, block}
+use Rattle.lists.specs.Block.{block}
 use Rattle.endian.specs.Endian.{u16At}
 use Rattle.page.specs.Entries.{entryAt, entriesOf}
 use Rattle.page.specs.RuleLaws.{number-le}

@@ -1,7 +1,6 @@
 use mathlib.Core.Path.{_≡_, sym, ap, _∙_, subst}
 use mathlib.Core.Bool.{true, false}
 use Prim.Native.Nat.{ℕ, _≤_}
-use native.Mathlib.Omega.{arith}
 use borrow.Author.Needs.{needs}
 use Rattle.lists.specs.Lists.{any}
 use Rattle.address.specs.Address.{splitFrom}
@@ -21,7 +20,8 @@ use Rattle.split.proofs.step.clear_pair.Tie as tie
 parent-of-requires : tie.Need-parent-of-requires
 parent-of-requires c κs = search needs
 
-is-old : (c : tie.After-parent-of) → c .parent-of .result ≡ oldBucket (decode (c .before .before .before .args .store .now))
+is-old : (c : tie.After-parent-of) → c .parent-of .result ≡ oldBucket
+    (decode (c .before .before .before .args .store .now))
 is-old c = c .parent-of .ensures ∙ ap splitFrom (reads-max (c .before .before .before .pre .0 .0))
 
 old : (c : tie.After-parent-of) → c .parent-of .result ≤ c .before .before .before .args .m .max
@@ -61,10 +61,14 @@ plan-cut-requires c κs =
     let f = v .before .before in
     let p = f .before in
     let s = p .before .before .before in
-    let x : Index = decode (s .args .store .now) in
-    ((s .pre .0 .0, old p, s .pre .0 .1), (sym (f .find-in .ensures) ∙ v .found .given .1,
-    (subst (λ (b : ℕ). (WF (cut (s .args .pair) b x)) × (count (cut (s .args .pair) b x) ≡ s .args .m .count))
-    (sym (is-old p)) (s .pre .1 .1), ?)))
+    let x : Index = decode (s .args .store .now) in (
+      (s .pre .0 .0, old p, s .pre .0 .1),
+      (
+        sym (f .find-in .ensures) ∙ v .found .given .1,
+        subst (λ (b : ℕ). (WF (cut (s .args .pair) b x)) × (count (cut (s .args .pair) b x) ≡ s .args .m .count))
+            (sym (is-old p)) (s .pre .1 .1),
+      ),
+    )
 
 same-length : tie.Need-same-length
 same-length c = search needs
