@@ -1,15 +1,29 @@
 -- The bytes that standing writes, one number after the other.
-use mathlib.Core.Path.{_≡_, _∙_}
+use mathlib.Core.Path.{_≡_, refl, _∙_}
 use mathlib.Core.List.{List, _++_}
 use Prim.Native.Nat.{ℕ, _/_, _%_, _≤_}
-use lib.IntN.{ℤ}
-use lib.ListN.{length, drop}
+use lib.IntN.{ℤ, pos, negsuc}
+use lib.ListN.{length, drop, replicate}
 use lib.Seq.{sets, sets-eq}
+use mir.Syntax.{w64}
+use mir.Val.{ofZ}
 use Rattle.lists.specs.BytesLaws.{sets-append}
 use Rattle.endian.specs.Endian.{le32}
 use Rattle.model.specs.declared.Standing.{Standing}
-use Rattle.model.specs.Answers.{phaseNo, phaseOld, phaseNew}
+use Rattle.model.specs.declared.Refusal.{Refusal}
+use Rattle.model.specs.declared.StandingAnswer.{StandingAnswer}
+use Rattle.model.specs.Answers.{phaseNo, phaseOld, phaseNew, standingOf}
 use Rattle.capi.specs.Result.{twosComplement, slackBytes, standingBytes}
+
+-- the machine's bits of an i64
+pub twosComplement-bits : (z : ℤ) → twosComplement z ≡ ofZ w64 z
+twosComplement-bits (pos n) = refl
+twosComplement-bits (negsuc n) = refl
+
+-- "Whatever else its answer has room for is 0, phase none"
+pub refused-bytes : (r : Refusal) → standingBytes (standingOf (StandingAnswer.Refused r)) ≡ replicate 28 0
+unfolding standingBytes slackBytes le32
+refused-bytes r = refl
 
 -- the slack's two halves; l₁ and l₂ are the lists after each store
 pub slack-stores : (l : List ℕ) (z : ℤ) {n : ℕ} {l₁ l₂ : List ℕ} → n ≡ twosComplement z

@@ -4,7 +4,8 @@ use mathlib.Core.List.{List}
 use Prim.Native.Nat.{ℕ, _/_, _%_, _≤_, _<_}
 use native.Mathlib.Omega.{arith}
 use Rattle.model.specs.declared.Refusal.{Refusal}
-use Rattle.model.specs.declared.Refusal.the-variants.{Length, Number, Damaged, NotIndex, HeldAlready, NotHeld, NoRoom, OutputShort}
+use Rattle.model.specs.declared.Refusal.the-variants.{Length, Number, Damaged, NotIndex}
+use Rattle.model.specs.declared.Refusal.the-variants.{HeldAlready, NotHeld, NoRoom, OutputShort}
 use Rattle.model.specs.declared.Answer.{Answer}
 use Rattle.model.specs.declared.LookupAnswer.{LookupAnswer}
 use Rattle.model.specs.declared.Stop.{Stop}

@@ -1,4 +1,4 @@
-// The calls for C and Rust. Each answers one word (specs/Words.antt); include/amiqsovik.h says the same to a C programmer.
+// The calls for C and Rust. Each answers one word (specs/Words.antt). include/amiqsovik.h declares them for C.
 mod words; // words.rt: the word of each answer
 mod result; // result.rt: what standing writes
 

@@ -9,7 +9,8 @@ use model::WorkAnswer;
 ghost use mathlib.Core.Path.{_≡_};
 ghost use Prim.Native.Nat.{_≤_};
 ghost use Rattle.model.specs.Answers.{stopNo};
-ghost use Rattle.capi.specs.Words.{packed, refusalWord, answerWord, lookupWord, workWord, standingWord, verdictWord};
+ghost use Rattle.capi.specs.Words.{packed, refusalWord, answerWord, lookupWord};
+ghost use Rattle.capi.specs.Words.{workWord, standingWord, verdictWord};
 
 // The word of a call that gives no steps.
 pub fn pack(number: u32, gives: u32) -> u64

@@ -16,8 +16,10 @@ same-length c = search needs
 
 returns : tie.Need-returns
 returns c =
-    let f = c .before .before .before .lookup .ensures in
-    (c .lookup-word .ensures ∙ sym (ap (λ (x : Looked). lookupWord (x .answer)) f), sym (ap (λ (x : Looked). x .output) f))
+    let f = c .before .before .before .lookup .ensures in (
+      c .lookup-word .ensures ∙ sym (ap (λ (x : Looked). lookupWord (x .answer)) f),
+      sym (ap (λ (x : Looked). x .output) f),
+    )
 
 pub amiqsovik-lookup-spec : {M : Type 1} → statement M
 amiqsovik-lookup-spec =
