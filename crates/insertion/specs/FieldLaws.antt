@@ -1,5 +1,5 @@
--- The meta block's fields of a store that is read as an index: where its overflow bits stand, and the fields of an index
--- with another chain.
+-- The meta block's fields of a store that is read as an index: where its overflow bits stand, and the fields of an
+-- index with another chain.
 use mathlib.Core.Path.{_≡_, sym, ap, ap₂, _∙_}
 use mathlib.Core.List.{List, _++_}
 use Prim.Native.Nat.{ℕ, suc, _-_, _^_, _≤_, _<_}
@@ -85,7 +85,8 @@ module _ {s : List ℕ} {m : Meta} (r : Reads s m) where
 
   -- ---- another chain
 
-  pub fields-set : (sp : List ℕ) (b : ℕ) (c : Chain) (n free : ℕ) (spares : List ℕ) → count (setChain (decode s) sp b c) ≡ n
+  pub fields-set : (sp : List ℕ) (b : ℕ) (c : Chain) (n free : ℕ) (spares : List ℕ)
+      → count (setChain (decode s) sp b c) ≡ n
       → free ≡ firstFree (setChain (decode s) sp b c) → spares ≡ padded sp
       → fieldsOf m n free spares ≡ metaOf (setChain (decode s) sp b c)
   unfolding metaOf

@@ -41,7 +41,8 @@ unfolding putBit
 put-byte l map n e = rw (one-byte (n % 8) (omega arith), e)
 
 -- after bit n is put
-pub bits-put : (l : List ℕ) (bit : ℕ → ℕ) (n : ℕ) → n < 2048 → length l ≡ 512 → ((m : ℕ) → m < 2048 → bitOf l m ≡ bit m)
+pub bits-put : (l : List ℕ) (bit : ℕ → ℕ) (n : ℕ) → n < 2048 → length l ≡ 512
+    → ((m : ℕ) → m < 2048 → bitOf l m ≡ bit m)
     → (m : ℕ) → m < 2048 → bitOf (putBit l n true) m ≡ cond (eqb m n) 1 (bit m)
 bits-put l bit n small full same m u = go (ℕ-discrete m n)
   where

@@ -41,7 +41,7 @@ use Rattle.plan.specs.ShapeLaws.{shaped-length, shaped-sealed, shaped-bit}
 use Rattle.plan.specs.Sketch.{Sketch}
 use Rattle.plan.specs.SketchLaws.{ready, sketch-here, sketch-there, sketch-more, edited}
 use Rattle.plan.specs.StoreLaws.{map-inside, map-shape}
-use Rattle.insertion.specs.Put.{extended, fieldsOf, AtEnd, Linked}
+use Rattle.insertion.specs.Put.{lastBlock, extended, fieldsOf, AtEnd, Linked}
 use Rattle.insertion.specs.FieldLaws.{read-spares, fields-set}
 use Rattle.insertion.specs.FreeLaws.{bits-shaped, bits-put, first-read}
 use Rattle.insertion.specs.PlanFieldsLaws.{fields-ready, plans-fields}
@@ -120,7 +120,7 @@ module _ {s : List ℕ} {m : Meta} {b last : ℕ} {e : Entry} {held n : ℕ}
       ∙ sym (taken k))
 
   module _ {c : Change} {images : List ℕ}
-      (p : Linked s b (pageBlock (decode s) b (lastPlace (chain (decode s) b))) (blockOfBit (decode s) n) e c images)
+      (p : Linked s b (lastBlock (decode s) b) (blockOfBit (decode s) n) e c images)
       (k : ℕ) (is : k ≡ mapBlock (decode s)) where
     pub bit-ready : (d : List ℕ) × Ready s c images d k
     bit-ready = (_, ready (p .sketch) k (rw is map-here) (omega arith))
@@ -174,7 +174,8 @@ module _ {s : List ℕ} {m : Meta} {b last : ℕ} {e : Entry} {held n : ℕ}
           )
           m′
           (new
-          ∙ fields-set r (x .spares) b (addPage n e (chain x b)) held first (m .spares) (h .leaves .held) ends (read-spares r))
+          ∙ fields-set r (x .spares) b (addPage n e (chain x b)) held first (m .spares) (h .leaves .held) ends
+          (read-spares r))
           f t
         where
           last-here : L < blocks s

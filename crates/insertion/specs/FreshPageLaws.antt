@@ -33,7 +33,7 @@ use Rattle.draft.specs.Trim.{Trimmed}
 use Rattle.plan.specs.Plan.{Plans}
 use Rattle.plan.specs.ShapeLaws.{shaped-paged}
 use Rattle.plan.specs.StoreLaws.{block-is, map-inside}
-use Rattle.insertion.specs.Put.{extended, fieldsOf, AtEnd, Linked}
+use Rattle.insertion.specs.Put.{lastBlock, extended, fieldsOf, AtEnd, Linked}
 use Rattle.insertion.specs.FieldLaws.{read-made, more-spares, fields-set}
 use Rattle.insertion.specs.FreeLaws.{bits-shaped, first-read}
 use Rattle.insertion.specs.PlanFieldsLaws.{fields-ready, plans-fields}
@@ -51,7 +51,7 @@ module _ {s : List ℕ} {m : Meta} {b last : ℕ} {e : Entry} {held : ℕ}
   y = extended x (moreSpares x) b (topBit x) e
 
   abbrev L : ℕ
-  L = pageBlock x b (lastPlace (chain x b))
+  L = lastBlock x b
 
   abbrev K : ℕ
   K = blockOfBit x (topBit x)
@@ -117,7 +117,7 @@ module _ {s : List ℕ} {m : Meta} {b last : ℕ} {e : Entry} {held : ℕ}
       (map-stays ∙ map-image y w)))
 
   module _ {c : Change} {images : List ℕ}
-      (p : Linked s b (pageBlock (decode s) b (lastPlace (chain (decode s) b)))
+      (p : Linked s b (lastBlock (decode s) b)
       (blockOfBit (decode s) (topBit (decode s))) e c images) where
     pub fresh-fields : (d : List ℕ) × Ready s c images d 0
     fresh-fields = (_, fields-ready r (p .sketch) (omega arith))

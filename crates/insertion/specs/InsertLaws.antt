@@ -34,8 +34,8 @@ use Rattle.view.specs.ReadsLaws.{reads-laid, reads-max, reads-count}
 use Rattle.plan.specs.Plan.{Settles, accepted, declined, Places, placed, full}
 
 -- a refused call
-pub settles-refused : {s : List ℕ} {c : Change} {images : List ℕ} {o : Result} {a : Answer} (r : Refusal) → o ≡ refused r
-    → a ≡ Answer.Refused r → c .count ≡ 0 → Settles s c images o a
+pub settles-refused : {s : List ℕ} {c : Change} {images : List ℕ} {o : Result} {a : Answer} (r : Refusal)
+    → o ≡ refused r → a ≡ Answer.Refused r → c .count ≡ 0 → Settles s c images o a
 settles-refused {s} {c} {images} r p q z = rw (p, q) (declined z)
 
 -- the count has room for one more

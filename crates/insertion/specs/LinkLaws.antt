@@ -36,7 +36,7 @@ use Rattle.plan.specs.ShapeLaws.{shaped-length, shaped-sealed, shaped-next, sha
 use Rattle.plan.specs.Sketch.{Sketch}
 use Rattle.plan.specs.SketchLaws.{sketch-none, ready, sketch-here, sketch-there, sketch-more, edited}
 use Rattle.plan.specs.StoreLaws.{page-under, page-few, page-shape}
-use Rattle.insertion.specs.Put.{extended, AtEnd, Linked}
+use Rattle.insertion.specs.Put.{lastBlock, extended, AtEnd, Linked}
 use Rattle.insertion.specs.PutLaws.{chain-there}
 
 -- ---- where the blocks stand
@@ -49,7 +49,8 @@ module _ (x : Index) (l : Laid x) where
   bit-some n q = omega (arith, q, bit-pos (x .spares) p (x .size) (l .spares) (point-pos (x .maxBucket)) n)
 
   -- a page of a chain stands in a made block
-  pub page-low : (b i : ℕ) → b ≤ x .maxBucket → i ≤ length (chain x b .more) → pageBlock x b i < made (x .spares) (point (x .maxBucket))
+  pub page-low : (b i : ℕ) → b ≤ x .maxBucket → i ≤ length (chain x b .more)
+      → pageBlock x b i < made (x .spares) (point (x .maxBucket))
   page-low b zero hb hi =
       bucket-made (x .spares) p (x .size) (l .spares) (point-pos (x .maxBucket)) b (omega (arith, max-under x l))
   page-low b (suc i) hb hi =
@@ -102,8 +103,8 @@ module _ {s : List ℕ} {c : Change} {images : List ℕ} (g : Draft s c images s
         new : List ℕ
         new = encodePage (e ∷ []) (trailer last noLink b 1 ++ drop 508 (block d₁ k))
 
-        shape : Shaped (encodePage (e ∷ []) (trailer last noLink b 1 ++ drop 508 (block d₁ k))) (encodePage (e ∷ []) [])
-            last noLink b 1
+        shape : Shaped (encodePage (e ∷ []) (trailer last noLink b 1 ++ drop 508 (block d₁ k)))
+            (encodePage (e ∷ []) []) last noLink b 1
         shape =
             shaped-new (block d₁ k) (e ∷ []) last noLink b 1
             (length-block d₁ k (omega (arith, length-draft (linked .draft), g .whole)))
@@ -136,16 +137,16 @@ module _ {s : List ℕ} {m : Meta} {b last : ℕ} {e : Entry} {held : ℕ} {sp :
   last-under =
       rw (h .page) (omega (arith, page-under r b (h .leaves .made) i (omega arith), reads-size r))
 
-  pub last-meta : pageBlock (decode s) b (lastPlace (chain (decode s) b)) ≢ 0
+  pub last-meta : lastBlock (decode s) b ≢ 0
   last-meta = page-meta x (reads-laid r) b i (omega arith)
 
   module _ (at : chainBlocks (extended (decode s) sp b n e) b (addPage n e (chain (decode s) b))
       ≡ chainBlocks (decode s) b (addPage n e (chain (decode s) b)))
-      (apart : pageBlock (decode s) b (lastPlace (chain (decode s) b)) ≢ blockOfBit (decode s) n)
+      (apart : lastBlock (decode s) b ≢ blockOfBit (decode s) n)
       {c : Change} {images : List ℕ}
-      (p : Linked s b (pageBlock (decode s) b (lastPlace (chain (decode s) b))) (blockOfBit (decode s) n) e c images) where
-    pub last-shown : sealed (block (p .draft) (pageBlock (decode s) b (lastPlace (chain (decode s) b))))
-        ≡ encodeBlock (extended (decode s) sp b n e) (pageBlock (decode s) b (lastPlace (chain (decode s) b)))
+      (p : Linked s b (lastBlock (decode s) b) (blockOfBit (decode s) n) e c images) where
+    pub last-shown : sealed (block (p .draft) (lastBlock (decode s) b))
+        ≡ encodeBlock (extended (decode s) sp b n e) (lastBlock (decode s) b)
     unfolding pageWith
     last-shown =
         let full = length-pageFront (pageEntries x b i) (page-few r b (h .leaves .made) i (omega arith)) in

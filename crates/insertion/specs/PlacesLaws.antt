@@ -28,7 +28,7 @@ use Rattle.view.specs.ReadsLaws.{reads-laid}
 use Rattle.view.specs.Places.{roomAt}
 use Rattle.plan.specs.Plan.{Plans, Places, placed, full}
 use Rattle.plan.specs.StoreLaws.{map-shape}
-use Rattle.insertion.specs.Put.{extended, Leaves, InRoom, AtEnd}
+use Rattle.insertion.specs.Put.{roomBlock, lastBlock, extended, Leaves, InRoom, AtEnd}
 use Rattle.insertion.specs.FieldLaws.{read-size, read-made}
 use Rattle.insertion.specs.FreeLaws.{bits-shaped, free-read, none-read}
 use Rattle.insertion.specs.PutLaws.{put-room, put-free, put-fresh, put-full}
@@ -48,15 +48,15 @@ module _ (x : Index) (b : ℕ) where
   -- the first page with room
   pub record RoomIn (k : ℕ) : Type 0 where
     pub room : chainRoom (chain x b) ≡ true
-    pub page : k ≡ pageBlock x b (roomPlace (chain x b))
+    pub page : k ≡ roomBlock x b
 
   -- no room, and the last page
   pub record NoRoomIn (k : ℕ) : Type 0 where
     pub room : chainRoom (chain x b) ≡ false
-    pub page : k ≡ pageBlock x b (lastPlace (chain x b))
+    pub page : k ≡ lastBlock x b
 
   abbrev found : Bool → Room
-  found t = cond t (Room.Page (pageBlock x b (roomPlace (chain x b)))) (Room.Full (pageBlock x b (lastPlace (chain x b))))
+  found t = cond t (Room.Page (roomBlock x b)) (Room.Full (lastBlock x b))
 
   pub roomAt-page : (k : ℕ) → roomAt x b ≡ Room.Page k → RoomIn k
   unfolding roomAt

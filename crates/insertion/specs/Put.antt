@@ -23,6 +23,13 @@ use Rattle.view.specs.Reads.{Reads}
 use Rattle.plan.specs.Shape.{Shaped}
 use Rattle.plan.specs.Sketch.{Sketch}
 
+-- the blocks of the first page with room in bucket b's chain, and of its last page
+abbrev pub roomBlock : Index → (b : ℕ) → ℕ
+roomBlock x b = pageBlock x b (roomPlace (chain x b))
+
+abbrev pub lastBlock : Index → (b : ℕ) → ℕ
+lastBlock x b = pageBlock x b (lastPlace (chain x b))
+
 -- the entry in the first page of bucket b's chain with room
 abbrev pub entered : Index → (b : ℕ) → Entry → Index
 entered x b e = setChain x (x .spares) b (addEntry e (chain x b))
@@ -57,12 +64,12 @@ pub record Leaves (s : List ℕ) (m : Meta) (b n : ℕ) (y : Index) : Type 0 whe
 pub record InRoom (s : List ℕ) (m : Meta) (k : ℕ) (e : Entry) (held b : ℕ) : Type 0 where
   pub leaves : Leaves s m b held (entered (decode s) b e)
   pub room : chainRoom (chain (decode s) b) ≡ true
-  pub page : k ≡ pageBlock (decode s) b (roomPlace (chain (decode s) b))
+  pub page : k ≡ roomBlock (decode s) b
 
 -- block `last` is the last page of bucket b's chain, which gets a page of bit n
 pub record AtEnd (s : List ℕ) (m : Meta) (b last : ℕ) (e : Entry) (held : ℕ) (sp : List ℕ) (n : ℕ) : Type 0 where
   pub leaves : Leaves s m b held (extended (decode s) sp b n e)
-  pub page : last ≡ pageBlock (decode s) b (lastPlace (chain (decode s) b))
+  pub page : last ≡ lastBlock (decode s) b
 
 -- block k is made a page of the one entry, after the page in block `last`, which links to it
 pub record Linked (s : List ℕ) (b last k : ℕ) (e : Entry) (r : Change) (images′ : List ℕ) : Type 0 where

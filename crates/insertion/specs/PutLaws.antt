@@ -73,11 +73,15 @@ module _ (x : Index) (b : ℕ) (e : Entry) where
     pub put-fresh : freeBit x ≡ none → made (x .spares) (point (x .maxBucket)) < x .size
         → put x b e ≡ some (extended x (moreSpares x) b (topBit x) e)
     unfolding takePage
-    put-fresh h l = let r = lt-ltb (made (x .spares) s) (x .size) l in taken _ (λ i. takeFrom (h i) (r i) (x .spares) s)
+    put-fresh h l =
+        let r = lt-ltb (made (x .spares) s) (x .size) l in
+        taken _ (λ i. takeFrom (h i) (r i) (x .spares) s)
 
     pub put-full : freeBit x ≡ none → x .size ≤ made (x .spares) (point (x .maxBucket)) → put x b e ≡ none
     unfolding takePage
-    put-full h l = let r = le-ltb (made (x .spares) s) (x .size) l in taken _ (λ i. takeFrom (h i) (r i) (x .spares) s)
+    put-full h l =
+        let r = le-ltb (made (x .spares) s) (x .size) l in
+        taken _ (λ i. takeFrom (h i) (r i) (x .spares) s)
 
 -- ---- a bucket that has a chain
 
@@ -115,13 +119,13 @@ module _ {s : List ℕ} {m : Meta} {k : ℕ} {e : Entry} {held b : ℕ} (h : InR
   few : length es < 40
   few = ltb-true (length es) 40 (at .room)
 
-  abbrev Page-shape : Type 0
-  Page-shape =
-      Shaped (block s (pageBlock x b i)) (encodePage es [])
-      (prevIn (lastSplit (x .maxBucket) b) (chainBlocks x b (chain x b)) i) (pageBlock x b (suc i)) b
-      (flagsFor (flagsOf x b) i)
+  abbrev flags : ℕ
+  flags = flagsFor (flagsOf x b) i
 
-  shape : Page-shape
+  abbrev prev : ℕ
+  prev = prevIn (lastSplit (x .maxBucket) b) (chainBlocks x b (chain x b)) i
+
+  shape : Shaped (block s (pageBlock x b i)) (encodePage es []) prev (pageBlock x b (suc i)) b flags
   shape = page-shape r b (h .leaves .made) i inside
 
   whole : length (block s (pageBlock x b i)) ≡ 512
@@ -156,8 +160,8 @@ module _ {s : List ℕ} {m : Meta} {k : ℕ} {e : Entry} {held b : ℕ} (h : InR
     )
 
     -- the page with the entry
-    module _ {c : Change} {images : List ℕ} (g : Draft s c images s) (z : c .count ≡ 0) {c₁ : Change} {images₁ : List ℕ}
-        (p : PageEdited s c images k (insertAt slot e) c₁ images₁) where
+    module _ {c : Change} {images : List ℕ} (g : Draft s c images s) (z : c .count ≡ 0)
+        {c₁ : Change} {images₁ : List ℕ} (p : PageEdited s c images k (insertAt slot e) c₁ images₁) where
       abbrev fs : List Entry
       fs = insertAt slot e es
 
@@ -165,8 +169,9 @@ module _ {s : List ℕ} {m : Meta} {k : ℕ} {e : Entry} {held b : ℕ} (h : InR
       fs-few = omega (arith, length-insertAt slot e es, few)
 
       new : List ℕ
-      new = encodePage (insertAt slot e es) (trailer (prevIn (lastSplit (x .maxBucket) b) (chainBlocks x b (chain x b)) i)
-          (pageBlock x b (suc i)) b (flagsFor (flagsOf x b) i) ++ shape .rest)
+      new =
+          encodePage (insertAt slot e es)
+          (trailer prev (pageBlock x b (suc i)) b flags ++ shape .rest)
 
       new-whole : length new ≡ 512
       unfolding new
@@ -191,12 +196,8 @@ module _ {s : List ℕ} {m : Meta} {k : ℕ} {e : Entry} {held b : ℕ} (h : InR
       shown =
           ap sealed (sketch-here start (pageBlock x b i) here new new-whole)
           ∙ sealed-entries es shape fs fs-few
-          ∙ ap (λ (n : ℕ). paged (encodePage (insertAt n e es) [])
-          (prevIn (lastSplit (x .maxBucket) b) (chainBlocks x b (chain x b)) i) (pageBlock x b (suc i)) b
-          (flagsFor (flagsOf x b) i)) slot-is
-          ∙ ap (λ (ds : List Entry). paged (encodePage ds [])
-          (prevIn (lastSplit (x .maxBucket) b) (chainBlocks x b (chain x b)) i) (pageBlock x b (suc i)) b
-          (flagsFor (flagsOf x b) i)) (sym (enter-insertAt e es))
+          ∙ ap (λ (ds : List Entry). paged (encodePage ds []) prev (pageBlock x b (suc i)) b flags)
+          (ap (λ (n : ℕ). insertAt n e es) slot-is ∙ sym (enter-insertAt e es))
           ∙ sym (room-image x b (chain-there (h .leaves)) e (h .leaves .wf .laid) (h .room))
 
       -- no page is taken, so first free stays

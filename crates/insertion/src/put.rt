@@ -34,7 +34,7 @@ ghost use Rattle.model.specs.Pages.{chainRoom, put};
 ghost use Rattle.model.specs.Held.{count};
 ghost use Rattle.model.specs.WellFormed.{WF};
 ghost use Rattle.image.specs.Decode.{decode};
-ghost use Rattle.image.specs.Frame.{mapBlock, pageBlock, lastPlace};
+ghost use Rattle.image.specs.Frame.{mapBlock};
 ghost use Rattle.image.specs.FrameChain.{Free as IsFree};
 ghost use Rattle.image.specs.FrameFresh.{moreSpares};
 ghost use Rattle.chain.specs.declared.Free.{Free};
@@ -42,7 +42,7 @@ ghost use Rattle.chain.specs.Bitmap.{freeOr, lowestFree};
 ghost use Rattle.draft.specs.Bits.{putBit};
 ghost use Rattle.view.specs.Reads.{Reads};
 ghost use Rattle.plan.specs.Plan.{Plans, Places};
-ghost use Rattle.insertion.specs.Put.{entered, extended, fieldsOf, InRoom, AtEnd, Linked};
+ghost use Rattle.insertion.specs.Put.{lastBlock, entered, extended, fieldsOf, InRoom, AtEnd, Linked};
 
 // The fields with another count, first free and spares.
 fn with_fields(m: Meta, count: u32, free: u32, spares: [u32; 16]) -> Meta
@@ -169,7 +169,7 @@ fn put_at_end(
 ) -> PutPlan
     requires { ⌜ (Reads (now store) m) × (b ≤ m .max) × (length (now images) ≡ 4096) ⌝ }
     requires { ⌜ (chainRoom (chain (decode (now store)) b) ≡ false)
-        × (last ≡ pageBlock (decode (now store)) b (lastPlace (chain (decode (now store)) b))) ⌝ }
+        × (last ≡ lastBlock (decode (now store)) b) ⌝ }
     requires { ⌜ ((y : Index) → put (decode (now store)) b e ≡ some y → (WF y) × (count y ≡ held)) ⌝ }
     ensures { λ r. ⌜ Places (now (store .entry)) (r .change) (now (images .exit))
         (put (decode (now (store .entry))) b e) (r .room) ⌝ }

@@ -18,10 +18,11 @@ refuse-requires c κs = search needs
 
 returns : tie.Need-returns
 returns c =
-    let s = c .before .before .before .before .before in
+    let i = c .before in
+    let s = i .before .before .before .before in
     let a = s .args in
     settles-refused Refusal.HeldAlready
-    (insert-held (decode (a .store .now)) (a .pair) (s .pre .2) (sym (c .before .before .is-held .ensures) ∙ c .before .if1 .taken))
+    (insert-held (decode (a .store .now)) (a .pair) (s .pre .2) (sym (i .before .is-held .ensures) ∙ i .if1 .taken))
     (c .refuse .ensures .0) (c .refuse .ensures .1)
 
 bucket-of-requires : tie.Need-bucket-of-requires
@@ -31,20 +32,23 @@ add-plan-put : tie.Need-add-plan-put
 add-plan-put c = omega (arith, count-more (c .before .before .before .before .before .before .pre .0))
 
 -- the pair is not held
-free : (c : tie.After-bucket-of) → held (decode (c .before .before .before .before .before .args .store .now)) (c .before .before .before .before .before .args .pair) ≡ false
+abbrev begin : tie.After-bucket-of → tie.Start
+begin c = c .before .before .before .before .before
+
+free : (c : tie.After-bucket-of) → held (decode (begin c .args .store .now)) (begin c .args .pair) ≡ false
 free c = sym (c .before .before .is-held .ensures) ∙ c .before .if1 .left
 
 plan-put-requires : tie.Need-plan-put-requires
 plan-put-requires c κs =
     let k = c .before .before in
-    let s = k .before .before .before .before .before in
+    let s = begin k in
     let a = s .args in
-    let h = k .bucket-of .ensures in (
+    let h = k .bucket-of .ensures in
+    let g = s .good .1 .1 .0 in (
       (s .pre .0, home-under (s .pre .0) (a .pair) (s .pre .2) (free k) _ h, s .pre .1),
       (
         pair-absent (s .pre .0) (a .pair) (s .pre .2) (free k) _ h,
-        put-leaves (s .pre .0) (a .pair) (s .pre .2) (free k) _ h
-            (let g = s .good .1 .1 .0 in omega arith),
+        put-leaves (s .pre .0) (a .pair) (s .pre .2) (free k) _ h (omega arith),
       ),
     )
 
@@ -53,10 +57,10 @@ same-length c = search needs
 
 returns-2 : tie.Need-returns-2
 returns-2 c =
-    let k = c .before .before .before .before .before .before .before in
-    let s = k .before .before .before .before .before in
-    let a = s .args in
-    settles-done (s .pre .0) (a .pair) (s .pre .2) (free k) _ (k .bucket-of .ensures) (c .before .before .before .before .plan-put .ensures)
+    let p = c .before .before .before .before in
+    let k = p .before .before .before in
+    let s = begin k in
+    settles-done (s .pre .0) (s .args .pair) (s .pre .2) (free k) _ (k .bucket-of .ensures) (p .plan-put .ensures)
     (c .before .if2 .taken)
 
 refuse-requires-2 : tie.Need-refuse-requires-2
@@ -67,11 +71,11 @@ same-length-2 c = search needs
 
 returns-3 : tie.Need-returns-3
 returns-3 c =
-    let k = c .before .before .before .before .before .before .before in
-    let s = k .before .before .before .before .before in
-    let a = s .args in
+    let p = c .before .before .before .before in
+    let k = p .before .before .before in
+    let s = begin k in
     settles-refused Refusal.NoRoom
-    (insert-full (s .pre .0) (a .pair) (s .pre .2) (free k) _ (k .bucket-of .ensures) (c .before .before .before .before .plan-put .ensures)
+    (insert-full (s .pre .0) (s .args .pair) (s .pre .2) (free k) _ (k .bucket-of .ensures) (p .plan-put .ensures)
     (c .before .if2 .left))
     (c .refuse2 .ensures .0) (c .refuse2 .ensures .1)
 

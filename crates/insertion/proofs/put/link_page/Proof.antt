@@ -27,11 +27,12 @@ same-length c = search needs
 
 returns : tie.Need-returns
 returns c =
-    let s = c .before .before .before .before .before .before .before .before .before .before .before in
+    let p = c .before .before .before .before .before .before in
+    let s = p .before .before .before .before .before in
     let a = s .args in
-    let n = c .before .before .before .before .before .before .before .before .new-draft .ensures in
+    let n = p .before .before .new-draft .ensures in
     page-linked (n .1 (a .store .now) (a .images .now) (s .pre .0 .0) (s .pre .0 .1)) (n .0) (a .last) (a .k)
-    (s .pre .1 .0) (s .pre .1 .1) (c .before .before .before .before .before .before .put-next .ensures) (a .b) (a .e) (c .before .before .write-page .ensures)
+    (s .pre .1 .0) (s .pre .1 .1) (p .put-next .ensures) (a .b) (a .e) (c .before .before .write-page .ensures)
 
 pub link-page-spec : {M : Type 1} → statement M
 link-page-spec =

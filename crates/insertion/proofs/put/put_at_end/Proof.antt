@@ -32,15 +32,20 @@ lowest-free-requires c κs =
     (reads-block r _ (omega (arith, c .before .bit-block .ensures, read-bit r 0, map-inside r, reads-size r)))
 
 -- what the search finds in the bitmap, and the chain's end
+abbrev begin : tie.After-lowest-free → tie.Start
+begin c = c .before .before .before .before .before .before
+
 found : (c : tie.After-lowest-free)
-    → c .lowest-free .result ≡ lowestFree (block (c .before .before .before .before .before .before .args .store .now) (mapBlock (decode (c .before .before .before .before .before .before .args .store .now))))
+    → c .lowest-free .result
+    ≡ lowestFree (block (begin c .args .store .now) (mapBlock (decode (begin c .args .store .now))))
 found c =
     c .lowest-free .ensures
     ∙ ap lowestFree (c .before .block-at .ensures
-    ∙ ap (block (c .before .before .before .before .before .before .args .store .now)) (c .before .before .bit-block .ensures ∙ read-bit (c .before .before .before .before .before .before .pre .0 .0) 0))
+    ∙ ap (block (begin c .args .store .now)) (c .before .before .bit-block .ensures ∙ read-bit (begin c .pre .0 .0) 0))
 
-end : (c : tie.After-lowest-free) → NoRoomIn (decode (c .before .before .before .before .before .before .args .store .now)) (c .before .before .before .before .before .before .args .b) (c .before .before .before .before .before .before .args .last)
-end c = let p = c .before .before .before .before .before .before .pre .1 .0 in record { room = p .0; page = p .1 }
+end : (c : tie.After-lowest-free)
+    → NoRoomIn (decode (begin c .args .store .now)) (begin c .args .b) (begin c .args .last)
+end c = let p = begin c .pre .1 .0 in record { room = p .0; page = p .1 }
 
 enum-known-free : tie.Need-enum-known-free
 enum-known-free c = search needs
@@ -48,7 +53,7 @@ enum-known-free c = search needs
 put-in-free-requires : tie.Need-put-in-free-requires
 put-in-free-requires c κs =
     let f = c .before .before .before .before in
-    let s = f .before .before .before .before .before .before in
+    let s = begin f in
     let a = s .args in
     let q = sym (found f) ∙ c .before .before .free .given .1 in (
       end-again (s .pre .0 .0) (a .b) (s .pre .0 .1) (a .e) (a .held) (s .pre .1 .1) (a .last) (end f) _ q,
@@ -64,7 +69,7 @@ same-length c = search needs
 returns : tie.Need-returns
 returns c =
     let f = c .before .before .before .before .before .before .before in
-    let s = f .before .before .before .before .before .before in
+    let s = begin f in
     let a = s .args in
     let q = sym (found f) ∙ c .before .before .before .before .before .free .given .1 in
     places-some
@@ -83,7 +88,7 @@ cast-if1 c = search needs
 put-in-fresh-requires : tie.Need-put-in-fresh-requires
 put-in-fresh-requires c κs =
     let f = c .before .before .before .before .before .before in
-    let s = f .before .before .before .before .before .before in
+    let s = begin f in
     let a = s .args in
     let q = sym (found f) ∙ c .before .before .before .before .enum-told .given .1 in
     let l = rw (c .before .before .before .made-blocks .ensures) at (c .before .if1 .taken) in (
@@ -99,11 +104,13 @@ same-length-2 c = search needs
 
 returns-2 : tie.Need-returns-2
 returns-2 c =
-    let f = c .before .before .before .before .before .before .before .before .before in
-    let s = f .before .before .before .before .before .before in
+    let i = c .before .before .before .before in
+    let m = i .before .before in
+    let f = m .before .before .before in
+    let s = begin f in
     let a = s .args in
-    let q = sym (found f) ∙ c .before .before .before .before .before .before .before .enum-told .given .1 in
-    let l = rw (c .before .before .before .before .before .before .made-blocks .ensures) at (c .before .before .before .before .if1 .taken) in
+    let q = sym (found f) ∙ m .before .enum-told .given .1 in
+    let l = rw (m .made-blocks .ensures) at (i .if1 .taken) in
     places-some
     (put-next (s .pre .0 .0) (a .b) (s .pre .0 .1) (a .e) (a .held) (s .pre .1 .1) (a .last) (end f) q l)
     (c .before .before .put-in-fresh .ensures)
@@ -114,7 +121,7 @@ new-draft-requires c κs = search needs
 returns-3 : tie.Need-returns-3
 returns-3 c =
     let f = c .before .before .before .before .before .before in
-    let s = f .before .before .before .before .before .before in
+    let s = begin f in
     let a = s .args in
     let q = sym (found f) ∙ c .before .before .before .before .enum-told .given .1 in
     let l = rw (c .before .before .before .made-blocks .ensures) at (c .before .if1 .left) in

@@ -34,22 +34,25 @@ bit-block-requires-2 c κs =
     bit-fits (s .pre .0 .leaves .reads) (s .args .n) (s .pre .1 .0 .1)
 
 -- the blocks of the bitmap and of the page
-map-is : (c : tie.After-bit-block2) → c .before .bit-block .result ≡ mapBlock (decode (c .before .before .before .before .before .before .args .store .now))
-map-is c = c .before .bit-block .ensures ∙ read-bit (c .before .before .before .before .before .before .pre .0 .leaves .reads) 0
+abbrev begin : tie.After-bit-block2 → tie.Start
+begin c = c .before .before .before .before .before .before
+
+map-is : (c : tie.After-bit-block2) → c .before .bit-block .result ≡ mapBlock (decode (begin c .args .store .now))
+map-is c = c .before .bit-block .ensures ∙ read-bit (begin c .pre .0 .leaves .reads) 0
 
 page-is : (c : tie.After-bit-block2)
-    → c .bit-block2 .result ≡ blockOfBit (decode (c .before .before .before .before .before .before .args .store .now)) (c .before .before .before .before .before .before .args .n)
-page-is c = c .bit-block2 .ensures ∙ read-bit (c .before .before .before .before .before .before .pre .0 .leaves .reads) (c .before .before .before .before .before .before .args .n)
+    → c .bit-block2 .result ≡ blockOfBit (decode (begin c .args .store .now)) (begin c .args .n)
+page-is c = c .bit-block2 .ensures ∙ read-bit (begin c .pre .0 .leaves .reads) (begin c .args .n)
 
-map-under : (c : tie.After-bit-block2) → c .before .bit-block .result < blocks (c .before .before .before .before .before .before .args .store .now)
+map-under : (c : tie.After-bit-block2) → c .before .bit-block .result < blocks (begin c .args .store .now)
 map-under c =
-    let r = c .before .before .before .before .before .before .pre .0 .leaves .reads in
+    let r = begin c .pre .0 .leaves .reads in
     omega (arith, map-is c, map-inside r, reads-size r)
 
 link-page-requires : tie.Need-link-page-requires
 link-page-requires c κs =
     let k = c .before in
-    let s = k .before .before .before .before .before .before in
+    let s = begin k in
     let h = s .pre .0 in (
       (reads-sized (h .leaves .reads) .whole, s .pre .1 .1),
       (last-under h, omega (arith, page-is k, free-under h (s .pre .1 .0))),
@@ -57,10 +60,11 @@ link-page-requires c κs =
 
 put-bit-requires : tie.Need-put-bit-requires
 put-bit-requires c κs =
-    let k = c .before .before .before .before .before in
-    let s = k .before .before .before .before .before .before in
+    let l = c .before .before .before in
+    let k = l .before .before in
+    let s = begin k in
     let h = s .pre .0 in (
-      bit-ready h (s .pre .1 .0) (linked-at (c .before .before .before .link-page .ensures) (h .page) (page-is k)) _ (map-is k),
+      bit-ready h (s .pre .1 .0) (linked-at (l .link-page .ensures) (h .page) (page-is k)) _ (map-is k),
       free-small h (s .pre .1 .0),
     )
 
@@ -70,12 +74,12 @@ cast-block-at c = search needs
 block-at-requires : tie.Need-block-at-requires
 block-at-requires c κs =
     let k = c .before .before .before .before .before .before .before .before in
-    reads-whole (k .before .before .before .before .before .before .pre .0 .leaves .reads) _ (map-under k)
+    reads-whole (begin k .pre .0 .leaves .reads) _ (map-under k)
 
 next-free-requires : tie.Need-next-free-requires
 next-free-requires c κs =
     let k = c .before .before .before .before .before .before .before .before .before in
-    let s = k .before .before .before .before .before .before in
+    let s = begin k in
     let h = s .pre .0 in
     (rw (c .block-at .ensures) (reads-block (h .leaves .reads) _ (map-under k)), free-small h (s .pre .1 .0))
 
@@ -84,40 +88,51 @@ with-fields-requires c κs = search needs
 
 put-fields-requires : tie.Need-put-fields-requires
 put-fields-requires c κs =
-    let k = c .before .before .before .before .before .before .before .before .before .before .before .before in
-    let s = k .before .before .before .before .before .before in
+    let b = c .before .before .before .before .before .before in
+    let l = b .before .before .before .before in
+    let k = l .before .before in
+    let s = begin k in
     let h = s .pre .0 in
-    free-fields h (s .pre .1 .0) (linked-at (c .before .before .before .before .before .before .before .before .before .before .link-page .ensures) (h .page) (page-is k)) _ (map-is k)
-    (c .before .before .before .before .before .before .put-bit .ensures)
+    free-fields h (s .pre .1 .0) (linked-at (l .link-page .ensures) (h .page) (page-is k)) _ (map-is k)
+    (b .put-bit .ensures)
 
 drop-unchanged-requires : tie.Need-drop-unchanged-requires
 drop-unchanged-requires c κs =
-    let k = c .before .before .before .before .before .before .before .before .before .before .before .before .before .before .before .before in
-    let s = k .before .before .before .before .before .before in
+    let p = c .before .before .before in
+    let b = p .before .before .before .before .before .before .before in
+    let l = b .before .before .before .before in
+    let k = l .before .before in
+    let s = begin k in
     let h = s .pre .0 in
     let w =
-    free-fields h (s .pre .1 .0) (linked-at (c .before .before .before .before .before .before .before .before .before .before .before .before .before .before .link-page .ensures) (h .page) (page-is k)) _ (map-is k)
-    (c .before .before .before .before .before .before .before .before .before .before .put-bit .ensures) in
-    let g = c .before .before .before .put-fields .ensures .draft (w .0) (w .1 .draft) in
+    free-fields h (s .pre .1 .0) (linked-at (l .link-page .ensures) (h .page) (page-is k)) _ (map-is k)
+    (b .put-bit .ensures) in
+    let g = p .put-fields .ensures .draft (w .0) (w .1 .draft) in
     (g .fits, g .eight)
 
 same-length : tie.Need-same-length
 same-length c =
-    c .before .before .drop-unchanged .kept .1 .1 .0 ∙ c .before .before .before .before .before .before .put-fields .kept .1 .1 .0 ∙ c .before .before .before .before .before .before .before .before .before .before .before .before .before .put-bit .kept .1 .1 .0
-    ∙ c .before .before .before .before .before .before .before .before .before .before .before .before .before .before .before .before .before .link-page .kept .1 .1 .1 .1 .1 .0
+    let p = c .before .before .before .before .before .before in
+    let b = p .before .before .before .before .before .before .before in
+    let l = b .before .before .before .before in
+    c .before .before .drop-unchanged .kept .1 .1 .0 ∙ p .put-fields .kept .1 .1 .0 ∙ b .put-bit .kept .1 .1 .0
+    ∙ l .link-page .kept .1 .1 .1 .1 .1 .0
 
 returns : tie.Need-returns
 returns c =
-    let k = c .before .before .before .before .before .before .before .before .before .before .before .before .before .before .before .before .before .before .before in
-    let s = k .before .before .before .before .before .before in
+    let p = c .before .before .before .before .before .before in
+    let n = p .before .before .before in
+    let b = n .before .before .before .before in
+    let l = b .before .before .before .before in
+    let k = l .before .before in
+    let s = begin k in
     let h = s .pre .0 in
-    let x = s .args .store .now in
-    free-plans h (s .pre .1 .0) (linked-at (c .before .before .before .before .before .before .before .before .before .before .before .before .before .before .before .before .before .link-page .ensures) (h .page) (page-is k)) _ (map-is k)
-    (c .before .before .before .before .before .before .before .before .before .before .before .before .before .put-bit .ensures) _ _ (c .before .before .before .before .before .before .before .with-fields .ensures)
-    (c .before .before .before .before .before .before .before .before .before .next-free .ensures
-    ∙ free-first h (s .pre .1 .0) _ _ (c .before .before .before .before .before .before .before .before .before .before .block-at .ensures ∙ ap (block x) (map-is k))
+    free-plans h (s .pre .1 .0) (linked-at (l .link-page .ensures) (h .page) (page-is k)) _ (map-is k)
+    (b .put-bit .ensures) _ _ (p .before .with-fields .ensures)
+    (n .next-free .ensures
+    ∙ free-first h (s .pre .1 .0) _ _ (n .before .block-at .ensures ∙ ap (block (s .args .store .now)) (map-is k))
     (read-top (h .leaves .reads)))
-    (c .before .before .before .before .before .before .put-fields .ensures) (c .before .before .drop-unchanged .ensures)
+    (p .put-fields .ensures) (c .before .before .drop-unchanged .ensures)
 
 pub put-in-free-spec : {M : Type 1} → statement M
 put-in-free-spec =

@@ -44,19 +44,23 @@ array-write-spares : tie.Need-array-write-spares
 array-write-spares c = omega (arith, point-low (c .before .before .before .before .before .pre .0 .leaves .reads))
 
 -- the block of the page, and its bit
+abbrev begin : tie.After-made-blocks → tie.Start
+begin c = c .before .before .before .before .before
+
 page-is : (c : tie.After-made-blocks)
     → c .made-blocks .result
-    ≡ blockOfBit (decode (c .before .before .before .before .before .args .store .now)) (topBit (decode (c .before .before .before .before .before .args .store .now)))
-page-is c = let s = c .before .before .before .before .before in c .made-blocks .ensures ∙ fresh-is (s .pre .0) (s .pre .1 .0 .0)
+    ≡ blockOfBit (decode (begin c .args .store .now)) (topBit (decode (begin c .args .store .now)))
+page-is c = let s = begin c in c .made-blocks .ensures ∙ fresh-is (s .pre .0) (s .pre .1 .0 .0)
 
 top-is : (c : tie.After-made-blocks)
-    → getD (c .before .before .before .before .before .args .m .spares) (c .before .before .before .before .before .args .m .point) 0 + 1 ≡ suc (topBit (decode (c .before .before .before .before .before .args .store .now)))
-top-is c = let r = c .before .before .before .before .before .pre .0 .leaves .reads in omega (arith, read-top r)
+    → getD (begin c .args .m .spares) (begin c .args .m .point) 0 + 1
+    ≡ suc (topBit (decode (begin c .args .store .now)))
+top-is c = let r = begin c .pre .0 .leaves .reads in omega (arith, read-top r)
 
 link-page-requires : tie.Need-link-page-requires
 link-page-requires c κs =
     let k = c .before in
-    let s = k .before .before .before .before .before in
+    let s = begin k in
     let h = s .pre .0 in
     let r = h .leaves .reads in (
       (reads-sized r .whole, s .pre .1 .1),
@@ -68,18 +72,21 @@ with-fields-requires c κs = search needs
 
 put-fields-requires : tie.Need-put-fields-requires
 put-fields-requires c κs =
-    let k = c .before .before .before .before .before .before in
-    let s = k .before .before .before .before .before in
+    let l = c .before .before .before .before in
+    let k = l .before .before in
+    let s = begin k in
     let h = s .pre .0 in
-    fresh-fields h (s .pre .1 .0 .0) (linked-at (c .before .before .before .before .link-page .ensures) (h .page) (page-is k))
+    fresh-fields h (s .pre .1 .0 .0) (linked-at (l .link-page .ensures) (h .page) (page-is k))
 
 drop-unchanged-requires : tie.Need-drop-unchanged-requires
 drop-unchanged-requires c κs =
-    let k = c .before .before .before .before .before .before .before .before .before .before in
-    let s = k .before .before .before .before .before in
+    let p = c .before .before .before in
+    let l = p .before .before .before .before .before in
+    let k = l .before .before in
+    let s = begin k in
     let h = s .pre .0 in
-    let w = fresh-fields h (s .pre .1 .0 .0) (linked-at (c .before .before .before .before .before .before .before .before .link-page .ensures) (h .page) (page-is k)) in
-    let g = c .before .before .before .put-fields .ensures .draft (w .0) (w .1 .draft) in
+    let w = fresh-fields h (s .pre .1 .0 .0) (linked-at (l .link-page .ensures) (h .page) (page-is k)) in
+    let g = p .put-fields .ensures .draft (w .0) (w .1 .draft) in
     (g .fits, g .eight)
 
 same-length : tie.Need-same-length
@@ -87,13 +94,15 @@ same-length c = search needs
 
 returns : tie.Need-returns
 returns c =
-    let k = c .before .before .before .before .before .before .before .before .before .before .before .before .before in
-    let s = k .before .before .before .before .before in
+    let p = c .before .before .before .before .before .before in
+    let l = p .before .before .before .before .before in
+    let k = l .before .before in
+    let s = begin k in
     let h = s .pre .0 in
-    fresh-plans h (s .pre .1 .0 .0) (linked-at (c .before .before .before .before .before .before .before .before .before .before .before .link-page .ensures) (h .page) (page-is k)) _ _ _
-    (c .before .before .before .before .before .before .before .with-fields .ensures) (top-is k ∙ fresh-first h (s .pre .1 .0 .0) (s .pre .1 .0 .1))
+    fresh-plans h (s .pre .1 .0 .0) (linked-at (l .link-page .ensures) (h .page) (page-is k)) _ _ _
+    (p .before .with-fields .ensures) (top-is k ∙ fresh-first h (s .pre .1 .0 .0) (s .pre .1 .0 .1))
     (ap (set (s .args .m .spares) (s .args .m .point)) (top-is k))
-    (c .before .before .before .before .before .before .put-fields .ensures) (c .before .before .drop-unchanged .ensures)
+    (p .put-fields .ensures) (c .before .before .drop-unchanged .ensures)
 
 pub put-in-fresh-spec : {M : Type 1} → statement M
 put-in-fresh-spec =

@@ -22,39 +22,45 @@ new-draft-requires : tie.Need-new-draft-requires
 new-draft-requires c κs = search needs
 
 -- the slot, and the draft of no edit
+abbrev begin : tie.After-new-draft → tie.Start
+begin c = c .before .before .before .before .before
+
 slot-is : (c : tie.After-new-draft)
     → c .before .find-place .result
-    ≡ placeOf (c .before .before .before .before .before .args .e .pair) (entriesOf (block (c .before .before .before .before .before .args .store .now) (c .before .before .before .before .before .args .k)))
+    ≡ placeOf (begin c .args .e .pair) (entriesOf (block (begin c .args .store .now) (begin c .args .k)))
 slot-is c =
     c .before .find-place .ensures
-    ∙ ap (λ (l : List ℕ). placeOf (c .before .before .before .before .before .args .e .pair) (entriesOf l)) (c .before .before .block-at .ensures)
+    ∙ ap (λ (l : List ℕ). placeOf (begin c .args .e .pair) (entriesOf l)) (c .before .before .block-at .ensures)
 
 start : (c : tie.After-new-draft)
-    → Draft (c .before .before .before .before .before .args .store .now) (c .new-draft .result) (c .before .before .before .before .before .args .images .now) (c .before .before .before .before .before .args .store .now)
+    → Draft (begin c .args .store .now) (c .new-draft .result) (begin c .args .images .now) (begin c .args .store .now)
 start c =
-    let s = c .before .before .before .before .before in
+    let s = begin c in
     c .new-draft .ensures .1 (s .args .store .now) (s .args .images .now)
     (reads-sized (s .pre .0 .1 .leaves .reads) .whole) (s .pre .1)
 
 insert-at-requires : tie.Need-insert-at-requires
 insert-at-requires c κs =
     let n = c .before in
-    room-ready (n .before .before .before .before .before .pre .0 .1) _ (slot-is n) (start n) (n .new-draft .ensures .0)
+    room-ready (begin n .pre .0 .1) _ (slot-is n) (start n) (n .new-draft .ensures .0)
 
 with-fields-requires : tie.Need-with-fields-requires
 with-fields-requires c κs = search needs
 
 put-fields-requires : tie.Need-put-fields-requires
 put-fields-requires c κs =
-    let n = c .before .before .before .before .before .before .before in
-    room-fields (n .before .before .before .before .before .pre .0 .1) _ (slot-is n) (start n) (n .new-draft .ensures .0) (c .before .before .before .before .before .insert-at .ensures)
+    let i = c .before .before .before .before .before in
+    let n = i .before .before in
+    room-fields (begin n .pre .0 .1) _ (slot-is n) (start n) (n .new-draft .ensures .0) (i .insert-at .ensures)
 
 drop-unchanged-requires : tie.Need-drop-unchanged-requires
 drop-unchanged-requires c κs =
-    let n = c .before .before .before .before .before .before .before .before .before .before .before in
+    let p = c .before .before .before in
+    let i = p .before .before .before .before .before .before in
+    let n = i .before .before in
     let w =
-    room-fields (n .before .before .before .before .before .pre .0 .1) _ (slot-is n) (start n) (n .new-draft .ensures .0) (c .before .before .before .before .before .before .before .before .before .insert-at .ensures) in
-    let g = c .before .before .before .put-fields .ensures .draft (w .0) (w .1 .draft) in
+    room-fields (begin n .pre .0 .1) _ (slot-is n) (start n) (n .new-draft .ensures .0) (i .insert-at .ensures) in
+    let g = p .put-fields .ensures .draft (w .0) (w .1 .draft) in
     (g .fits, g .eight)
 
 same-length : tie.Need-same-length
@@ -62,9 +68,11 @@ same-length c = search needs
 
 returns : tie.Need-returns
 returns c =
-    let n = c .before .before .before .before .before .before .before .before .before .before .before .before .before .before in
-    λ b h. room-plans h _ (slot-is n) (start n) (n .new-draft .ensures .0) (c .before .before .before .before .before .before .before .before .before .before .before .before .insert-at .ensures) _
-    (c .before .before .before .before .before .before .before .with-fields .ensures) (c .before .before .before .before .before .before .put-fields .ensures) (c .before .before .drop-unchanged .ensures)
+    let p = c .before .before .before .before .before .before in
+    let i = p .before .before .before .before .before .before in
+    let n = i .before .before in
+    λ b h. room-plans h _ (slot-is n) (start n) (n .new-draft .ensures .0) (i .insert-at .ensures) _
+    (p .before .with-fields .ensures) (p .put-fields .ensures) (c .before .before .drop-unchanged .ensures)
 
 pub put-in-page-spec : {M : Type 1} → statement M
 put-in-page-spec =
