@@ -1,5 +1,4 @@
 use mathlib.Core.Path.{_≡_, sym, _∙_}
-use native.Mathlib.Omega.{arith}
 use borrow.Author.Needs.{needs}
 use Rattle.model.specs.Pages.{cut}
 use Rattle.model.specs.Calls.{done, remove}
@@ -60,7 +59,8 @@ home c =
     let w = c .before .before in
     let t = w .before .before .before in
     let s = t .before .before .before .before .before in
-    done-home (s .pre .0) (s .args .pair) (s .pre .2) _ _ (stands t) _ (sym (w .sources-of .ensures) ∙ c .sources .given .1)
+    done-home (s .pre .0) (s .args .pair) (s .pre .2) _ _ (stands t) _
+    (sym (w .sources-of .ensures) ∙ c .sources .given .1)
 
 plan-cut-requires : tie.Need-plan-cut-requires
 plan-cut-requires c κs =
@@ -69,8 +69,7 @@ plan-cut-requires c κs =
     let t = w .before .before .before in
     let s = t .before .before .before .before .before in
     let r = s .pre .0 in
-    let q = sym (w .sources-of .ensures) ∙ e .sources .given .1 in
-    (
+    let q = sym (w .sources-of .ensures) ∙ e .sources .given .1 in (
       (r, home-made r (s .args .pair .hash) _ q, s .pre .1),
       (
         held-home (decode (s .args .store .now)) (s .args .pair) _ q ∙ stands t,
@@ -105,8 +104,7 @@ plan-cuts-requires c κs =
     let s = t .before .before .before .before .before in
     let r = s .pre .0 in
     let q = sym (w .sources-of .ensures) ∙ e .sources2 .given .1 in
-    let m = both-made r (s .args .pair .hash) _ _ q in
-    (
+    let m = both-made r (s .args .pair .hash) _ _ q in (
       (r, s .pre .1),
       (
         (m .0, m .1, both-apart r (s .args .pair) (s .pre .2) _ _ q),

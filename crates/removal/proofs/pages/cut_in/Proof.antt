@@ -33,8 +33,7 @@ returns c n x f =
     let w = c .before .before in
     let a = w .before .before .before .args in
     let none = findAt-none x (a .b) (a .pair) (sym (found w n x f) ∙ c .enum-told .given .1) in
-    let g = f .sketches in
-    (
+    let g = f .sketches in (
       freed-nothing x (f .like .laid) (a .b) (a .pair) none,
       subst (Sketches _ _ _ (n + 3)) (sym (cut-none x (f .like .laid) (a .b) (a .pair) none))
           (record { d = g .d; ks = g .ks; sketch = sketch-wider (g .sketch) (n + 3) (omega arith); shows = g .shows }),
@@ -45,8 +44,7 @@ cut-entry-requires c κs =
     let t = c .before .before in
     let w = t .before .before in
     let s = w .before .before .before in
-    let f = s .pre .2 in
-    (
+    let f = s .pre .2 in (
       s .pre .0,
       s .args .b,
       s .args .pair,
