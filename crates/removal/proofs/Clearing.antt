@@ -1,14 +1,14 @@
 -- The bit of a freed page is set to 0.
 use mathlib.Core.Path.{_≡_, refl, sym, ap, _∙_, subst}
-use mathlib.Core.Logic.{_≢_, _⊎_, inl, inr, ⊎-elim}
+use mathlib.Core.Logic.{_⊎_, inl, inr, ⊎-elim}
 use mathlib.Core.Bool.{Bool, true, false, cond}
 use mathlib.Core.List.{List, _∷_}
-use Prim.Native.Nat.{ℕ, _/_, _<_}
+use Prim.Native.Nat.{ℕ, _<_}
 use native.Mathlib.Omega.{arith}
 use borrow.Author.Tests.{eq-eqb, ne-eqb}
 use lib.Dec.{eqb}
 use lib.ListN.{length}
-use Rattle.lists.specs.Block.{blocks, block, setBlock}
+use Rattle.lists.specs.Block.{block, setBlock}
 use Rattle.lists.specs.BlockLaws.{length-block}
 use Rattle.store.specs.declared.Change.{Change}
 use Rattle.image.specs.Layout.{noLink, mapFront}

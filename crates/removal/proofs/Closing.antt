@@ -1,16 +1,15 @@
 -- The end of a cut: the bitmap, the meta block, and the plan.
-use mathlib.Core.Path.{_≡_, refl, sym, ap, _∙_, subst, fun-ext}
+use mathlib.Core.Path.{_≡_, sym, ap, _∙_, subst, fun-ext}
 use mathlib.Core.Logic.{_≢_, inl}
 use mathlib.Core.Bool.{Bool, true, false, not}
 use mathlib.Core.List.{List, _∷_, _++_}
-use Prim.Native.Nat.{ℕ, suc, _+_, _≤_, _<_}
+use Prim.Native.Nat.{ℕ, _+_, _<_}
 use native.Mathlib.Decide.{ℕ-discrete}
 use native.Mathlib.Omega.{arith}
-use lib.ListN.{length, drop, length-append, length-drop}
-use Rattle.lists.specs.Lists.{b2n, Each}
+use lib.ListN.{length, drop}
+use Rattle.lists.specs.Lists.{b2n}
 use Rattle.lists.specs.TestLaws.{each-left, each-right, each-all}
 use Rattle.lists.specs.Block.{blocks, block, setBlock}
-use Rattle.lists.specs.BlockLaws.{length-block}
 use Rattle.address.specs.Address.{point}
 use Rattle.address.specs.BlockLaws.{point-pos, bit-pos}
 use Rattle.store.specs.declared.Change.{Change}
@@ -21,11 +20,10 @@ use Rattle.image.specs.Layout.{noLink, paged, metaFront, metaOf, mapFront, isFr
 use Rattle.image.specs.Decode.{decode}
 use Rattle.image.specs.BitmapLaws.{length-mapFront}
 use Rattle.image.specs.BoundLaws.{length-meta}
-use Rattle.image.specs.Frame.{Apart, mapBlock}
+use Rattle.image.specs.Frame.{mapBlock}
 use Rattle.image.specs.FrameImages.{meta-image, map-image}
 use Rattle.view.specs.ReadsLaws.{reads-laid, reads-size}
 use Rattle.draft.specs.Draft.{Draft, Ready, Edited}
-use Rattle.draft.specs.DraftLaws.{length-draft}
 use Rattle.draft.specs.Trim.{Trimmed}
 use Rattle.plan.specs.Plan.{Plans}
 use Rattle.plan.specs.Shape.{Shaped}
@@ -63,7 +61,8 @@ module _ {s : List ℕ} {m : Meta} {c : Change} {images : List ℕ} {held : ℕ}
   no-meta : k ≢ 0
   no-meta q =
       let l = reads-laid (e .reads) in
-      omega (arith, at, q, bit-pos (x .spares) (point (x .maxBucket)) (x .size) (l .spares) (point-pos (x .maxBucket)) 0)
+      let s = point (x .maxBucket) in
+      omega (arith, at, q, bit-pos (x .spares) s (x .size) (l .spares) (point-pos (x .maxBucket)) 0)
 
   -- ---- the bitmap
 

@@ -1,8 +1,8 @@
 -- A page is unlinked and made unused, edit by edit.
 use mathlib.Core.Path.{_≡_, refl, sym, ap, _∙_, subst₂}
-use mathlib.Core.Logic.{_≢_, inl}
+use mathlib.Core.Logic.{_≢_}
 use mathlib.Core.List.{List, _∷_, _++_}
-use Prim.Native.Nat.{ℕ, suc, _+_, _*_, _≤_, _<_}
+use Prim.Native.Nat.{ℕ, suc, _+_, _<_}
 use native.Mathlib.Omega.{arith}
 use lib.ListN.{length, drop, replicate, length-append, length-drop, length-replicate}
 use lib.Seq.{sets, length-sets}
@@ -12,7 +12,7 @@ use Rattle.endian.specs.Endian.{le32}
 use Rattle.store.specs.declared.Change.{Change}
 use Rattle.store.specs.Store.{prevAt, nextAt}
 use Rattle.image.specs.Layout.{noLink}
-use Rattle.draft.specs.Draft.{Draft, Ready, Edited}
+use Rattle.draft.specs.Draft.{Ready, Edited}
 use Rattle.draft.specs.DraftLaws.{length-draft}
 use Rattle.plan.specs.Sketch.{Sketch}
 use Rattle.plan.specs.SketchLaws.{ready, edited, sketch-here, sketch-there, sketch-more}
@@ -84,7 +84,8 @@ module _ {s : List ℕ} {c : Change} {images : List ℕ} {k : ℕ} {d : List ℕ
   pub pass-ready : Ready s c images d prev
   pass-ready = ready (a .sketch) prev prev-inside (omega (arith, a .few))
 
-  module _ {r₁ : Change} {images₁ : List ℕ} (e₁ : Edited s c images prev (λ b. sets b 496 (le32 next)) r₁ images₁) where
+  module _ {r₁ : Change} {images₁ : List ℕ}
+      (e₁ : Edited s c images prev (λ b. sets b 496 (le32 next)) r₁ images₁) where
     pub back-ready : Linkable s r₁ images₁ next (setBlock d prev (sets (block d prev) 496 (le32 next))) (suc n)
     back-ready =
         record {

@@ -23,7 +23,7 @@ use Rattle.image.specs.FrameCut.{frees-none}
 use Rattle.image.specs.FrameFreed.{freed-map}
 use Rattle.image.specs.FrameMeta.{thin-free}
 use Rattle.removal.specs.declared.Freed.{Freed}
-use Rattle.removal.specs.Freeing.{freedAt, clears, lowers, Below}
+use Rattle.removal.specs.Freeing.{freedIf, freedAt, clears, lowers, Below}
 use Rattle.removal.specs.Ending.{fieldsAfter}
 use Rattle.removal.specs.PairLaws.{pair-at}
 use Rattle.removal.specs.CutLaws.{freed-some}
@@ -40,8 +40,7 @@ module _ (x : Index) (l : Laid x) (b : ℕ) (fits : b < length (x .chains)) (p :
   cut-bits i = go (freesAt x b p) refl
     where
       go : (t : Bool) → freesAt x b p ≡ t → mapBit (cut p b x) i
-          ≡ clears (cond t (Freed.Bit (getD (chain x b .more) (morePlace p (chain x b .more)) noPage .bit)) Freed.Nothing)
-          (mapBit x) i
+          ≡ clears (freedIf t (chain x b .more) p) (mapBit x) i
       go true e = freed-map x l b fits p once e i
       go false e = ap (λ (f : Bool). b2n (not f)) (thin-free x l b fits p once e i)
 
@@ -52,9 +51,10 @@ module _ (x : Index) (l : Laid x) (b : ℕ) (fits : b < length (x .chains)) (p :
       go : (t : Bool) → any (is p) (entriesAt x b) ≡ t → t ≡ true
       go true q = refl
       go false q =
+          let gs = chain x b .more in
           let f : freesAt x b p ≡ false =
-          frees-none p (chain x b .more)
-          (omega (arith, any-no (is p) (entriesAt x b) q, tally-append (is p) (chain x b .first) (onPages (chain x b .more)))) in
+          frees-none p gs
+          (omega (arith, any-no (is p) (entriesAt x b) q, tally-append (is p) (chain x b .first) (onPages gs))) in
           never (cc)
 
   freed-made : (n : ℕ) → freedAt x b p ≡ Freed.Bit n → n < topBit x
@@ -64,7 +64,7 @@ module _ (x : Index) (l : Laid x) (b : ℕ) (fits : b < length (x .chains)) (p :
       let g = freed-some x b p n e in
       let at = pair-at p b (chain x b) once (freed-stands g) in
       let made = page-made x l b (morePlace p gs) (omega (arith, at .inside, at .over g)) in
-      let q : Freed.Bit i ≡ Freed.Bit n = sym (ap (λ (t : Bool). cond t (Freed.Bit i) Freed.Nothing) g) ∙ e in
+      let q : Freed.Bit i ≡ Freed.Bit n = sym (ap (λ (t : Bool). freedIf t gs p) g) ∙ e in
       let r : i ≡ n = cc in
       omega (arith, made .1)
 
@@ -76,7 +76,8 @@ module _ (x : Index) (l : Laid x) (b : ℕ) (fits : b < length (x .chains)) (p :
       go Freed.Nothing e = tt
 
   pub cut-free : firstFree (cut p b x) ≡ lowers (freedAt x b p) (firstFree x)
-  cut-free = first-freed x (cut p b x) l (cut-laid x l b fits p) (unfold cut in refl) (freedAt x b p) cut-bits freed-made
+  cut-free =
+      first-freed x (cut p b x) l (cut-laid x l b fits p) (unfold cut in refl) (freedAt x b p) cut-bits freed-made
 
   pub cut-meta : metaOf (cut p b x) ≡ fieldsAfter (metaOf x) (count (cut p b x)) (firstFree (cut p b x))
   unfolding metaOf cut

@@ -1,10 +1,9 @@
 -- A cut of a pair that does not stand in the chain changes nothing.
 use mathlib.Core.Path.{_≡_, sym, ap, _∙_}
-use mathlib.Core.Bool.{Bool, false, cond}
+use mathlib.Core.Bool.{Bool, false}
 use mathlib.Core.List.{List}
 use Prim.Native.Nat.{ℕ, _+_}
 use native.Mathlib.Omega.{arith}
-use lib.ListN.{getD}
 use lib.Seq.{set-getD}
 use Rattle.lists.specs.Lists.{any, tally}
 use Rattle.lists.specs.ListsLaws.{tally-append, any-no}
@@ -13,11 +12,9 @@ use Rattle.page.specs.Pair.{is}
 use Rattle.model.specs.Index.{Chain, Index, noChain, onPages, chain, entriesAt, setChain}
 use Rattle.model.specs.Pages.{without, cut}
 use Rattle.model.specs.WellFormed.{Laid}
-use Rattle.image.specs.Frame.{morePlace}
-use Rattle.image.specs.FrameImages.{noPage}
 use Rattle.image.specs.FrameCut.{thin-none, pages-none, frees-none}
 use Rattle.removal.specs.declared.Freed.{Freed}
-use Rattle.removal.specs.Freeing.{freedAt}
+use Rattle.removal.specs.Freeing.{freedIf, freedAt}
 
 module _ (x : Index) (l : Laid x) (b : ℕ) (p : Pair) (none : any (is p) (entriesAt x b) ≡ false) where
   parts : tally (is p) (chain x b .first) + tally (is p) (onPages (chain x b .more)) ≡ 0
@@ -42,5 +39,5 @@ module _ (x : Index) (l : Laid x) (b : ℕ) (p : Pair) (none : any (is p) (entri
   pub freed-nothing : Freed.Nothing ≡ freedAt x b p
   freed-nothing =
       let gs = chain x b .more in
-      sym (ap (λ (e : Bool). cond e (Freed.Bit (getD gs (morePlace p gs) noPage .bit)) Freed.Nothing)
+      sym (ap (λ (e : Bool). freedIf e gs p)
       (frees-none p gs (omega (arith, parts))))

@@ -3,17 +3,17 @@ use mathlib.Core.Path.{_≡_, sym, ap, _∙_, subst}
 use mathlib.Core.List.{List}
 use Prim.Native.Nat.{ℕ, suc, _≤_}
 use native.Mathlib.Omega.{arith}
-use lib.ListN.{length, getD, take, length-take}
+use lib.ListN.{getD, take}
 use Rattle.lists.specs.Block.{block}
 use Rattle.address.specs.Address.{point, bitBlock}
 use Rattle.address.specs.Role.{SparesOk, roleOf}
 use Rattle.address.specs.AgreeLaws.{role-same, bit-same, spares-front, spares-wider}
 use Rattle.model.specs.Pages.{firstFree}
 use Rattle.model.specs.Calls.{maxBlocks}
+use Rattle.model.specs.BoundLaws.{laid-point}
 use Rattle.image.specs.declared.Meta.{Meta}
 use Rattle.image.specs.Layout.{metaOf}
-use Rattle.image.specs.Decode.{readMeta, pointAt, decode}
-use Rattle.image.specs.MetaLaws.{length-wordsAt}
+use Rattle.image.specs.Decode.{pointAt, decode}
 use Rattle.image.specs.Frame.{mapBlock}
 use Rattle.view.specs.Reads.{Reads}
 use Rattle.view.specs.ReadsLaws.{reads-laid, reads-meta, reads-max}
@@ -36,29 +36,13 @@ module _ {s : List ℕ} {m : Meta} (r : Reads s m) where
   reads-spare i h =
       sym (spares-front (m .spares) (point (decode s .maxBucket)) i h) ∙ ap (λ (sp : List ℕ). getD sp i 0) spares-are
 
-  sixteen : length (m .spares) ≡ 16
-  unfolding readMeta
-  sixteen = ap (λ (n : Meta). length (n .spares)) (r .meta) ∙ length-wordsAt (block s 0) 40 16
-
-  low : m .point ≤ 15
-  low =
-      let n = suc (point (decode s .maxBucket)) in
-      omega (
-        arith,
-        reads-point,
-        reads-laid r .spares .points,
-        ap length spares-are,
-        length-take n (m .spares),
-        sixteen,
-      )
-
   pub reads-addressed : Addressed maxBlocks m
   reads-addressed =
       let l = reads-laid r in
       record {
         two = omega (arith, reads-max r, l .two);
         point = reads-point ∙ ap point (sym (reads-max r));
-        low = low;
+        low = omega (arith, reads-point, laid-point (decode s) l);
         spares =
             spares-wider (take (suc (m .point)) (m .spares)) (m .point) (decode s .size) maxBlocks (l .size)
             (subst (λ (i : ℕ). SparesOk (take (suc i) (m .spares)) i (decode s .size)) (sym reads-point)

@@ -82,4 +82,5 @@ first-freed x y l m top f bits small =
         (omega arith) 0 2048 (omega arith) (omega (arith, top-small x l))
     go Freed.Nothing b s =
         ap (λ (o : Option ℕ). Option·getD o (topBit x))
-        (find-same _ _ 0 2048 2048 (omega arith) (λ k i h. ap (λ (v : ℕ). eqb v 0) (b k)) (λ k i h. absurd (omega arith)))
+        (find-same _ _ 0 2048 2048 (omega arith) (λ k i h. ap (λ (v : ℕ). eqb v 0) (b k))
+        (λ k i h. absurd (omega arith)))

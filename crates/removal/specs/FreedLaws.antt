@@ -45,6 +45,9 @@ module _ {s : List ℕ} {m : Meta} {c : Change} {images : List ℕ} {k slot n b 
   inside : suc (morePlace p (chain x b .more)) ≤ length (chain x b .more)
   inside = omega (arith, stands-at h .over goes, stands-at h .inside)
 
+  low : morePlace p (chain x b .more) ≤ length (chain x b .more)
+  low = omega (arith, inside)
+
   prev-is : prevAt (block s k) ≡ pageBlock x b (morePlace p (chain x b .more))
   unfolding pageWith
   prev-is =
@@ -68,12 +71,15 @@ module _ {s : List ℕ} {m : Meta} {c : Change} {images : List ℕ} {k slot n b 
         sketch = f .sketches .sketch;
         few = f .few;
         inside = block-within h;
-        before = omega (arith, prev-is, page-within f j (omega (arith, inside)));
-        after = λ q. omega (arith, next-is, page-within f (suc (suc j)) (page-link f (suc (suc j)) (λ e. q (next-is ∙ e))));
+        before = omega (arith, prev-is, page-within f j low);
+        after =
+            λ q.
+            let i : ℕ = suc (suc j) in
+            omega (arith, next-is, page-within f i (page-link f i (λ e. q (next-is ∙ e))));
         apart = (
-          (λ e. page-apart f j (suc j) (omega (arith, inside)) (λ q. omega arith) (sym prev-is ∙ e ∙ block-freed)),
+          (λ e. page-apart f j (suc j) low (λ q. omega arith) (sym prev-is ∙ e ∙ block-freed)),
           (λ e. page-apart f (suc j) (suc (suc j)) inside (λ q. omega arith) (sym block-freed ∙ sym e ∙ next-is)),
-          (λ e. page-apart f j (suc (suc j)) (omega (arith, inside)) (λ q. omega arith) (sym prev-is ∙ sym e ∙ next-is)),
+          (λ e. page-apart f j (suc (suc j)) low (λ q. omega arith) (sym prev-is ∙ sym e ∙ next-is)),
         );
       }
 
@@ -87,11 +93,10 @@ module _ {s : List ℕ} {m : Meta} {c : Change} {images : List ℕ} {k slot n b 
         ≡ encodeBlock (cut p b x) (pageBlock x b (morePlace p (chain x b .more)))
     unfolding pageWith
     before-shown =
-        let l : j ≤ length (chain x b .more) = omega (arith, inside) in
         ap sealed
         (ap (block (g .d′)) (sym prev-is) ∙ g .before
         ∙ (λ t. sets (block (f .sketches .d) (prev-is t)) 496 (le32 (next-is t))))
-        ∙ shaped-sealed (full j l) (shaped-next (full j l) (draft-page f j l) (pageBlock x b (suc (suc j))))
+        ∙ shaped-sealed (full j low) (shaped-next (full j low) (draft-page f j low) (pageBlock x b (suc (suc j))))
         ∙ sym (before-image x (f .like .laid) b (bucket-fits f) p (f .once) goes)
 
     here-shown : sealed (block (g .d′) (pageBlock x b (suc (morePlace p (chain x b .more)))))
@@ -124,7 +129,8 @@ module _ {s : List ℕ} {m : Meta} {c : Change} {images : List ℕ} {k slot n b 
         let zero = off 0 (omega (arith, block-within h)) (page-no-meta f) in
         let map = off (mapBlock x) (map-within f) (page-no-map f) in
         shows-cut f true goes (g .d′)
-        (λ i l a. g .rest i l (λ q. a .1 .0 (q ∙ block-freed)) (λ q. a .0 (q ∙ prev-is)) (λ q. a .1 .1 .0 (q ∙ next-is)))
+        (λ i l a.
+        g .rest i l (λ q. a .1 .0 (q ∙ block-freed)) (λ q. a .0 (q ∙ prev-is)) (λ q. a .1 .1 .0 (q ∙ next-is)))
         ((λ l. before-shown), ((λ l. here-shown), ((λ l. after-shown (page-in f (suc (suc j)) l)), tt)))
         (zero j, (zero (suc j), (zero (suc (suc j)), tt)))
         (map j, (map (suc j), (map (suc (suc j)), tt)))

@@ -1,7 +1,7 @@
 -- The overflow page that a cut leaves empty: its bit, and the blocks that change where it is freed.
 use mathlib.Core.Path.{_≡_}
 use mathlib.Core.Logic.{_≢_}
-use mathlib.Core.Bool.{cond}
+use mathlib.Core.Bool.{Bool, cond}
 use mathlib.Core.List.{List, _++_}
 use Prim.Native.Nat.{ℕ, _+_, _≤_, _<_, min}
 use lib.Dec.{eqb}
@@ -13,7 +13,7 @@ use Rattle.address.specs.Role.{Role, meta, bucketPage, bitPage, unmade}
 use Rattle.page.specs.declared.Pair.{Pair}
 use Rattle.store.specs.declared.Change.{Change}
 use Rattle.store.specs.Store.{prevAt, nextAt}
-use Rattle.model.specs.Index.{Index, chain}
+use Rattle.model.specs.Index.{Page, Index, chain}
 use Rattle.image.specs.Layout.{noLink}
 use Rattle.image.specs.Frame.{morePlace, freesAt}
 use Rattle.image.specs.FrameImages.{noPage}
@@ -29,11 +29,13 @@ emptied (bucketPage b) n = Freed.Nothing
 emptied (bitPage i) n = cond (eqb n 1) (Freed.Bit i) Freed.Nothing
 emptied unmade n = Freed.Nothing
 
+-- that of the first overflow page with the pair, if that is left empty
+abbrev pub freedIf : (empty : Bool) → List Page → Pair → Freed
+freedIf empty gs p = cond empty (Freed.Bit (getD gs (morePlace p gs) noPage .bit)) Freed.Nothing
+
 -- that of the page which the pair leaves empty in bucket b's chain
 abbrev pub freedAt : Index → (b : ℕ) → Pair → Freed
-freedAt x b p =
-    let gs = chain x b .more in
-    cond (freesAt x b p) (Freed.Bit (getD gs (morePlace p gs) noPage .bit)) Freed.Nothing
+freedAt x b p = freedIf (freesAt x b p) (chain x b .more) p
 
 -- "its bit set to 0"
 abbrev pub clears : Freed → (ℕ → ℕ) → ℕ → ℕ

@@ -1,18 +1,18 @@
 -- Where a pair stands in a chain: its page, and whether that is left empty without it.
 use mathlib.Core.Path.{_≡_, refl, sym, ap, _∙_}
 use mathlib.Core.Bool.{Bool, true, false, cond, not, _&&_, _||_}
-use mathlib.Core.List.{List, [], _∷_, _++_, map}
+use mathlib.Core.List.{List, [], _∷_, _++_}
 use Prim.Native.Nat.{ℕ, zero, suc, _+_, _≤_, _<_}
 use native.Mathlib.Omega.{arith}
 use borrow.Author.Tests.{ltb-true, lt-ltb, ne-eqb}
 use lib.Dec.{eqb, ltb}
 use lib.ListN.{length, getD}
-use Rattle.lists.specs.Lists.{any, tally, Each}
+use Rattle.lists.specs.Lists.{any, tally}
 use Rattle.lists.specs.ListsLaws.{tally-append, any-no, any-yes, and-left, and-right}
 use Rattle.address.specs.Role.{Role, bucketPage, bitPage}
 use Rattle.page.specs.declared.Pair.{Pair}
 use Rattle.page.specs.declared.Entry.{Entry}
-use Rattle.page.specs.Pair.{is, ascending}
+use Rattle.page.specs.Pair.{is}
 use Rattle.page.specs.Entries.{placeOf, removeAt}
 use Rattle.page.specs.SublistLaws.{each-getD}
 use Rattle.page.specs.PlaceLaws.{place-any, removeAt-keep}
@@ -25,8 +25,7 @@ use Rattle.image.specs.Frame.{entriesAfter, placeEntries, onPage, morePlace, pa
 use Rattle.image.specs.FrameImages.{noPage}
 use Rattle.image.specs.FrameLists.{getD-map}
 use Rattle.image.specs.FrameCut.{frees-none}
-use Rattle.removal.specs.declared.Freed.{Freed}
-use Rattle.removal.specs.Freeing.{emptied}
+use Rattle.removal.specs.Freeing.{emptied, freedIf}
 
 -- ---- in a page
 
@@ -108,8 +107,7 @@ placeRole b c (suc i) = bitPage (getD (c .more) i noPage .bit)
 pub record PairAt (p : Pair) (b : ℕ) (c : Chain) (i : ℕ) : Type 0 where
   pub inside : i ≤ length (c .more)
   pub has : any (is p) (placeEntries c i) ≡ true
-  pub empties : emptied (placeRole b c i) (length (placeEntries c i))
-      ≡ cond (frees p (c .more)) (Freed.Bit (getD (c .more) (morePlace p (c .more)) noPage .bit)) Freed.Nothing
+  pub empties : emptied (placeRole b c i) (length (placeEntries c i)) ≡ freedIf (frees p (c .more)) (c .more) p
   pub over : frees p (c .more) ≡ true → i ≡ suc (morePlace p (c .more))
 
 pub pair-at : (p : Pair) (b : ℕ) (c : Chain) → tally (is p) (entriesIn c) ≤ 1 → any (is p) (entriesIn c) ≡ true
@@ -137,7 +135,7 @@ pair-at p b c once stands = go (any (is p) (c .first)) refl
           inside = r .inside;
           has = r .has;
           empties =
-              ap (λ (f : Bool). cond f (Freed.Bit (getD (c .more) (morePlace p (c .more)) noPage .bit)) Freed.Nothing)
+              ap (λ (f : Bool). freedIf f (c .more) p)
               (sym (frees-more p (c .more) (omega (arith, split)) l));
           over = λ h. refl;
         }

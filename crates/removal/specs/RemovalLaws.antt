@@ -3,7 +3,7 @@ use mathlib.Core.Path.{_≡_, refl, sym, ap, ap₂, _∙_, subst, subst₂}
 use mathlib.Core.Logic.{_≢_}
 use mathlib.Core.Bool.{Bool, true, false}
 use mathlib.Core.List.{List}
-use Prim.Native.Nat.{ℕ, suc, _-_, _≤_}
+use Prim.Native.Nat.{ℕ, _-_, _≤_}
 use native.Mathlib.Omega.{arith}
 use lib.Dec.{eqb}
 use Rattle.lists.specs.ListsLaws.{eqb-eq}
@@ -14,7 +14,7 @@ use Rattle.model.specs.declared.Answer.{Answer}
 use Rattle.model.specs.Index.{Job, idle, copying, clearing, Index, bucket, newBucket, oldBucket}
 use Rattle.model.specs.Pages.{cut}
 use Rattle.model.specs.Held.{held, count}
-use Rattle.model.specs.Calls.{pairOk, Result, done, refused, cutHeld, removeIn, remove}
+use Rattle.model.specs.Calls.{pairOk, Result, done, cutHeld, removeIn, remove}
 use Rattle.model.specs.WellFormed.{WF}
 use Rattle.model.specs.HeldLaws.{old-new}
 use Rattle.model.specs.RemoveLaws.{remove-wf}
@@ -38,7 +38,8 @@ module _ (x : Index) (p : Pair) where
   unfolding sourcesOf
   cut-home b e = go (x .job) (eqb (bucket x p) (newBucket x)) e
     where
-      go : (j : Job) (t : Bool) → sourcesIn j (oldBucket x) (bucket x p) t ≡ Sources.Home b → cutHeld j x p t ≡ cut p b x
+      go : (j : Job) (t : Bool) → sourcesIn j (oldBucket x) (bucket x p) t ≡ Sources.Home b
+          → cutHeld j x p t ≡ cut p b x
       go idle t e = let q : bucket x p ≡ b = cc in ap (λ (a : ℕ). cut p a x) q
       go clearing t e = let q : bucket x p ≡ b = cc in ap (λ (a : ℕ). cut p a x) q
       go copying true e = never (cc)
@@ -64,7 +65,8 @@ module _ {s : List ℕ} {m : Meta} (r : Reads s m) (p : Pair) (ok : pairOk p ≡
   x = decode s
 
   removed : held (decode s) p ≡ true
-      → remove (decode s) p ≡ done (cutHeld (decode s .job) (decode s) p (eqb (bucket (decode s) p) (newBucket (decode s))))
+      → remove (decode s) p
+      ≡ done (cutHeld (decode s .job) (decode s) p (eqb (bucket (decode s) p) (newBucket (decode s))))
   unfolding remove
   removed h = ap₂ (λ (a b : Bool). removeIn a b x p) ok h
 

@@ -1,12 +1,12 @@
 -- The pages of a chain as a draft shows them and as the store has them.
-use mathlib.Core.Path.{_≡_, refl, sym, ap, _∙_, subst}
+use mathlib.Core.Path.{_≡_, sym, ap, _∙_, subst}
 use mathlib.Core.Logic.{_≢_, ⊎-elim}
 use mathlib.Core.Bool.{Bool, true, false, cond}
 use mathlib.Core.List.{List, [], _∷_, _++_, append-assoc}
-use Prim.Native.Nat.{ℕ, zero, suc, _+_, _*_, _^_, _≤_, _<_}
+use Prim.Native.Nat.{ℕ, suc, _+_, _^_, _≤_, _<_}
 use native.Mathlib.Decide.{decLe}
 use native.Mathlib.Omega.{arith}
-use lib.ListN.{length, getD, take, drop, length-append, length-drop, length-map, take-append-drop}
+use lib.ListN.{length, drop, length-append, length-drop, length-map, take-append-drop}
 use lib.ListN.{List·getD-eq-default}
 use lib.Seq.{take-at}
 use Rattle.lists.specs.Lists.{any, Each}
@@ -59,7 +59,9 @@ shaped-of {l} front prev next bucket flags full whole e =
       whole =
           sym (take-append-drop 508 l)
           ∙ ap (λ (a : List ℕ). a ++ drop 508 l)
-          (sym (covered-sealed l (omega arith)) ∙ ap covered (e ∙ parts ∙ sym (append-assoc front t _)) ∙ take-at (front ++ t) _ 508 n)
+          (sym (covered-sealed l (omega arith))
+          ∙ ap covered (e ∙ parts ∙ sym (append-assoc front t _))
+          ∙ take-at (front ++ t) _ 508 n)
           ∙ append-assoc front t (drop 508 l);
     }
 
@@ -141,7 +143,8 @@ module _ {s : List ℕ} {m : Meta} {c : Change} {images : List ℕ} {n b : ℕ} 
         let w = decode s in
         let j : i ≤ length (chain w b .more) =
         subst (λ (e : Chain). i ≤ length (e .more)) (f .like .chain) h in
-        let u : pageBlock w b i < w .size = omega (arith, like-block (f .like) i, page-within, reads-size (f .reads)) in
+        let u : pageBlock w b i < w .size =
+        omega (arith, like-block (f .like) i, page-within, reads-size (f .reads)) in
         ap (block s) (sym (like-block (f .like) i))
         ∙ block-is (f .reads) (pageBlock w b i) u
         ∙ page-image w (reads-laid (f .reads)) b i (omega (arith, f .made, reads-max (f .reads))) j
@@ -156,7 +159,8 @@ module _ {s : List ℕ} {m : Meta} {c : Change} {images : List ℕ} {n b : ℕ} 
     pub draft-page : ShapedAt x b i (block (f .sketches .d) (pageBlock x b i))
     unfolding pageWith
     draft-page =
-        shaped-of (encodePage (pageEntries x b i) []) _ (pageBlock x b (suc i)) b _ (draft-block (pageBlock x b i) page-within)
+        shaped-of (encodePage (pageEntries x b i) []) _ (pageBlock x b (suc i)) b _
+        (draft-block (pageBlock x b i) page-within)
         (length-pageFront (pageEntries x b i) page-small)
         (f .sketches .shows .pages (pageBlock x b i) (omega (arith, page-within, size-is)) page-no-meta page-no-map
         ∙ page-image x (f .like .laid) b i bucket-low h)
@@ -200,7 +204,8 @@ module _ {s : List ℕ} {m : Meta} {c : Change} {images : List ℕ} {n b : ℕ} 
   -- ---- a draft d′ that differs in the blocks of the pair alone, which are those of the index without it
 
   module _ (e : Bool) (frees : freesAt x b p ≡ e) (d′ : List ℕ)
-      (rest : (j : ℕ) → j < blocks s → Apart j (pairBlocks e x b (chain x b) p) → block d′ j ≡ block (f .sketches .d) j)
+      (rest : (j : ℕ) → j < blocks s → Apart j (pairBlocks e x b (chain x b) p)
+      → block d′ j ≡ block (f .sketches .d) j)
     where
       no-map : (e : Bool) (j : ℕ) → j ≢ mapBlock x → Apart j (mapBlocks e x)
       no-map true j ne = (ne, tt)

@@ -17,9 +17,9 @@ use Rattle.model.specs.WellFormed.{Laid}
 use Rattle.model.specs.LaidLaws.{cut-laid}
 use Rattle.model.specs.StandLaws.{chain-there}
 use Rattle.image.specs.declared.Meta.{Meta}
-use Rattle.image.specs.Layout.{metaOf, mapBit, encodeBlock}
+use Rattle.image.specs.Layout.{mapBit}
 use Rattle.image.specs.Decode.{decode}
-use Rattle.image.specs.Frame.{Apart, mapBlock, cutBlocks}
+use Rattle.image.specs.Frame.{cutBlocks}
 use Rattle.image.specs.FrameRemove.{stands-once, frame-cut}
 use Rattle.view.specs.Reads.{Reads}
 use Rattle.view.specs.ReadsLaws.{reads-laid, reads-size, reads-max, reads-meta}
@@ -28,7 +28,7 @@ use Rattle.plan.specs.SketchLaws.{sketch-none}
 use Rattle.plan.specs.StoreLaws.{block-is, store-sealed}
 use Rattle.removal.specs.declared.Freed.{Freed}
 use Rattle.removal.specs.Freeing.{freedAt, clears, lowers, Below}
-use Rattle.removal.specs.Cutting.{Sketches, Like, Findable}
+use Rattle.removal.specs.Cutting.{Sketches, Findable}
 use Rattle.removal.specs.Ending.{fieldsAfter, Ending}
 use Rattle.removal.specs.FieldLaws.{reads-free}
 use Rattle.removal.specs.ShowLaws.{sketch-wider}

@@ -55,7 +55,8 @@ fn fields_after(m: Meta, held: u32, free: u32) -> Meta
     }
 }
 
-// Ends a change that cut pairs out of pages: frees the bits, and writes the count of held pairs and the first free bit.
+// Ends a change that cut pairs out of pages: frees the bits, and writes the count of held pairs and the first free
+// bit.
 pub fn end_cut(
     store: &[u8],
     m: Meta,

@@ -33,8 +33,9 @@ cut-entry-requires c κs =
 
 ending : (c : tie.After-cut-entry)
     → let s = c .before .before .before .before .before in
-    Ending (s .args .store .now) (s .args .m) (c .cut-entry .result .change) (c .cut-entry .last .1 .1 .1 .0) (s .args .held)
-    (c .cut-entry .result .freed) Freed.Nothing (cut (s .args .pair) (s .args .b) (decode (s .args .store .now)))
+    Ending (s .args .store .now) (s .args .m) (c .cut-entry .result .change) (c .cut-entry .last .1 .1 .1 .0)
+    (s .args .held) (c .cut-entry .result .freed) Freed.Nothing
+    (cut (s .args .pair) (s .args .b) (decode (s .args .store .now)))
 ending c =
     let s = c .before .before .before .before .before in
     let a = s .args in

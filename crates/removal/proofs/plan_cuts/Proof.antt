@@ -41,8 +41,8 @@ cut-in-requires-2 c κs = (3, _, second (c .before .before .before))
 ending : (c : tie.After-cut-in2)
     → let f = c .before .before .before .before in
     let s = f .before .before .before .before .before in
-    Ending (s .args .store .now) (s .args .m) (c .cut-in2 .result .change) (c .cut-in2 .last .1 .1 .1 .0) (s .args .held)
-    (f .cut-in .result .freed) (c .cut-in2 .result .freed)
+    Ending (s .args .store .now) (s .args .m) (c .cut-in2 .result .change) (c .cut-in2 .last .1 .1 .1 .0)
+    (s .args .held) (f .cut-in .result .freed) (c .cut-in2 .result .freed)
     (cut (s .args .pair) (s .args .new) (cut (s .args .pair) (s .args .old) (decode (s .args .store .now))))
 ending c =
     let f = c .before .before .before .before in
@@ -51,8 +51,8 @@ ending c =
     let x = decode (a .store .now) in
     let u = f .cut-in .ensures 0 x (first (f .before .before)) in
     let v = c .cut-in2 .ensures 3 (cut (a .pair) (a .old) x) (second f) in
-    two-ending (s .pre .0 .0) (a .pair) (a .old) (a .new) (s .pre .1 .0 .1) (s .pre .1 .0 .0) (s .pre .1 .0 .2) (u .0) (v .0)
-    (v .1) (s .pre .1 .1)
+    two-ending (s .pre .0 .0) (a .pair) (a .old) (a .new) (s .pre .1 .0 .1) (s .pre .1 .0 .0) (s .pre .1 .0 .2)
+    (u .0) (v .0) (v .1) (s .pre .1 .1)
 
 end-cut-requires : tie.Need-end-cut-requires
 end-cut-requires c κs = (_, ending (c .before .before .before))

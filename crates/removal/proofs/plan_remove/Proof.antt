@@ -1,5 +1,4 @@
 use mathlib.Core.Path.{_≡_, sym, _∙_}
-use native.Mathlib.Omega.{arith}
 use borrow.Author.Needs.{needs}
 use Rattle.model.specs.Pages.{cut}
 use Rattle.model.specs.Calls.{done, remove}
@@ -60,7 +59,8 @@ home c =
     let w = c .before .before in
     let t = w .before .before .before in
     let s = t .before .before .before .before .before in
-    done-home (s .pre .0) (s .args .pair) (s .pre .2) _ _ (stands t) _ (sym (w .sources-of .ensures) ∙ c .sources .given .1)
+    done-home (s .pre .0) (s .args .pair) (s .pre .2) _ _ (stands t) _
+    (sym (w .sources-of .ensures) ∙ c .sources .given .1)
 
 plan-cut-requires : tie.Need-plan-cut-requires
 plan-cut-requires c κs =

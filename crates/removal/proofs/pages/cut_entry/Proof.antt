@@ -1,4 +1,4 @@
-use mathlib.Core.Path.{_≡_, sym, ap, _∙_}
+use mathlib.Core.Path.{_≡_, sym, _∙_}
 use Prim.Native.Nat.{ℕ}
 use native.Mathlib.Omega.{arith}
 use borrow.Author.Needs.{needs}
@@ -7,7 +7,8 @@ use Rattle.model.specs.Index.{Index}
 use Rattle.plan.specs.SketchLaws.{ready}
 use Rattle.removal.specs.Freeing.{freedAt}
 use Rattle.removal.specs.Cutting.{Cuttable}
-use Rattle.removal.specs.CutLaws.{block-within, emptied-here, held-here, sketches-thinned, freed-some, freed-none}
+use Rattle.removal.specs.CutLaws.{block-within, emptied-here, held-here, sketches-thinned}
+use Rattle.removal.specs.CutLaws.{freed-some, freed-none}
 use Rattle.removal.specs.FreedLaws.{freeable, sketches-freed}
 use Rattle.removal.proofs.pages.cut_entry.Statement.{statement}
 use Rattle.removal.proofs.pages.cut_entry.Tie as tie
@@ -34,7 +35,11 @@ free-page-requires c κs =
     let w = t .before .before in
     let a = w .before .before .before .pre in
     let h = a .4 in
-    (h .findable .sketches .d, a .0, freeable h (freed-some (a .3) (a .1) (a .2) _ (sym (freed-is w _ _ _ _ h) ∙ t .enum-told .given .1)))
+    let e = freed-is w (a .0) (a .1) (a .2) (a .3) h in (
+      h .findable .sketches .d,
+      a .0,
+      freeable h (freed-some (a .3) (a .1) (a .2) _ (sym e ∙ t .enum-told .given .1)),
+    )
 
 enum-told-2 : tie.Need-enum-told-2
 enum-told-2 c = search needs
@@ -44,7 +49,8 @@ remove-at-requires c κs =
     let t = c .before in
     let w = t .before .before in
     let h = w .before .before .before .pre .4 in
-    (h .findable .sketches .d, ready (h .findable .sketches .sketch) _ (block-within h) (omega (arith, h .findable .few)), held-here h)
+    let f = h .findable in
+    (f .sketches .d, ready (f .sketches .sketch) _ (block-within h) (omega (arith, f .few)), held-here h)
 
 same-length : tie.Need-same-length
 same-length c = search needs

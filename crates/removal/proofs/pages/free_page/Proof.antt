@@ -69,7 +69,8 @@ returns c d i a =
     let n = l .before .before .before .before in
     let w = n .before .before in
     let b = back-ready a (prev-is w) (next-is w) (n .put-next .ensures) in
-    freeing a (prev-is w) (next-is w) (n .put-next .ensures) (l .link-back .ensures _ (suc i) b) (e .clear-block .ensures)
+    freeing a (prev-is w) (next-is w) (n .put-next .ensures) (l .link-back .ensures _ (suc i) b)
+    (e .clear-block .ensures)
 
 pub free-page-spec : {M : Type 1} → statement M
 free-page-spec =

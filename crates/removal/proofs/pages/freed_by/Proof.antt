@@ -56,7 +56,8 @@ returns c =
     let s = c .before .before .before .before in
     let r = c .before .role-of in
     not-bit (roleOf (s .args .m .spares) (s .args .m .point) (s .args .k)) _
-    (subst (λ (t : BlockRole). OneOf (0 ∷ 1 ∷ 3 ∷ []) (Declared.tagOf block-role.the-type t)) (r .ensures) (c .match .keys2))
+    (subst (λ (t : BlockRole). OneOf (0 ∷ 1 ∷ 3 ∷ []) (Declared.tagOf block-role.the-type t)) (r .ensures)
+    (c .match .keys2))
 
 block-at-requires : tie.Need-block-at-requires
 block-at-requires c κs =
@@ -80,7 +81,8 @@ counted c =
     let g = c .before .before .before in
     let r = g .before .before in
     let a = r .before .before .before .args in
-    is-bit (roleOf (a .m .spares) (a .m .point) (a .k)) (g .role .given .0 .0) (u16At (block (a .store .now) (a .k)) 0) (sym (r .role-of .ensures) ∙ g .role .given .1)
+    is-bit (roleOf (a .m .spares) (a .m .point) (a .k)) (g .role .given .0 .0)
+    (u16At (block (a .store .now) (a .k)) 0) (sym (r .role-of .ensures) ∙ g .role .given .1)
     ∙ ap (emptied (bitPage (g .role .given .0 .0)))
     (sym (c .count-entries .ensures ∙ ap (λ (l : List ℕ). u16At l 0) (c .before .block-at .ensures)))
 
@@ -88,13 +90,15 @@ returns-2 : tie.Need-returns-2
 returns-2 c =
     let i = c .before .before .before .before .role .given .0 .0 in
     sym (counted (c .before)
-    ∙ ap (λ (e : Bool). cond e (Freed.Bit i) Freed.Nothing) (eq-eqb (c .before .count-entries .result) 1 (c .if1 .taken)))
+    ∙ ap (λ (e : Bool). cond e (Freed.Bit i) Freed.Nothing)
+    (eq-eqb (c .before .count-entries .result) 1 (c .if1 .taken)))
 
 returns-3 : tie.Need-returns-3
 returns-3 c =
     let i = c .before .before .before .before .role .given .0 .0 in
     sym (counted (c .before)
-    ∙ ap (λ (e : Bool). cond e (Freed.Bit i) Freed.Nothing) (ne-eqb (c .before .count-entries .result) 1 (c .if1 .left)))
+    ∙ ap (λ (e : Bool). cond e (Freed.Bit i) Freed.Nothing)
+    (ne-eqb (c .before .count-entries .result) 1 (c .if1 .left)))
 
 pub freed-by-spec : {M : Type 1} → statement M
 freed-by-spec =
