@@ -18,7 +18,7 @@ use Rattle.image.specs.Rules.{lowestDamaged, lowestBroken, judge, verdict}
 use Rattle.image.specs.Outcomes.{lengthOk, verdictOf}
 use Rattle.image.specs.FrameLists.{find-hit, find-pass}
 use Rattle.verify.specs.Tests.{brokenAs}
-use Rattle.verify.specs.LoopLaws.{run-turn, run-done}
+use Rattle.shape.specs.LoopLaws.{run-turn, run-done}
 
 module _ (s : List ℕ) where
   -- a store of legal length has a first block

@@ -1,10 +1,1 @@
-pub mod Fitting
-pub mod Bitmaps
-pub mod Merging
-pub mod Distinct
-pub mod Placing
-pub mod Chaining
-pub mod Paging
-pub mod Homing
-pub mod Counting
 pub mod Judging

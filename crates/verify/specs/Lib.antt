@@ -1,11 +1,1 @@
-pub mod Known
 pub mod Tests
-pub mod LoopLaws
-pub mod CommonLaws
-pub mod KnownLaws
-pub mod Roles
-pub mod SumLaws
-pub mod ChainedLaws
-pub mod Bits
-pub mod WalkedLaws
-pub mod Counts

@@ -1,46 +1,7 @@
--- What the parts of the tests answer.
-use mathlib.Core.Bool.{Bool, true, _&&_, _||_, Bool·beq}
-use mathlib.Core.List.{List}
+-- What the tests of the rules answer together.
 use mathlib.Core.Option.{Option, none, some}
 use Prim.Native.Nat.{ℕ}
-use lib.Dec.{ltb, eqb}
-use Rattle.lists.specs.Lists.{any, all}
-use Rattle.lists.specs.Block.{block}
-use Rattle.endian.specs.Endian.{u16At}
-use Rattle.page.specs.declared.Entry.{Entry}
-use Rattle.page.specs.Pair.{is}
-use Rattle.store.specs.Store.{prevAt, bucketAt}
-use Rattle.model.specs.declared.Phase.{Phase}
-use Rattle.model.specs.Index.{entriesAt}
 use Rattle.image.specs.declared.Verdict.{Verdict}
-use Rattle.image.specs.Decode.{decode}
-use Rattle.image.specs.Rules.{isOverflow}
-
--- rule 4: the chain of bucket b may go on from block k to block j
-abbrev pub linkOk : List ℕ → (b k j : ℕ) → Bool
-linkOk s b k j =
-    isOverflow s j
-    && (eqb (prevAt (block s j)) k && (eqb (bucketAt (block s j)) b && ltb 0 (u16At (block s j) 0)))
-
--- rule 5: some entry of one list has its pair in the other
-abbrev pub common : List Entry → List Entry → Bool
-common es fs = any (λ (e : Entry). any (is (e .pair)) fs) es
-
--- rule 7: an entry that maps to bucket h may stand in the chain of bucket b
-abbrev pub standsIn : Phase → (h b : ℕ) → Bool
-standsIn Phase.None h b = eqb h b
-standsIn (Phase.Copying old new) h b = eqb h b || (eqb b old && eqb h new)
-standsIn (Phase.Clearing old new) h b = eqb h b || (eqb b old && eqb h new)
-
--- rule 7: an entry of the new chain is marked moved exactly if the old chain has its pair
-abbrev pub markedBy : List Entry → Entry → Bool
-markedBy old e = Bool·beq (e .moved) (any (is (e .pair)) old)
-
--- while copying, so is each
-abbrev pub marksIn : List ℕ → Phase → Bool
-marksIn s Phase.None = true
-marksIn s (Phase.Copying old new) = all (markedBy (entriesAt (decode s) old)) (entriesAt (decode s) new)
-marksIn s (Phase.Clearing old new) = true
 
 -- the verdict on a store whose checks are right, by its lowest broken rule
 abbrev pub brokenAs : Option ℕ → Verdict

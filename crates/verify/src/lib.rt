@@ -1,30 +1,23 @@
-// What a store is: of bad length, damaged, not an index, or sound. One module a rule from rule 3 on, each proved equal
-// to the rule's definition under the rules before it.
-pub mod roles; // roles.rt: rule 3, each block against its role
-pub mod links; // links.rt: rule 4, chains link by link
-pub mod pages; // pages.rt: rule 5, pages, and no pair twice in a chain
-pub mod bits; // bits.rt: rule 6, the bitmap and first free
-pub mod places; // places.rt: rule 7, entries in their buckets
-pub mod counts; // counts.rt: rule 8, previous fields and the count
-
-use bits::check_bits;
-use counts::check_counts;
+// What a store is: of bad length, damaged, not an index, or sound. The rules one by one stand in the crates `meta` (1
+// and 2), `shape` (3, 4 and 6) and `entries` (5, 7 and 8).
+use entries::counts::check_counts;
+use entries::pages::check_pages;
+use entries::places::check_places;
 use image::Meta;
 use image::Verdict;
-use links::check_links;
 use meta::check_front;
 use meta::check_meta;
 use meta::read_meta;
-use pages::check_pages;
-use places::check_places;
-use roles::check_roles;
+use shape::bits::check_bits;
+use shape::links::check_links;
+use shape::roles::check_roles;
 use store::block_at;
 use store::check_block;
 ghost use mathlib.Core.Path.{_≡_};
 ghost use mathlib.Core.Bool.{true};
 ghost use Rattle.image.specs.Rules.{rule1, lowestBroken, verdict};
 ghost use Rattle.image.specs.Outcomes.{lengthOk, verdictOf, verifyOutcome};
-ghost use Rattle.verify.specs.Known.{Known2};
+ghost use Rattle.shape.specs.Known.{Known2};
 ghost use Rattle.verify.specs.Tests.{brokenAs};
 
 // Whether a store has a legal length: refusal 1.

@@ -3,7 +3,7 @@ use mathlib.Core.Bool.{true, false}
 use borrow.Author.Needs.{needs}
 use borrow.Author.Tests.{not-true, not-false}
 use Rattle.image.specs.Rules.{rule3, rule4, rule5, rule6, rule7, rule8, rules, lowestBroken}
-use Rattle.verify.specs.Known.{Known3, Known4, Known5}
+use Rattle.shape.specs.Known.{Known3, Known4, Known5}
 use Rattle.verify.proofs.judge_blocks.Statement.{statement}
 use Rattle.verify.proofs.judge_blocks.Tie as tie
 

@@ -1,0 +1,4 @@
+pub mod Tests
+pub mod CommonLaws
+pub mod WalkedLaws
+pub mod Counts

@@ -1,0 +1,105 @@
+use mathlib.Core.Path.{_≡_, sym, ap, _∙_}
+use Prim.Native.Nat.{ℕ, _+_, _-_, _≤_, _<_}
+use native.Mathlib.Omega.{arith}
+use borrow.Author.Tests.{not-true, not-false}
+use lib.Dec.{eqb}
+use Rattle.chain.specs.WithinLaws.{walked-some}
+use Rattle.image.specs.Decode.{maxAt}
+use Rattle.shape.specs.KnownLaws.{sized, max-is, max-small}
+use Rattle.shape.proofs.Chaining.{Linking, linking-start, linking-turn, linking-broken, linking-end, trail-few}
+use Rattle.shape.proofs.links.check_links.Statement.{statement}
+use Rattle.shape.proofs.links.check_links.Tie as tie
+
+abbrev Inv-loop : tie.InvT-loop
+Inv-loop store m max links₀ b₀ links b = Linking store links b
+
+abbrev μ-loop : tie.MeasureT-loop
+μ-loop store m max links₀ b₀ links b = max + 1 - b
+
+loop-holds : tie.Need-loop-holds Inv-loop μ-loop
+loop-holds c = linking-start (c .before .args .store .now)
+
+walk-bucket-requires : tie.Need-walk-bucket-requires Inv-loop μ-loop
+walk-bucket-requires c κs = (c .before .before .before .pre, c .loop-test .taken)
+
+check-chain-requires : tie.Need-check-chain-requires Inv-loop μ-loop
+check-chain-requires c κs = (c .before .before .before .before .pre, c .walk-bucket .ensures)
+
+returns : tie.Need-returns Inv-loop μ-loop
+returns c =
+    let h = c .before in
+    let l = h .before .before .before in
+    let s = l .before .before in
+    let k = s .pre in
+    sym
+    (linking-broken (s .args .store .now) (l .loop .links) (l .loop .b) (l .loop .inv) (omega (arith, h .before .before .loop-test .taken, max-is k))
+    (sym (h .check-chain .ensures) ∙ not-true (h .check-chain .result) (c .if1 .taken)))
+
+sub-links : tie.Need-sub-links Inv-loop μ-loop
+sub-links c = walked-some (c .before .before .before .walk-bucket .ensures)
+
+add-links : tie.Need-add-links Inv-loop μ-loop
+add-links c =
+    let e = c .before in
+    let h = e .before in
+    let w = h .before in
+    let l = w .before .before in
+    let s = l .before .before in
+    let k = s .pre in
+    let n = trail-few (s .args .store .now) (l .loop .b) (w .walk-bucket .result) (w .walk-bucket .ensures) (sized k) in
+    omega (arith, l .loop .inv .few, l .loop .inv .upto, n, max-small k)
+
+add-b : tie.Need-add-b Inv-loop μ-loop
+add-b c =
+    let e = c .before in
+    let h = e .before in
+    let w = h .before in
+    let l = w .before .before in
+    let s = l .before .before in
+    let k = s .pre in
+    omega (arith, w .before .loop-test .taken, max-is k, max-small k)
+
+loop-less : tie.Need-loop-less Inv-loop μ-loop
+loop-less c = omega (arith, c .before .before .before .before .loop-test .taken)
+
+loop-again : tie.Need-loop-again Inv-loop μ-loop
+loop-again c =
+    let e = c .before in
+    let h = e .before in
+    let w = h .before in
+    let l = w .before .before in
+    let s = l .before .before in
+    let k = s .pre in
+    linking-turn (s .args .store .now) (l .loop .links) (l .loop .b) (l .loop .inv)
+    (omega (arith, w .before .loop-test .taken, max-is k)) (w .walk-bucket .result) (w .walk-bucket .ensures) (sized k)
+    (sym (h .check-chain .ensures) ∙ not-false (h .check-chain .result) (e .if1 .left))
+
+count-overflow-requires : tie.Need-count-overflow-requires Inv-loop μ-loop
+count-overflow-requires c κs = c .before .before .before .pre
+
+returns-2 : tie.Need-returns-2 Inv-loop μ-loop
+returns-2 c =
+    let l = c .before .before in
+    let s = l .before .before in
+    let k = s .pre in
+    sym
+    (linking-end (s .args .store .now) (l .loop .links) (l .loop .b) (l .loop .inv) k (omega (arith, c .before .loop-test .left, max-is k))
+    ∙ ap (eqb (l .loop .links)) (sym (c .count-overflow .ensures)))
+
+pub check-links-spec : {M : Type 1} → statement M
+check-links-spec =
+    tie.close
+    (tie.spec
+    Inv-loop
+    μ-loop
+    loop-holds
+    walk-bucket-requires
+    check-chain-requires
+    returns
+    sub-links
+    add-links
+    add-b
+    loop-less
+    loop-again
+    count-overflow-requires
+    returns-2)

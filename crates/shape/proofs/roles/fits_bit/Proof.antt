@@ -1,0 +1,69 @@
+use mathlib.Core.Path.{_≡_, sym, ap, _∙_}
+use Prim.Native.Nat.{ℕ}
+use borrow.Author.Tests.{eq-eqb, ne-eqb}
+use lib.Dec.{leb, eqb}
+use Rattle.store.specs.Store.{bucketAt, flagsAt, idAt}
+use Rattle.shape.proofs.Fitting.{fits-first, fits-later}
+use borrow.Author.Needs.{needs}
+use Rattle.shape.proofs.roles.fits_bit.Statement.{statement}
+use Rattle.shape.proofs.roles.fits_bit.Tie as tie
+
+is-unlinked-requires : tie.Need-is-unlinked-requires
+is-unlinked-requires c κs = search needs
+
+returns : tie.Need-returns
+returns c =
+    let a = c .before .before .before .args in
+    c .is-unlinked .ensures ∙ sym (fits-first (a .max) (a .part .now) (a .n) (c .before .if1 .taken))
+
+flags-of-requires : tie.Need-flags-of-requires
+flags-of-requires c κs = search needs
+
+is-unused-requires : tie.Need-is-unused-requires
+is-unused-requires c κs = search needs
+
+returns-2 : tie.Need-returns-2
+returns-2 c =
+    let t = c .before in
+    let e₁ = t .before .before in
+    let a = e₁ .before .before .args in
+    let odd = ne-eqb (flagsAt (a .part .now)) 1 (λ e. t .if2 .taken (t .before .flags-of .ensures ∙ e)) in
+    c .is-unused .ensures ∙ sym (fits-later (a .max) (a .part .now) (a .n) (e₁ .if1 .left) ∙ rw odd)
+
+id-of-requires : tie.Need-id-of-requires
+id-of-requires c κs = search needs
+
+returns-3 : tie.Need-returns-3
+returns-3 c =
+    let e₂ = c .before .before in
+    let e₁ = e₂ .before .before in
+    let a = e₁ .before .before .args in
+    let one = eq-eqb (flagsAt (a .part .now)) 1 (cc) in
+    let odd = ne-eqb (idAt (a .part .now)) 0xFF80 (λ e. c .if3 .taken (c .before .id-of .ensures ∙ e)) in
+    sym (fits-later (a .max) (a .part .now) (a .n) (e₁ .if1 .left) ∙ rw (one, odd))
+
+bucket-of-requires : tie.Need-bucket-of-requires
+bucket-of-requires c κs = search needs
+
+returns-4 : tie.Need-returns-4
+returns-4 c =
+    let e₁ = c .before .before .before .before .before in
+    let a = e₁ .before .before .args in
+    let one = eq-eqb (flagsAt (a .part .now)) 1 (cc) in
+    let id = eq-eqb (idAt (a .part .now)) 0xFF80 (cc) in
+    ap (λ (x : ℕ). leb x (a .max)) (c .bucket-of .ensures)
+    ∙ sym (fits-later (a .max) (a .part .now) (a .n) (e₁ .if1 .left) ∙ rw (one, id))
+
+pub fits-bit-spec : {M : Type 1} → statement M
+fits-bit-spec =
+    tie.close
+    (tie.spec
+    is-unlinked-requires
+    returns
+    flags-of-requires
+    is-unused-requires
+    returns-2
+    id-of-requires
+    returns-3
+    bucket-of-requires
+    returns-4)

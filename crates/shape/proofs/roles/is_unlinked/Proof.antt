@@ -1,0 +1,74 @@
+use mathlib.Core.Path.{_≡_, ap, _∙_}
+use Prim.Native.Nat.{ℕ}
+use borrow.Author.Tests.{eq-eqb, ne-eqb}
+use lib.Dec.{eqb}
+use Rattle.store.specs.Store.{prevAt, nextAt, bucketAt, flagsAt, idAt}
+use Rattle.image.specs.Layout.{noLink}
+use Rattle.meta.specs.TurnLaws.{and-false}
+use borrow.Author.Needs.{needs}
+use Rattle.shape.proofs.roles.is_unlinked.Statement.{statement}
+use Rattle.shape.proofs.roles.is_unlinked.Tie as tie
+
+flags-of-requires : tie.Need-flags-of-requires
+flags-of-requires c κs = search needs
+
+returns : tie.Need-returns
+returns c =
+    let a = c .before .before .before .args in
+    simp (ne-eqb (flagsAt (a .part .now)) (a .flags) (λ e. c .if1 .taken (c .before .flags-of .ensures ∙ e)))
+
+id-of-requires : tie.Need-id-of-requires
+id-of-requires c κs = search needs
+
+returns-2 : tie.Need-returns-2
+returns-2 c =
+    let l = c .before .before .before .before .before .args .part .now in
+    simp (ne-eqb (idAt l) 0xFF80 (λ e. c .if2 .taken (c .before .id-of .ensures ∙ e)), and-false)
+
+prev-of-requires : tie.Need-prev-of-requires
+prev-of-requires c κs = search needs
+
+returns-3 : tie.Need-returns-3
+returns-3 c =
+    let l = c .before .before .before .before .before .before .before .args .part .now in
+    simp (ne-eqb (prevAt l) noLink (λ e. c .if3 .taken (c .before .prev-of .ensures ∙ e)), and-false)
+
+next-of-requires : tie.Need-next-of-requires
+next-of-requires c κs = search needs
+
+returns-4 : tie.Need-returns-4
+returns-4 c =
+    let l = c .before .before .before .before .before .before .before .before .before .args .part .now in
+    simp (ne-eqb (nextAt l) noLink (λ e. c .if4 .taken (c .before .next-of .ensures ∙ e)), and-false)
+
+bucket-of-requires : tie.Need-bucket-of-requires
+bucket-of-requires c κs = search needs
+
+returns-5 : tie.Need-returns-5
+returns-5 c =
+    let e₄ = c .before in
+    let e₃ = e₄ .before .before in
+    let e₂ = e₃ .before .before in
+    let e₁ = e₂ .before .before in
+    let a = e₁ .before .before .before .args in
+    let l = a .part .now in
+    let t₁ = eq-eqb (flagsAt l) (a .flags) (cc) in
+    let t₂ = eq-eqb (idAt l) 0xFF80 (cc) in
+    let t₃ = eq-eqb (prevAt l) noLink (cc) in
+    let t₄ = eq-eqb (nextAt l) noLink (cc) in
+    rw (t₁, t₂, t₃, t₄) (ap (λ (x : ℕ). eqb x noLink) (c .bucket-of .ensures))
+
+pub is-unlinked-spec : {M : Type 1} → statement M
+is-unlinked-spec =
+    tie.close
+    (tie.spec
+    flags-of-requires
+    returns
+    id-of-requires
+    returns-2
+    prev-of-requires
+    returns-3
+    next-of-requires
+    returns-4
+    bucket-of-requires
+    returns-5)

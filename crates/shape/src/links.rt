@@ -1,0 +1,101 @@
+// Rule 4: chains link by link, and each overflow page in one of them.
+use crate::roles::home_of;
+use crate::roles::is_overflow;
+use chain::Walk;
+use chain::links::next_block;
+use chain::links::walk_chain;
+use image::Meta;
+use page::slots::count_entries;
+use store::block_at;
+use store::bucket_of;
+use store::prev_of;
+ghost use mathlib.Core.Path.{_≡_};
+ghost use Prim.Native.Nat.{_≤_};
+ghost use Rattle.lists.specs.Lists.{tally, upFrom};
+ghost use Rattle.lists.specs.Block.{blocks};
+ghost use Rattle.image.specs.Decode.{blockOf};
+ghost use Rattle.image.specs.Rules.{isOverflow, rule4};
+ghost use Rattle.chain.specs.Walk.{Walked};
+ghost use Rattle.shape.specs.Known.{Known2};
+ghost use Rattle.shape.specs.Tests.{linkOk};
+ghost use Rattle.shape.specs.ChainedLaws.{chained};
+
+// The chain of bucket `b`.
+pub fn walk_bucket(store: &[u8], m: Meta, b: u32) -> Walk
+    requires { ⌜ (Known2 (now store) m) × (b ≤ m .max) ⌝ }
+    ensures { λ r. ⌜ Walked (now (store .entry)) (blockOf (now (store .entry)) b) r ⌝ }
+{
+    walk_chain(store, home_of(m, b))
+}
+
+// Whether the chain of bucket `b` may go on from block `k` to block `j`.
+fn check_link(store: &[u8], m: Meta, b: u32, k: u32, j: u32) -> bool
+    requires { ⌜ Known2 (now store) m ⌝ }
+    ensures { λ r. ⌜ r ≡ linkOk (now (store .entry)) b k j ⌝ }
+{
+    if !is_overflow(store, m, j) {
+        return false;
+    }
+    let part = block_at(store, j as usize);
+    if prev_of(part) != k {
+        return false;
+    }
+    if bucket_of(part) != b {
+        return false;
+    }
+    0 < count_entries(part)
+}
+
+// Whether the walk of bucket `b` is linked, and ends.
+fn check_chain(store: &[u8], m: Meta, b: u32, walk: Walk) -> bool
+    requires { ⌜ (Known2 (now store) m) × (Walked (now store) (blockOf (now store) b) walk) ⌝ }
+    ensures { λ r. ⌜ r ≡ chained (now (store .entry)) b ⌝ }
+{
+    let blocks = walk.blocks;
+    let count = walk.count;
+    let mut i = 0;
+    while i + 1 < count {
+        if !check_link(store, m, b, blocks[i], blocks[i + 1]) {
+            return false;
+        }
+        i += 1;
+    }
+    next_block(store, blocks[i]) == 0xFFFF_FFFF
+}
+
+// The number of overflow pages.
+fn count_overflow(store: &[u8], m: Meta) -> usize
+    requires { ⌜ Known2 (now store) m ⌝ }
+    ensures { λ r. ⌜ r ≡ tally (isOverflow (now (store .entry))) (upFrom 0 (blocks (now (store .entry)))) ⌝ }
+{
+    let size = store.len() / 512;
+    let mut n = 0;
+    let mut k = 0;
+    while k < size {
+        if is_overflow(store, m, k as u32) {
+            n += 1;
+        }
+        k += 1;
+    }
+    n
+}
+
+// Rule 4. A link names the page's bucket and the page before it, so that no page stands in two places: each stands in
+// one chain if there are as many pages as links.
+pub fn check_links(store: &[u8], m: Meta) -> bool
+    requires { ⌜ Known2 (now store) m ⌝ }
+    ensures { λ r. ⌜ r ≡ rule4 (now (store .entry)) ⌝ }
+{
+    let max = m.max;
+    let mut links = 0;
+    let mut b = 0;
+    while b <= max {
+        let walk = walk_bucket(store, m, b);
+        if !check_chain(store, m, b, walk) {
+            return false;
+        }
+        links += walk.count - 1;
+        b += 1;
+    }
+    links == count_overflow(store, m)
+}
