@@ -42,7 +42,8 @@ use Rattle.plan.specs.Sketch.{Sketch}
 use Rattle.plan.specs.SketchLaws.{ready, sketch-here, sketch-there, sketch-more, edited}
 use Rattle.plan.specs.StoreLaws.{map-inside, map-shape}
 use Rattle.insertion.specs.Put.{lastBlock, extended, fieldsOf, AtEnd, Linked}
-use Rattle.insertion.specs.FieldLaws.{read-spares, fields-set}
+use Rattle.plan.specs.FieldLaws.{read-spares}
+use Rattle.insertion.specs.FieldLaws.{fields-set}
 use Rattle.insertion.specs.FreeLaws.{bits-shaped, bits-put, first-read}
 use Rattle.insertion.specs.PlanFieldsLaws.{fields-ready, plans-fields}
 use Rattle.insertion.specs.PutLaws.{chain-there}

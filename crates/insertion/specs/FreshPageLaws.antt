@@ -34,7 +34,8 @@ use Rattle.plan.specs.Plan.{Plans}
 use Rattle.plan.specs.ShapeLaws.{shaped-paged}
 use Rattle.plan.specs.StoreLaws.{block-is, map-inside}
 use Rattle.insertion.specs.Put.{lastBlock, extended, fieldsOf, AtEnd, Linked}
-use Rattle.insertion.specs.FieldLaws.{read-made, more-spares, fields-set}
+use Rattle.plan.specs.FieldLaws.{read-made}
+use Rattle.insertion.specs.FieldLaws.{more-spares, fields-set}
 use Rattle.insertion.specs.FreeLaws.{bits-shaped, first-read}
 use Rattle.insertion.specs.PlanFieldsLaws.{fields-ready, plans-fields}
 use Rattle.insertion.specs.PutLaws.{chain-there}

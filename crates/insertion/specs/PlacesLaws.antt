@@ -29,7 +29,7 @@ use Rattle.view.specs.Places.{roomAt}
 use Rattle.plan.specs.Plan.{Plans, Places, placed, full}
 use Rattle.plan.specs.StoreLaws.{map-shape}
 use Rattle.insertion.specs.Put.{roomBlock, lastBlock, extended, Leaves, InRoom, AtEnd}
-use Rattle.insertion.specs.FieldLaws.{read-size, read-made}
+use Rattle.plan.specs.FieldLaws.{read-size, read-made}
 use Rattle.insertion.specs.FreeLaws.{bits-shaped, free-read, none-read}
 use Rattle.insertion.specs.PutLaws.{put-room, put-free, put-fresh, put-full}
 

@@ -47,7 +47,8 @@ use Rattle.plan.specs.Sketch.{Sketch}
 use Rattle.plan.specs.SketchLaws.{sketch-none, ready, sketch-here, sketch-more, page-edited}
 use Rattle.plan.specs.StoreLaws.{map-shape, page-under, page-shape}
 use Rattle.insertion.specs.Put.{entered, extended, fieldsOf, Leaves, InRoom}
-use Rattle.insertion.specs.FieldLaws.{read-free, read-spares, fields-set}
+use Rattle.plan.specs.FieldLaws.{read-free, read-spares}
+use Rattle.insertion.specs.FieldLaws.{fields-set}
 use Rattle.insertion.specs.FreeLaws.{bits-shaped, first-read}
 use Rattle.insertion.specs.PlanFieldsLaws.{fields-ready, plans-fields}
 

@@ -5,3 +5,4 @@ pub mod StoreLaws
 pub mod Sketch
 pub mod SketchLaws
 pub mod PlanLaws
+pub mod FieldLaws

@@ -30,7 +30,7 @@ use Rattle.removal.specs.declared.Freed.{Freed}
 use Rattle.removal.specs.Freeing.{freedAt, clears, lowers, Below}
 use Rattle.removal.specs.Cutting.{Sketches, Findable}
 use Rattle.removal.specs.Ending.{fieldsAfter, Ending}
-use Rattle.removal.specs.FieldLaws.{reads-free}
+use Rattle.plan.specs.FieldLaws.{read-free}
 use Rattle.removal.specs.ShowLaws.{sketch-wider}
 use Rattle.removal.specs.CutFieldLaws.{clears-same, cut-bits, cut-below, cut-free, cut-meta}
 
@@ -97,7 +97,7 @@ module _ {s : List ℕ} {m : Meta} (r : Reads s m) (p : Pair) where
           meta =
               cut-meta x l b i p once
               ∙ (λ t. fieldsAfter (sym (reads-meta r) t) (n t)
-              ((cut-free x l b i p once ∙ (λ u. lowers (sym e u) (sym (reads-free r) u))) t));
+              ((cut-free x l b i p once ∙ (λ u. lowers (sym e u) (sym (read-free r) u))) t));
           js = cutBlocks x b p;
           frame = frame-cut x l b i p once;
         }
@@ -163,7 +163,7 @@ module _ {s : List ℕ} {m : Meta} (r : Reads s m) (p : Pair) where
               ∙ (λ t. fieldsAfter (cut-meta x l o i p once t) (count (cut p n z)) (firstFree (cut p n z)))
               ∙ (λ t. fieldsAfter (sym (reads-meta r) t) (h t)
               ((cut-free z laid-z n range-z p once-z ∙ ap (lowers (freedAt z n p)) (cut-free x l o i p once)
-              ∙ (λ v. lowers (sym u v) (lowers (sym e v) (sym (reads-free r) v)))) t));
+              ∙ (λ v. lowers (sym u v) (lowers (sym e v) (sym (read-free r) v)))) t));
           js = cutBlocks z n p ++ cutBlocks x o p;
           frame =
               λ j a. frame-cut z laid-z n range-z p once-z j (each-left (λ (v : ℕ). j ≢ v) (cutBlocks z n p) _ a)

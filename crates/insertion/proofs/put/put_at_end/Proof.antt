@@ -8,7 +8,7 @@ use Rattle.image.specs.FrameImages.{top-one}
 use Rattle.chain.specs.Bitmap.{lowestFree}
 use Rattle.view.specs.ReadsLaws.{reads-laid, reads-size, reads-whole, reads-block}
 use Rattle.plan.specs.StoreLaws.{map-inside}
-use Rattle.insertion.specs.FieldLaws.{point-low, read-bit, bit-fits}
+use Rattle.plan.specs.FieldLaws.{point-low, read-bit, bit-fits}
 use Rattle.insertion.specs.PlacesLaws.{places-some, places-none, NoRoomIn, bit-free, put-again, end-again}
 use Rattle.insertion.specs.PlacesLaws.{blocks-left, put-next, end-fresh, put-nowhere}
 use Rattle.insertion.proofs.put.put_at_end.Statement.{statement}

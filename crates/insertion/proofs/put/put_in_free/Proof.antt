@@ -8,7 +8,7 @@ use Rattle.image.specs.Frame.{blockOfBit, mapBlock}
 use Rattle.image.specs.FrameImages.{top-one}
 use Rattle.view.specs.ReadsLaws.{reads-laid, reads-sized, reads-size, reads-whole, reads-block}
 use Rattle.plan.specs.StoreLaws.{map-inside}
-use Rattle.insertion.specs.FieldLaws.{point-low, read-top, read-bit, bit-fits}
+use Rattle.plan.specs.FieldLaws.{point-low, read-top, read-bit, bit-fits}
 use Rattle.insertion.specs.LinkLaws.{linked-at, last-under}
 use Rattle.insertion.specs.FreePageLaws.{free-small, free-under, free-first, bit-ready, free-fields, free-plans}
 use Rattle.insertion.proofs.put.put_in_free.Statement.{statement}

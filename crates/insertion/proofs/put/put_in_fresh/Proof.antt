@@ -8,7 +8,7 @@ use Rattle.image.specs.Decode.{decode}
 use Rattle.image.specs.BoundLaws.{top-small}
 use Rattle.image.specs.Frame.{blockOfBit}
 use Rattle.view.specs.ReadsLaws.{reads-laid, reads-sized, reads-size}
-use Rattle.insertion.specs.FieldLaws.{point-low, read-top, read-made}
+use Rattle.plan.specs.FieldLaws.{point-low, read-top, read-made}
 use Rattle.insertion.specs.LinkLaws.{linked-at, last-under}
 use Rattle.insertion.specs.FreshPageLaws.{fresh-is, fresh-first, fresh-fields, fresh-plans}
 use Rattle.insertion.proofs.put.put_in_fresh.Statement.{statement}

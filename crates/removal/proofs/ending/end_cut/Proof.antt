@@ -8,7 +8,8 @@ use Rattle.view.specs.ReadsLaws.{reads-laid}
 use Rattle.plan.specs.StoreLaws.{map-inside}
 use Rattle.removal.specs.Ending.{fieldsAfter, Ending}
 use Rattle.removal.specs.Freeing.{lowers}
-use Rattle.removal.specs.FieldLaws.{reads-addressed, map-read}
+use Rattle.plan.specs.FieldLaws.{read-bit}
+use Rattle.removal.specs.FieldLaws.{reads-addressed}
 use Rattle.removal.proofs.Closing.{map-start, meta-ready, last-draft, planned}
 use Rattle.removal.proofs.ending.end_cut.Statement.{statement}
 use Rattle.removal.proofs.ending.end_cut.Tie as tie
@@ -18,7 +19,7 @@ bit-block-requires c κs =
     let s = c .before .before .before in
     let r = s .pre .1 .reads in
     let a = reads-addressed r in
-    (omega (arith, a .low), omega (arith, map-read r, map-inside r, reads-laid r .size))
+    (omega (arith, a .low), omega (arith, read-bit r 0, map-inside r, reads-laid r .size))
 
 -- the bitmap's block
 map-at : (c : tie.After-bit-block) (y : Index)
@@ -27,7 +28,7 @@ map-at : (c : tie.After-bit-block) (y : Index)
     (c .before .before .before .before .args .held) (c .before .before .before .before .args .first)
     (c .before .before .before .before .args .second) y
     → c .bit-block .result ≡ mapBlock (decode (c .before .before .before .before .args .store .now))
-map-at c y e = c .bit-block .ensures ∙ map-read (e .reads)
+map-at c y e = c .bit-block .ensures ∙ read-bit (e .reads) 0
 
 clear-bit-requires : tie.Need-clear-bit-requires
 clear-bit-requires c κs =
