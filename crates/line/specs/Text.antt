@@ -1,7 +1,7 @@
 -- Document 01, "The script": the lines of output, each with its LF.
 use mathlib.Core.Path.{_≡_}
 use mathlib.Core.List.{List, [], _∷_, _++_}
-use Prim.Native.Nat.{ℕ, _+_, _*_}
+use Prim.Native.Nat.{ℕ, _+_, _*_, _≤_}
 use lib.ListN.{length}
 use lib.Seq.{sets}
 use Rattle.lists.specs.Lists.{bind, upFrom}
@@ -36,7 +36,8 @@ placeText out i = (32 ∷ []) ++ digits (u32At out (6 * i)) ++ (47 ∷ []) ++ di
 unfoldable pub foundText : (count : ℕ) (output : List ℕ) → List ℕ
 foundText m out = digits m ++ (58 ∷ []) ++ bind (upFrom 0 m) (placeText out) ++ (10 ∷ [])
 
--- `text` was written over `old` from `at` on, up to `end`
+-- `text` was written over `old` from `at` on, up to `end`, and had room there
 pub record Wrote (old : List ℕ) (at : ℕ) (text new : List ℕ) (end : ℕ) : Type 0 where
   pub bytes : new ≡ sets old at text
   pub ends : end ≡ at + length text
+  pub fits : end ≤ length old

@@ -1,17 +1,20 @@
 -- Text written piece after piece.
-use mathlib.Core.Path.{_≡_, refl, sym, ap, _∙_}
+use mathlib.Core.Path.{_≡_, refl, sym, ap, _∙_, subst}
 use mathlib.Core.List.{List, [], _∷_, _++_, append-assoc, append-nil}
 use Prim.Native.Nat.{ℕ, zero, suc, _+_, _*_, _^_, _≤_, _<_}
 use native.Mathlib.Nat.{zero-add}
 use native.Mathlib.Numerals.{add-one}
 use native.Mathlib.Omega.{arith}
-use lib.ListN.{length, length-append}
-use lib.Seq.{sets, length-sets}
+use lib.ListN.{length, drop, length-append}
+use lib.Seq.{sets, length-sets, sets-eq}
 use Rattle.lists.specs.Lists.{bind, upFrom}
 use Rattle.lists.specs.BytesLaws.{sets-append}
 use Rattle.line.specs.Digits.{digits}
 use Rattle.line.specs.DigitsLaws.{digits-few}
 use Rattle.line.specs.Text.{Wrote}
+
+pub wrote-length : {x y : List ℕ} {i j : ℕ} {t : List ℕ} → Wrote x i t y j → length y ≡ length x
+wrote-length {x} {y} {i} {j} {t} w = ap length (w .bytes) ∙ length-sets x i t
 
 module _ {x y z : List ℕ} {i j k : ℕ} {t u : List ℕ} where
   pub then-wrote : Wrote x i t y j → Wrote y j u z k → Wrote x i (t ++ u) z k
@@ -21,10 +24,20 @@ module _ {x y z : List ℕ} {i j k : ℕ} {t u : List ℕ} where
             b .bytes ∙ ap (λ (n : ℕ). sets y n u) (a .ends) ∙ ap (λ (l : List ℕ). sets l (i + length t) u) (a .bytes)
             ∙ sets-append t u x i;
         ends = omega (arith, a .ends, b .ends, length-append t u);
+        fits = omega (arith, b .fits, wrote-length a);
       }
 
-pub wrote-length : {x y : List ℕ} {i j : ℕ} {t : List ℕ} → Wrote x i t y j → length y ≡ length x
-wrote-length {x} {y} {i} {j} {t} w = ap length (w .bytes) ∙ length-sets x i t
+pub wrote-as : {x y : List ℕ} {i j : ℕ} {t u : List ℕ} → t ≡ u → Wrote x i t y j → Wrote x i u y j
+wrote-as {x} {y} {i} {j} e w = subst (λ (v : List ℕ). Wrote x i v y j) e w
+
+-- text written from the start on
+module _ {x y : List ℕ} {j : ℕ} {t : List ℕ} (w : Wrote x 0 t y j) where
+  pub wrote-count : j ≡ length t
+  wrote-count = omega (arith, w .ends)
+
+  pub wrote-start : y ≡ t ++ drop (length t) x
+  wrote-start =
+      w .bytes ∙ sets-eq t x 0 (omega (arith, w .ends, w .fits)) ∙ ap (λ (n : ℕ). t ++ drop n x) (zero-add (length t))
 
 -- ---- digits of numbers of 16, 32 and 64 bits
 

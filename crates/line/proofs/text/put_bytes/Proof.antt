@@ -30,6 +30,7 @@ returns c =
     record {
       bytes = put-part (s .args .output .now) (s .args .at) (s .args .bytes .now) (p .last .0) (s .pre) (p .ensures);
       ends = refl;
+      fits = s .pre;
     }
 
 pub put-bytes-spec : {M : Type 1} → statement M

@@ -17,7 +17,7 @@ abbrev μ-loop : tie.MeasureT-loop
 μ-loop output₀ at places count end₀ i₀ output end i = count - i
 
 loop-holds : tie.Need-loop-holds Inv-loop μ-loop
-loop-holds c = (omega arith, omega arith, record { bytes = refl; ends = omega arith })
+loop-holds c = (omega arith, omega arith, record { bytes = refl; ends = omega arith; fits = omega arith })
 
 put-place-requires : tie.Need-put-place-requires Inv-loop μ-loop
 put-place-requires c κs =
