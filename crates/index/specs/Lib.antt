@@ -1,2 +1,5 @@
 pub mod Tested
+pub mod Sound
 pub mod TestedLaws
+pub mod SoundLaws
+pub mod CallLaws

@@ -1,5 +1,5 @@
 -- What the tests before a call say of a store, and what a store that passes them is.
-use mathlib.Core.Path.{_≡_, refl, sym, ap, _∙_, subst}
+use mathlib.Core.Path.{_≡_, refl, sym, ap, _∙_}
 use mathlib.Core.Bool.{Bool, true, false, cond, _&&_}
 use mathlib.Core.List.{List}
 use Prim.Native.Nat.{ℕ, _%_, _≤_}
@@ -11,7 +11,6 @@ use Rattle.lists.specs.ListsLaws.{and-left, and-right}
 use Rattle.lists.specs.Bytes.{Bytes}
 use Rattle.lists.specs.Block.{blocks}
 use Rattle.model.specs.declared.Refusal.{Refusal}
-use Rattle.model.specs.Index.{Index}
 use Rattle.model.specs.Calls.{maxBlocks}
 use Rattle.model.specs.MachineLaws.{never}
 use Rattle.image.specs.declared.Meta.{Meta}
@@ -25,6 +24,7 @@ use Rattle.view.specs.Reads.{Reads}
 use Rattle.view.specs.ReadsLaws.{sound-reads}
 use Rattle.index.specs.declared.Test.{Test}
 use Rattle.index.specs.Tested.{testOf}
+use Rattle.index.specs.Sound.{Sound}
 
 -- the test that a verdict gives
 abbrev pub testFrom : Verdict → Test
@@ -75,9 +75,33 @@ passes-room {s} p =
     omega (arith, z .whole, leb-true 4 (blocks s) (and-left (leb 4 (blocks s)) (leb (blocks s) maxBlocks) few))
 
 -- one that does not: the refusal
-pub fails : (s : List ℕ) (r : Refusal) → testOf (tested true s) ≡ Test.Failed r → tested true s ≡ failed r
-fails s r h = go (tested true s) h
+pub fails : (n : Bool) (s : List ℕ) (r : Refusal) → testOf (tested n s) ≡ Test.Failed r → tested n s ≡ failed r
+fails n s r h = go (tested n s) h
   where
     go : (t : Tested) → testOf t ≡ Test.Failed r → t ≡ failed r
     go (passed x) h = never (cc)
     go (failed q) h = cc
+
+-- the numbers of a call that passes are good
+pub passes-numbers : (n : Bool) (s : List ℕ) → testOf (tested n s) ≡ Test.Passed → n ≡ true
+unfolding tested
+passes-numbers true s h = refl
+passes-numbers false s h = go (lengthOk s) h
+  where
+    go : (l : Bool) → testOf (testedIn l false (verdict s)) ≡ Test.Passed → false ≡ true
+    go true h = never (cc)
+    go false h = never (cc)
+
+-- a call with numbers that passes
+pub passes-call : (n : Bool) (s : List ℕ) → Bytes s → testOf (tested n s) ≡ Test.Passed → Passes s
+passes-call n s b h =
+    passes s b (ap (λ (n : Bool). testOf (tested n s)) (sym (passes-numbers n s h)) ∙ h)
+
+pub passes-index : (n : Bool) (s : List ℕ) → Bytes s → testOf (tested n s) ≡ Test.Passed
+    → tested n s ≡ passed (decode s)
+passes-index n s b h =
+    ap (λ (n : Bool). tested n s) (passes-numbers n s h) ∙ passes-call n s b h .index
+
+-- a sound store, with the fields of its meta block
+pub passes-sound : {s : List ℕ} → Passes s → Sound s
+passes-sound {s} p = p .reads (metaAt s) refl

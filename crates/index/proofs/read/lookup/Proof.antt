@@ -1,4 +1,5 @@
 use mathlib.Core.Path.{sym, ap, _∙_}
+use mathlib.Core.Bool.{true}
 use native.Mathlib.Omega.{arith}
 use lib.ListN.{length}
 use borrow.Author.Needs.{needs}
@@ -45,7 +46,7 @@ returns c =
     let t = k .before .before in
     let a = t .before .before .before .args in
     ap (λ (x : Tested). lookupOn x (a .hash) (a .output .now))
-    (fails (a .store .now) _ (sym (t .test-store .ensures) ∙ k .test .given .1))
+    (fails true (a .store .now) _ (sym (t .test-store .ensures) ∙ k .test .given .1))
 
 same-length : tie.Need-same-length
 same-length c = search needs

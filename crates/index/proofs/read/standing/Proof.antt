@@ -1,4 +1,5 @@
 use mathlib.Core.Path.{sym, ap, _∙_}
+use mathlib.Core.Bool.{true}
 use native.Mathlib.Omega.{arith}
 use lib.ListN.{length}
 use borrow.Author.Needs.{needs}
@@ -43,7 +44,7 @@ unfolding standingOutcome
 returns c =
     let k = c .before in
     let t = k .before .before in
-    sym (ap standingOn (fails (t .before .before .args .store .now) _ (sym (t .test-store .ensures) ∙ k .test .given .1)))
+    sym (ap standingOn (fails true (t .before .before .args .store .now) _ (sym (t .test-store .ensures) ∙ k .test .given .1)))
 
 returns-2 : tie.Need-returns-2
 unfolding standingOutcome

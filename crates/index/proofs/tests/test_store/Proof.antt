@@ -1,8 +1,8 @@
 use mathlib.Core.Path.{_≡_, sym, ap, _∙_}
 use borrow.Author.Needs.{needs}
 use Rattle.index.specs.TestedLaws.{testFrom, test-verdict}
-use Rattle.index.proofs.read.test_store.Statement.{statement}
-use Rattle.index.proofs.read.test_store.Tie as tie
+use Rattle.index.proofs.tests.test_store.Statement.{statement}
+use Rattle.index.proofs.tests.test_store.Tie as tie
 
 verify-requires : tie.Need-verify-requires
 verify-requires c κs = search needs

@@ -1,0 +1,108 @@
+use borrow.Author.Needs.{needs}
+use Rattle.batch.specs.BatchLaws.{ran-format, ran-insert, ran-remove, ran-lookup, ran-work, ran-standing}
+use Rattle.batch.proofs.run_call.Statement.{statement}
+use Rattle.batch.proofs.run_call.Tie as tie
+
+amiqsovik-format-requires : tie.Need-amiqsovik-format-requires
+amiqsovik-format-requires c κs = search needs
+
+amiqsovik-insert-requires : tie.Need-amiqsovik-insert-requires
+amiqsovik-insert-requires c κs = search needs
+
+amiqsovik-remove-requires : tie.Need-amiqsovik-remove-requires
+amiqsovik-remove-requires c κs = search needs
+
+amiqsovik-lookup-requires : tie.Need-amiqsovik-lookup-requires
+amiqsovik-lookup-requires c κs = search needs
+
+amiqsovik-work-requires : tie.Need-amiqsovik-work-requires
+amiqsovik-work-requires c κs = search needs
+
+amiqsovik-standing-requires : tie.Need-amiqsovik-standing-requires
+amiqsovik-standing-requires c κs = search needs
+
+same-length : tie.Need-same-length
+same-length c = search needs
+
+returns : tie.Need-returns
+returns c =
+    let f = c .before .before in
+    let m = f .before .before in
+    ran-format _ _ _ _ _ _ (m .match .keys1) (f .amiqsovik-format .ensures .0) (f .amiqsovik-format .ensures .1)
+
+same-length-2 : tie.Need-same-length-2
+same-length-2 c = search needs
+
+returns-2 : tie.Need-returns-2
+returns-2 c =
+    let f = c .before .before in
+    let m = f .before .before in
+    ran-insert _ _ _ _ _ _ (m .match .keys2) (f .amiqsovik-insert .ensures .0) (f .amiqsovik-insert .ensures .1)
+
+same-length-3 : tie.Need-same-length-3
+same-length-3 c = search needs
+
+returns-3 : tie.Need-returns-3
+returns-3 c =
+    let f = c .before .before in
+    let m = f .before .before in
+    ran-remove _ _ _ _ _ _ (m .match .keys3) (f .amiqsovik-remove .ensures .0) (f .amiqsovik-remove .ensures .1)
+
+same-length-4 : tie.Need-same-length-4
+same-length-4 c = search needs
+
+same-length-5 : tie.Need-same-length-5
+same-length-5 c = search needs
+
+returns-4 : tie.Need-returns-4
+returns-4 c =
+    let f = c .before .before in
+    let m = f .before .before .before in
+    ran-lookup _ _ _ _ _ _ (m .match .keys4) (f .amiqsovik-lookup .ensures .0) (f .amiqsovik-lookup .ensures .1)
+
+same-length-6 : tie.Need-same-length-6
+same-length-6 c = search needs
+
+returns-5 : tie.Need-returns-5
+returns-5 c =
+    let f = c .before .before in
+    let m = f .before .before in
+    ran-work _ _ _ _ _ _ (m .match .keys5) (f .amiqsovik-work .ensures .0) (f .amiqsovik-work .ensures .1)
+
+same-length-7 : tie.Need-same-length-7
+same-length-7 c = search needs
+
+same-length-8 : tie.Need-same-length-8
+same-length-8 c = search needs
+
+returns-6 : tie.Need-returns-6
+returns-6 c =
+    let f = c .before .before in
+    let m = f .before .before .before in
+    let r = m .match .rest in
+    ran-standing _ _ _ _ _ _ (r .0 .0 .0 .0 .1) (r .0 .0 .0 .1) (r .0 .0 .1) (r .0 .1) (r .1) (f .amiqsovik-standing .ensures .0) (f .amiqsovik-standing .ensures .1)
+
+pub run-call-spec : {M : Type 1} → statement M
+run-call-spec =
+    tie.close
+    (tie.spec
+    amiqsovik-format-requires
+    amiqsovik-insert-requires
+    amiqsovik-remove-requires
+    amiqsovik-lookup-requires
+    amiqsovik-work-requires
+    amiqsovik-standing-requires
+    same-length
+    returns
+    same-length-2
+    returns-2
+    same-length-3
+    returns-3
+    same-length-4
+    same-length-5
+    returns-4
+    same-length-6
+    returns-5
+    same-length-7
+    same-length-8
+    returns-6)

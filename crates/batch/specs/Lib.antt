@@ -1,0 +1,3 @@
+pub mod Batch
+pub mod BatchLaws
+pub mod Demand3

@@ -1,0 +1,66 @@
+// A list of calls, encoded as numbers, run one after the other through the public functions: what demand 3 says of lists of
+// calls, it says of this function.
+use capi::amiqsovik_format;
+use capi::amiqsovik_insert;
+use capi::amiqsovik_lookup;
+use capi::amiqsovik_remove;
+use capi::amiqsovik_standing;
+use capi::amiqsovik_work;
+ghost use mathlib.Core.Path.{_≡_};
+ghost use Prim.Native.Nat.{_+_, _*_, _/_, _≤_, min};
+ghost use lib.ListN.{length};
+ghost use Rattle.batch.specs.Batch.{callOf, callAt, Ran, runs};
+
+// Runs one call, and gives its word.
+fn run_call(store: &mut [u8], kind: u32, a: u32, b: u32, c: u32, output: &mut [u8]) -> u64
+    ensures { λ r. ⌜ Ran (now (store .entry)) (callOf kind a b c (now (output .entry))) (now (output .entry))
+        r (now (store .exit)) (now (output .exit)) ⌝ }
+{
+    match kind {
+        0 => amiqsovik_format(store, a),
+        1 => amiqsovik_insert(store, a, b, c),
+        2 => amiqsovik_remove(store, a, b, c),
+        3 => amiqsovik_lookup(store, a, output),
+        4 => amiqsovik_work(store, a),
+        _ => amiqsovik_standing(store, output),
+    }
+}
+
+// Runs call `i`.
+fn run_at(store: &mut [u8], calls: &[u32], i: usize, output: &mut [u8]) -> u64
+    requires { ⌜ 4 * i + 4 ≤ length (now calls) ⌝ }
+    ensures { λ r. ⌜ Ran (now (store .entry)) (callAt (now (calls .entry)) i (now (output .entry)))
+        (now (output .entry)) r (now (store .exit)) (now (output .exit)) ⌝ }
+{
+    let at = 4 * i;
+    run_call(
+        store,
+        calls[at],
+        calls[at + 1],
+        calls[at + 2],
+        calls[at + 3],
+        output,
+    )
+}
+
+fn smaller(a: usize, b: usize) -> usize
+    ensures { λ r. ⌜ r ≡ min a b ⌝ }
+{
+    if a <= b { a } else { b }
+}
+
+// Runs the calls, four numbers each, for which there is a word; gives their number.
+pub fn run_batch(store: &mut [u8], calls: &[u32], output: &mut [u8], words: &mut [u64]) -> usize
+    ensures { λ r. ⌜ r ≡ min (length (now (calls .entry)) / 4) (length (now (words .entry))) ⌝ }
+    ensures { λ r. ⌜ record { store = now (store .exit); output = now (output .exit); words = now (words .exit) }
+        ≡ runs (now (calls .entry)) r 0
+        (record { store = now (store .entry); output = now (output .entry); words = now (words .entry) }) ⌝ }
+{
+    let n = smaller(calls.len() / 4, words.len());
+    let mut i = 0;
+    while i < n {
+        words[i] = run_at(store, calls, i, output);
+        i += 1;
+    }
+    n
+}

@@ -1,0 +1,5 @@
+pub mod Words
+pub mod WordLaws
+pub mod Result
+pub mod ResultLaws
+pub mod StepsLaws

@@ -1,0 +1,79 @@
+use mathlib.Core.Path.{_≡_, refl, sym, ap, _∙_}
+use Prim.Native.Nat.{_≤_, _-_}
+use native.Mathlib.Omega.{arith}
+use borrow.Author.Needs.{needs}
+use lib.ListN.{length}
+use Rattle.model.specs.Steps.{iterate}
+use Rattle.image.specs.Outcomes.{stepOutcome}
+use Rattle.index.specs.Sound.{Sound}
+use Rattle.index.specs.SoundLaws.{Working, working-next, working-stop, working-spent, working-none}
+use Rattle.index.proofs.work.work_sound.Statement.{statement}
+use Rattle.index.proofs.work.work_sound.Tie as tie
+use Rattle.index.proofs.work.work_sound.Reads as reads
+use Rattle.index.proofs.work.work_sound.Lts as lts
+use Rattle.index.proofs.sound.step_sound.Reads as step-sound-reads
+
+abbrev Inv-loop : tie.InvT-loop
+Inv-loop store₀ budget steps₀ store steps = Working budget store₀ store steps
+
+abbrev μ-loop : tie.MeasureT-loop
+μ-loop store₀ budget steps₀ store steps = budget - steps
+
+loop-holds : tie.Need-loop-holds Inv-loop μ-loop
+loop-holds c = working-none _ _ (c .before .pre)
+
+step-sound-requires : tie.Need-step-sound-requires Inv-loop μ-loop
+step-sound-requires c κs = c .before .before .loop .inv .sound
+
+enum-known-advance : tie.Need-enum-known-advance Inv-loop μ-loop
+enum-known-advance c = search needs
+
+same-length : tie.Need-same-length Inv-loop μ-loop
+same-length c = search needs
+
+returns : tie.Need-returns Inv-loop μ-loop
+returns c =
+    let k = c .before in
+    let a = k .before .before .before .before in
+    let l = a .before .before in
+    working-stop (l .before .loop .inv) (l .loop-test .taken) (a .step-sound .ensures) _ (k .advance .given .1)
+
+enum-told : tie.Need-enum-told Inv-loop μ-loop
+enum-told c = search needs
+
+add-steps : tie.Need-add-steps Inv-loop μ-loop
+add-steps c = omega arith
+
+loop-less : tie.Need-loop-less Inv-loop μ-loop
+loop-less c = omega arith
+
+loop-again : tie.Need-loop-again Inv-loop μ-loop
+loop-again c =
+    let a = c .before .before .before .before in
+    let l = a .before .before in
+    working-next (l .before .loop .inv) (l .loop-test .taken) (a .step-sound .ensures) (c .enum-told .given .1)
+    (a .step-sound .kept .0)
+
+same-length-2 : tie.Need-same-length-2 Inv-loop μ-loop
+same-length-2 c = search needs
+
+returns-2 : tie.Need-returns-2 Inv-loop μ-loop
+returns-2 c = working-spent (c .before .loop .inv) (c .loop-test .left)
+
+pub work-sound-spec : {M : Type 1} → statement M
+work-sound-spec =
+    tie.close
+    (tie.spec
+    Inv-loop
+    μ-loop
+    loop-holds
+    step-sound-requires
+    enum-known-advance
+    same-length
+    returns
+    enum-told
+    add-steps
+    loop-less
+    loop-again
+    same-length-2
+    returns-2)

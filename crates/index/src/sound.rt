@@ -1,0 +1,61 @@
+// What the calls do to a store that passed the tests: the change is planned, and then sealed and written.
+use draft::finish::finish;
+use image::Meta;
+use insertion::insert::plan_insert;
+use meta::read_meta;
+use model::Answer;
+use page::Pair;
+use plan::Advance;
+use removal::plan_remove;
+use split::step::plan_step;
+use store::block_at;
+ghost use mathlib.Core.Path.{_≡_};
+ghost use mathlib.Core.Bool.{true};
+ghost use Rattle.model.specs.Calls.{pairOk, insert, remove};
+ghost use Rattle.image.specs.Decode.{metaAt, decode};
+ghost use Rattle.image.specs.Outcomes.{changed};
+ghost use Rattle.index.specs.Sound.{Sound, Stepped};
+
+// The fields of the meta block.
+fn read_fields(store: &[u8]) -> Meta
+    requires { ⌜ Sound (now store) ⌝ }
+    ensures { λ r. ⌜ r ≡ metaAt (now (store .entry)) ⌝ }
+{
+    read_meta(block_at(store, 0))
+}
+
+pub fn insert_sound(store: &mut [u8], pair: Pair) -> Answer
+    requires { ⌜ (Sound (now store)) × (pairOk pair ≡ true) ⌝ }
+    ensures { λ r. ⌜ changed (now (store .entry)) (insert (decode (now (store .entry))) pair)
+        ≡ record { answer = r; store = now (store .exit) } ⌝ }
+{
+    let m = read_fields(store);
+    let mut images = [0u8; 4096];
+    let plan = plan_insert(store, m, pair, &mut images);
+    finish(store, plan.change, &mut images);
+    plan.answer
+}
+
+pub fn remove_sound(store: &mut [u8], pair: Pair) -> Answer
+    requires { ⌜ (Sound (now store)) × (pairOk pair ≡ true) ⌝ }
+    ensures { λ r. ⌜ changed (now (store .entry)) (remove (decode (now (store .entry))) pair)
+        ≡ record { answer = r; store = now (store .exit) } ⌝ }
+{
+    let m = read_fields(store);
+    let mut images = [0u8; 4096];
+    let plan = plan_remove(store, m, pair, &mut images);
+    finish(store, plan.change, &mut images);
+    plan.answer
+}
+
+// One step; where it stops, the store stays.
+pub fn step_sound(store: &mut [u8]) -> Advance
+    requires { ⌜ Sound (now store) ⌝ }
+    ensures { λ r. ⌜ Stepped (now (store .entry)) r (now (store .exit)) ⌝ }
+{
+    let m = read_fields(store);
+    let mut images = [0u8; 4096];
+    let plan = plan_step(store, m, &mut images);
+    finish(store, plan.change, &mut images);
+    plan.advance
+}

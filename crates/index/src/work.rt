@@ -1,0 +1,44 @@
+// Work: the steps of splits, one whole change each.
+use crate::Test;
+use crate::sound::step_sound;
+use crate::tests::test_call;
+use model::Stop;
+use model::WorkAnswer;
+use plan::Advance;
+ghost use mathlib.Core.Path.{_≡_};
+ghost use Prim.Native.Nat.{_≤_};
+ghost use Rattle.model.specs.Steps.{iterate};
+ghost use Rattle.image.specs.Outcomes.{stepOutcome, workOutcome};
+ghost use Rattle.index.specs.Sound.{Sound, workedBy};
+
+// Steps on a sound store, until the budget is spent, which is tested first, or a step stops. It counts the steps.
+fn work_sound(store: &mut [u8], budget: u32) -> WorkAnswer
+    requires { ⌜ Sound (now store) ⌝ }
+    ensures { λ r. ⌜ workedBy (iterate stepOutcome budget (now (store .entry)))
+        ≡ record { answer = r; store = now (store .exit) } ⌝ }
+{
+    let mut steps: u32 = 0;
+    while steps < budget {
+        let advance = step_sound(store);
+        if let Advance::Stopped(stop) = advance {
+            return WorkAnswer::Worked { steps, stop };
+        }
+        steps += 1;
+    }
+    WorkAnswer::Worked {
+        steps,
+        stop: Stop::Spent,
+    }
+}
+
+// Does up to `budget` steps.
+pub fn work(store: &mut [u8], budget: u32) -> WorkAnswer
+    ensures { λ r. ⌜ r ≡ workOutcome (now (store .entry)) budget .answer ⌝ }
+    ensures { λ _. ⌜ now (store .exit) ≡ workOutcome (now (store .entry)) budget .store ⌝ }
+{
+    let test = test_call(store, budget <= 65535);
+    match test {
+        Test::Failed(refusal) => WorkAnswer::Refused(refusal),
+        Test::Passed => work_sound(store, budget),
+    }
+}

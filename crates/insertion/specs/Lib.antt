@@ -1,0 +1,10 @@
+pub mod Put
+pub mod FieldLaws
+pub mod FreeLaws
+pub mod PlanFieldsLaws
+pub mod PutLaws
+pub mod LinkLaws
+pub mod FreePageLaws
+pub mod FreshPageLaws
+pub mod PlacesLaws
+pub mod InsertLaws

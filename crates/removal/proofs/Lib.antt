@@ -1,0 +1,3 @@
+pub mod Unlinking
+pub mod Clearing
+pub mod Closing

@@ -1,0 +1,13 @@
+pub mod Freeing
+pub mod Cutting
+pub mod Ending
+pub mod FirstFreeLaws
+pub mod PairLaws
+pub mod FieldLaws
+pub mod ShowLaws
+pub mod CutLaws
+pub mod FreedLaws
+pub mod CutNoneLaws
+pub mod CutFieldLaws
+pub mod StartLaws
+pub mod RemovalLaws

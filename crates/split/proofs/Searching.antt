@@ -1,0 +1,52 @@
+-- The turns of the loop along the old chain: what the page at index i tells.
+use mathlib.Core.Path.{_≡_, refl, sym, ap, _∙_}
+use mathlib.Core.Bool.{Bool}
+use mathlib.Core.List.{List, _++_}
+use mathlib.Core.Option.{Option, none, some}
+use Prim.Native.Nat.{ℕ, _+_, _<_}
+use native.Mathlib.Omega.{arith}
+use lib.ListN.{getD, drop}
+use Rattle.lists.specs.Lists.{find, bind}
+use Rattle.page.specs.declared.Entry.{Entry}
+use Rattle.image.specs.FrameLists.{find-left, find-right}
+use Rattle.chain.specs.declared.Walk.{Walk}
+use Rattle.chain.specs.Walk.{blocksOf}
+use Rattle.chain.specs.Search.{entriesOn, Within}
+use Rattle.view.proofs.Walking.{rest-turn}
+use Rattle.split.specs.declared.Mover.{Mover}
+use Rattle.split.specs.Mover.{moverOf}
+
+-- f is what was found in the page at index i
+module _ {s : List ℕ} {w : Walk} (ok : Within s w) (t : Entry → Bool) (i : ℕ) (more : i < w .count) (f : Mover)
+    (asked : f ≡ moverOf (find t (entriesOn s (getD (w .blocks) i 0)))) where
+  abbrev es : List Entry
+  es = entriesOn s (getD (w .blocks) i 0)
+
+  abbrev fs : List Entry
+  fs = bind (drop (i + 1) (blocksOf w)) (entriesOn s)
+
+  turn : moverOf (find t (bind (drop i (blocksOf w)) (entriesOn s))) ≡ moverOf (find t (es ++ fs))
+  turn = ap (λ (ds : List Entry). moverOf (find t ds)) (rest-turn ok i more)
+
+  pub walk-here : (e : Entry) → f ≡ Mover.At e → moverOf (find t (bind (drop i (blocksOf w)) (entriesOn s)))
+      ≡ Mover.At e
+  walk-here e q = turn ∙ go (find t es) refl
+    where
+      go : (o : Option Entry) → find t es ≡ o → moverOf (find t (es ++ fs)) ≡ Mover.At e
+      go none k =
+          let d : Mover.Nothing ≡ Mover.At e = sym (ap moverOf k) ∙ sym asked ∙ q in
+          let z : _≡_ {A = ℕ} 0 1 = cc in
+          absurd (omega arith)
+      go (some d) k = ap moverOf (find-left t es fs d k) ∙ sym (ap moverOf k) ∙ sym asked ∙ q
+
+  pub walk-later : f ≡ Mover.Nothing
+      → moverOf (find t (bind (drop i (blocksOf w)) (entriesOn s)))
+      ≡ moverOf (find t (bind (drop (i + 1) (blocksOf w)) (entriesOn s)))
+  walk-later q = turn ∙ go (find t es) refl
+    where
+      go : (o : Option Entry) → find t es ≡ o → moverOf (find t (es ++ fs)) ≡ moverOf (find t fs)
+      go none k = ap moverOf (find-right t es fs k)
+      go (some d) k =
+          let e : Mover.At d ≡ Mover.Nothing = sym (ap moverOf k) ∙ sym asked ∙ q in
+          let z : _≡_ {A = ℕ} 0 1 = cc in
+          absurd (omega arith)

@@ -1,0 +1,67 @@
+use mathlib.Core.Path.{_≡_, sym, ap, _∙_}
+use mathlib.Core.Bool.{not}
+use borrow.Author.Needs.{needs}
+use borrow.Author.Tests.{not-true, not-false}
+use Rattle.image.specs.Decode.{decode}
+use Rattle.chain.specs.declared.Found.{Found}
+use Rattle.chain.specs.Search.{isFound}
+use Rattle.split.specs.Mover.{movable}
+use Rattle.split.specs.MoverLaws.{movable-other, movable-clear, movable-copy}
+use Rattle.split.proofs.search.is_movable.Statement.{statement}
+use Rattle.split.proofs.search.is_movable.Tie as tie
+
+bucket-of-requires : tie.Need-bucket-of-requires
+bucket-of-requires c κs = search needs
+
+returns : tie.Need-returns
+returns c =
+    let b = c .before in
+    let s = b .before .before .before in
+    movable-other (s .pre) (s .args .e) (b .bucket-of .result) (b .bucket-of .ensures) (s .args .copying)
+    (c .if1 .taken)
+
+returns-2 : tie.Need-returns-2
+returns-2 c =
+    let b = c .before .before in
+    let s = b .before .before .before in
+    movable-clear (s .pre) (s .args .e) (b .bucket-of .result) (b .bucket-of .ensures) (s .args .copying)
+    (not-true (s .args .copying) (c .if2 .taken)) (c .before .if1 .left)
+
+find-in-requires : tie.Need-find-in-requires
+find-in-requires c κs = search needs
+
+enum-told : tie.Need-enum-told
+enum-told c = search needs
+
+enum-told-2 : tie.Need-enum-told-2
+enum-told-2 c = search needs
+
+-- what the search for a copy tells
+copied : (c : tie.After-find-in)
+    → let a = c .before .before .before .before .before .before .args in
+    not (isFound (c .find-in .result)) ≡ movable (a .copying) (decode (a .store .now)) (a .e)
+copied c =
+    let b = c .before .before .before in
+    let s = b .before .before .before in
+    movable-copy (s .pre) (s .args .e) (b .bucket-of .result) (b .bucket-of .ensures) (s .args .copying)
+    (not-false (s .args .copying) (c .before .if2 .left)) (c .before .before .if1 .left)
+    (c .find-in .result) (c .find-in .ensures)
+
+returns-3 : tie.Need-returns-3
+returns-3 c = ap (λ (f : Found). not (isFound f)) (sym (c .enum-told .given .1)) ∙ copied (c .before .before)
+
+returns-4 : tie.Need-returns-4
+returns-4 c = ap (λ (f : Found). not (isFound f)) (sym (c .enum-told2 .given .1)) ∙ copied (c .before .before)
+
+pub is-movable-spec : {M : Type 1} → statement M
+is-movable-spec =
+    tie.close
+    (tie.spec
+    bucket-of-requires
+    returns
+    returns-2
+    find-in-requires
+    enum-told
+    enum-told-2
+    returns-3
+    returns-4)

@@ -1,0 +1,94 @@
+use mathlib.Core.Path.{_≡_, refl, sym, _∙_}
+use mathlib.Core.Option.{none, some}
+use native.Mathlib.Omega.{arith}
+use borrow.Author.Needs.{needs}
+use Rattle.lists.specs.Lists.{find}
+use Rattle.model.specs.Index.{entriesAt, oldBucket}
+use Rattle.model.specs.Steps.{toCopy}
+use Rattle.image.specs.Decode.{decode}
+use Rattle.plan.specs.Plan.{advanced}
+use Rattle.split.specs.MoverLaws.{mover-at, mover-none}
+use Rattle.split.specs.StepLaws.{step-copies, places-advances, advances-as}
+use Rattle.split.specs.CopyLaws.{copy-absent, copy-step, copy-next}
+use Rattle.split.proofs.step.step_copying.Statement.{statement}
+use Rattle.split.proofs.step.step_copying.Tie as tie
+
+first-mover-requires : tie.Need-first-mover-requires
+first-mover-requires c κs = search needs
+
+enum-known-mover : tie.Need-enum-known-mover
+enum-known-mover c = search needs
+
+enum-told : tie.Need-enum-told
+enum-told c = search needs
+
+-- nothing is left to copy
+left : (c : tie.After-enum-told)
+    → let x = decode (c .before .before .before .before .before .args .store .now) in
+    find (toCopy x) (entriesAt x (oldBucket x)) ≡ none
+left c =
+    let x = decode (c .before .before .before .before .before .args .store .now) in
+    mover-none (find (toCopy x) (entriesAt x (oldBucket x)))
+    (sym (c .enum-told .given .1) ∙ c .before .before .first-mover .ensures)
+
+plan-copied-requires : tie.Need-plan-copied-requires
+plan-copied-requires c κs =
+    let s = c .before .before .before .before .before .before in
+    (s .pre .0, (s .pre .1, left (c .before)))
+
+same-length : tie.Need-same-length
+same-length c = search needs
+
+returns : tie.Need-returns
+returns c =
+    let p = c .before .before in
+    let t = p .before .before in
+    let s = t .before .before .before .before .before in
+    advances-as (advanced (p .plan-copied .ensures)) refl refl
+    (step-copies (decode (s .args .store .now)) (s .pre .1) (left t))
+
+-- the first entry to copy
+first : (c : tie.After-mover)
+    → let x = decode (c .before .before .before .before .before .args .store .now) in
+    find (toCopy x) (entriesAt x (oldBucket x)) ≡ some (c .mover .given .0 .0)
+first c =
+    let x = decode (c .before .before .before .before .before .args .store .now) in
+    mover-at (find (toCopy x) (entriesAt x (oldBucket x))) (c .mover .given .0 .0)
+    (sym (c .mover .given .1) ∙ c .before .before .first-mover .ensures)
+
+plan-put-requires : tie.Need-plan-put-requires
+plan-put-requires c κs =
+    let v = c .before .before .before in
+    let s = v .before .before .before .before .before in
+    let r = s .pre .0 .0 in
+    let e = v .mover .given .0 .0 in
+    ((r, omega arith, s .pre .0 .1), (copy-absent r (s .pre .1) e (first v), copy-next r (s .pre .1) e (first v)))
+
+or-full-requires : tie.Need-or-full-requires
+or-full-requires c κs = search needs
+
+same-length-2 : tie.Need-same-length-2
+same-length-2 c = search needs
+
+returns-2 : tie.Need-returns-2
+returns-2 c =
+    let p = c .before .before .before in
+    let v = p .before .before .before .before in
+    let s = v .before .before .before .before .before in
+    advances-as (places-advances (p .plan-put .ensures)) (c .or-full .ensures .0) (c .or-full .ensures .1)
+    (copy-step (s .pre .0 .0) (s .pre .1) (v .mover .given .0 .0) (first v))
+
+pub step-copying-spec : {M : Type 1} → statement M
+step-copying-spec =
+    tie.close
+    (tie.spec
+    first-mover-requires
+    enum-known-mover
+    enum-told
+    plan-copied-requires
+    same-length
+    returns
+    plan-put-requires
+    or-full-requires
+    same-length-2
+    returns-2)

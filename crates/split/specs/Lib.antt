@@ -1,0 +1,10 @@
+pub mod Mover
+pub mod MoverLaws
+pub mod Step
+pub mod StepLaws
+pub mod CopyLaws
+pub mod Job
+pub mod JobLaws
+pub mod Begin
+pub mod BeginLaws
+pub mod BegunLaws

@@ -1,0 +1,146 @@
+// One step: of the pending job, or the begin of a split that is wanted.
+use crate::Mover;
+use crate::begin::plan_begin;
+use crate::job::plan_cleared;
+use crate::job::plan_copied;
+use crate::search::first_mover;
+use address::parent_of;
+use chain::Found;
+use draft::new_draft;
+use image::Meta;
+use insertion::put::plan_put;
+use model::Phase;
+use model::Stop;
+use page::Entry;
+use page::Pair;
+use plan::Advance;
+use plan::PutPlan;
+use plan::StepPlan;
+use plan::halt;
+use removal::plan_cut;
+use store::Change;
+use view::chains::find_in;
+use view::job::read_job;
+ghost use mathlib.Core.Path.{_≡_};
+ghost use mathlib.Core.Bool.{true};
+ghost use lib.ListN.{length};
+ghost use Rattle.lists.specs.Lists.{any};
+ghost use Rattle.page.specs.Pair.{is};
+ghost use Rattle.model.specs.Index.{Index, idle, copying, clearing, entriesAt, oldBucket};
+ghost use Rattle.model.specs.Pages.{cut};
+ghost use Rattle.model.specs.Held.{count, wanted};
+ghost use Rattle.model.specs.Steps.{step};
+ghost use Rattle.model.specs.WellFormed.{Laid, WF};
+ghost use Rattle.image.specs.Layout.{metaOf};
+ghost use Rattle.image.specs.Decode.{decode};
+ghost use Rattle.view.specs.Reads.{Reads};
+ghost use Rattle.plan.specs.Plan.{Plans, Advances};
+ghost use Rattle.split.specs.Step.{advanceOf};
+
+// A put as a step: without room it stops.
+fn or_full(put: PutPlan) -> StepPlan
+    ensures { λ r. ⌜ (r .change ≡ put .change) × (r .advance ≡ advanceOf (put .room)) ⌝ }
+{
+    let change = put.change;
+    if put.room {
+        return StepPlan {
+            advance: Advance::Next,
+            change,
+        };
+    }
+    StepPlan {
+        advance: Advance::Stopped(Stop::NoRoom),
+        change,
+    }
+}
+
+// Whether a split is wanted: the slack is below zero.
+fn is_wanted(m: Meta) -> bool
+    requires { ⌜ ((x : Index) × (Laid x) × (m ≡ metaOf x)) ⌝ }
+    ensures { λ r. ⌜ ((x : Index) → Laid x → m ≡ metaOf x → r ≡ wanted x) ⌝ }
+{
+    m.fill as u32 * (m.max + 1) < m.count
+}
+
+fn step_idle(store: &[u8], m: Meta, images: &mut [u8]) -> StepPlan
+    requires { ⌜ (Reads (now store) m) × (length (now images) ≡ 4096) ⌝ }
+    requires { ⌜ decode (now store) .job ≡ idle ⌝ }
+    ensures { λ r. ⌜ Advances (now (store .entry)) (r .change) (now (images .exit))
+        (step (decode (now (store .entry)))) (r .advance) ⌝ }
+{
+    if !is_wanted(m) {
+        return halt(Stop::Idle);
+    }
+    or_full(plan_begin(store, m, images))
+}
+
+// The first entry of the old chain without a copy is copied, marked moved; without one copying ends.
+fn step_copying(store: &[u8], m: Meta, images: &mut [u8]) -> StepPlan
+    requires { ⌜ (Reads (now store) m) × (length (now images) ≡ 4096) ⌝ }
+    requires { ⌜ decode (now store) .job ≡ copying ⌝ }
+    ensures { λ r. ⌜ Advances (now (store .entry)) (r .change) (now (images .exit))
+        (step (decode (now (store .entry)))) (r .advance) ⌝ }
+{
+    let mover = first_mover(store, m, true);
+    let Mover::At(e) = mover else {
+        return StepPlan {
+            advance: Advance::Next,
+            change: plan_copied(store, m, images),
+        };
+    };
+    let pair = e.pair;
+    let copy = Entry { pair, moved: true };
+    or_full(plan_put(store, m, m.max, copy, m.count, images))
+}
+
+// Takes the pair out of the old chain, in which it stands.
+fn clear_pair(store: &[u8], m: Meta, pair: Pair, images: &mut [u8]) -> Change
+    requires { ⌜ (Reads (now store) m) × (length (now images) ≡ 4096) ⌝ }
+    requires { ⌜ any (is pair) (entriesAt (decode (now store)) (oldBucket (decode (now store)))) ≡ true ⌝ }
+    requires { ⌜ (WF (cut pair (oldBucket (decode (now store))) (decode (now store))))
+        × (count (cut pair (oldBucket (decode (now store))) (decode (now store))) ≡ m .count) ⌝ }
+    ensures { λ r. ⌜ Plans (now (store .entry)) r (now (images .exit))
+        (cut pair (oldBucket (decode (now (store .entry)))) (decode (now (store .entry)))) ⌝ }
+{
+    let old = parent_of(m.max);
+    let found = find_in(store, m, old, pair);
+    let Found::At { block, slot } = found else {
+        return new_draft();
+    };
+    plan_cut(store, m, old, pair, block, slot, m.count, images)
+}
+
+// The first entry of the new bucket in the old chain is taken away; without one clearing ends.
+fn step_clearing(store: &[u8], m: Meta, images: &mut [u8]) -> StepPlan
+    requires { ⌜ (Reads (now store) m) × (length (now images) ≡ 4096) ⌝ }
+    requires { ⌜ decode (now store) .job ≡ clearing ⌝ }
+    ensures { λ r. ⌜ Advances (now (store .entry)) (r .change) (now (images .exit))
+        (step (decode (now (store .entry)))) (r .advance) ⌝ }
+{
+    let mover = first_mover(store, m, false);
+    let Mover::At(e) = mover else {
+        return StepPlan {
+            advance: Advance::Next,
+            change: plan_cleared(store, m, images),
+        };
+    };
+    let pair = e.pair;
+    StepPlan {
+        advance: Advance::Next,
+        change: clear_pair(store, m, pair, images),
+    }
+}
+
+// Plans one step of the pending job, or the begin of a split that is wanted.
+pub fn plan_step(store: &[u8], m: Meta, images: &mut [u8]) -> StepPlan
+    requires { ⌜ (Reads (now store) m) × (length (now images) ≡ 4096) ⌝ }
+    ensures { λ r. ⌜ Advances (now (store .entry)) (r .change) (now (images .exit))
+        (step (decode (now (store .entry)))) (r .advance) ⌝ }
+{
+    let phase = read_job(store, m);
+    match phase {
+        Phase::None => step_idle(store, m, images),
+        Phase::Copying { old: _, new: _ } => step_copying(store, m, images),
+        Phase::Clearing { old: _, new: _ } => step_clearing(store, m, images),
+    }
+}

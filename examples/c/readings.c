@@ -1,0 +1,80 @@
+/* A store on the stack: format it, put readings in, split buckets, look readings up.
+ *
+ * Make the archive first, at the top of the repository:   rt staticlib capi
+ * Then, in this folder:
+ *
+ *     gcc -std=c99 -Wall -Wextra -O2 readings.c ../../target/staticlib/libcapi.a -o readings && ./readings
+ */
+#include <inttypes.h>
+#include <stdio.h>
+
+#include "../../include/amiqsovik.h"
+
+enum { BLOCKS = 32 };
+
+static uint8_t store[BLOCKS * AMIQSOVIK_BLOCK_BYTES];
+
+/* Says what a call answered; 1 if it was done. */
+static int done(const char *call, uint64_t word)
+{
+    if (amiqsovik_number(word) == AMIQSOVIK_DONE)
+        return 1;
+    printf("%s: refused with %" PRIu32 ", which gives %" PRIu32 "\n", call, amiqsovik_number(word),
+           amiqsovik_gives(word));
+    return 0;
+}
+
+static void show_standing(void)
+{
+    uint8_t result[AMIQSOVIK_RESULT_BYTES];
+    struct amiqsovik_standing_values now;
+
+    if (!done("standing", amiqsovik_standing(store, sizeof store, result, sizeof result)))
+        return;
+    now = amiqsovik_stands(result);
+    printf("%" PRIu32 " pairs in %" PRIu32 " buckets, slack %" PRId64 "\n", now.count, now.buckets, now.slack);
+}
+
+static void show_readings(uint32_t cell)
+{
+    uint8_t output[100 * AMIQSOVIK_MATCH_BYTES];
+    uint64_t word = amiqsovik_lookup(store, sizeof store, cell, output, sizeof output);
+    size_t i;
+
+    if (!done("lookup", word))
+        return;
+    printf("cell %" PRIu32 ":", cell);
+    for (i = 0; i < amiqsovik_gives(word); i++)
+        printf(" %" PRIu32 "/%u", amiqsovik_match_block(output, i), (unsigned)amiqsovik_match_offset(output, i));
+    printf("\n");
+}
+
+int main(void)
+{
+    uint32_t cell, reading;
+    uint64_t word;
+
+    if (!done("format", amiqsovik_format(store, sizeof store, 2)))
+        return 1;
+    /* The cell's number serves as its hash code here; a host hashes its keys. */
+    for (cell = 0; cell < 6; cell++)
+        for (reading = 3; reading > 0; reading--)
+            if (!done("insert", amiqsovik_insert(store, sizeof store, cell, 100 + cell, reading)))
+                return 1;
+    show_standing();
+    show_readings(4);
+
+    /* The same pair again is refused, and changes nothing. */
+    done("insert", amiqsovik_insert(store, sizeof store, 4, 104, 1));
+
+    /* Splits go step by step, whenever the host has time. */
+    word = amiqsovik_work(store, sizeof store, 1000);
+    if (!done("work", word))
+        return 1;
+    printf("%" PRIu32 " steps, stop %" PRIu32 "\n", amiqsovik_steps(word), amiqsovik_stop(word));
+    if (!done("remove", amiqsovik_remove(store, sizeof store, 4, 104, 2)))
+        return 1;
+    show_standing();
+    show_readings(4);
+    return done("verify", amiqsovik_verify(store, sizeof store)) ? 0 : 1;
+}

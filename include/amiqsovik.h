@@ -1,0 +1,147 @@
+/* Amiqsovik's hash index: the calls for C, in target/staticlib/libcapi.a (`rt staticlib capi`), for x86-64 Linux.
+ *
+ * An index is a store: one byte array of N blocks of 512 bytes, N from 4 to 128, that the caller owns. It holds
+ * pairs of a 32-bit hash code and a reading's place: a block number (32 bits) and an offset (16 bits). A pair is
+ * held once or not at all.
+ *
+ * What holds of every call:
+ *
+ * - Any bytes and any numbers may be handed in. Each call ends, and answers one 64-bit word (below).
+ * - Only the bytes of the arrays that are handed in are read, and only those of arrays that are not const are
+ *   written. Nothing is allocated, and no state is kept from call to call: the store's bytes are all there is. The
+ *   library needs memcpy and memset of the host, and nothing else.
+ * - An array is a pointer and its length in bytes. It needs no alignment. With length 0 the pointer may be NULL and
+ *   is not followed. With any other length it points to that many bytes, all of them initialised.
+ * - Two arrays of one call must not overlap. While a call runs, nobody else writes to its arrays, and nobody else
+ *   reads those that are not const. Calls on different arrays may run at the same time.
+ * - A refused call leaves the store and the output as they were.
+ *
+ * Each call's answer and the bytes afterwards are proved equal to what a definition gives, for all inputs:
+ * crates/capi/src/lib.rt. That this header fits those functions is not proved.
+ */
+#ifndef AMIQSOVIK_H
+#define AMIQSOVIK_H
+
+#include <stddef.h>
+#include <stdint.h>
+
+#ifdef __cplusplus
+extern "C" {
+#endif
+
+#define AMIQSOVIK_BLOCK_BYTES 512
+#define AMIQSOVIK_MIN_BLOCKS 4
+#define AMIQSOVIK_MAX_BLOCKS 128
+#define AMIQSOVIK_MATCH_BYTES 6   /* a match in the output of a lookup */
+#define AMIQSOVIK_RESULT_BYTES 28 /* what amiqsovik_standing writes */
+
+/* ---- The word that a call answers: bits 0..7 the number of the answer, bits 8..15 work's stop, bits 16..31 work's
+ * steps, bits 32..63 what the answer gives besides. Stop and steps are 0 in the word of any other call. */
+
+static inline uint32_t amiqsovik_number(uint64_t word) { return (uint32_t)(word & 0xFF); }
+static inline uint32_t amiqsovik_stop(uint64_t word) { return (uint32_t)(word >> 8 & 0xFF); }
+static inline uint32_t amiqsovik_steps(uint64_t word) { return (uint32_t)(word >> 16 & 0xFFFF); }
+static inline uint32_t amiqsovik_gives(uint64_t word) { return (uint32_t)(word >> 32); }
+
+/* The numbers of the answers, 0 to 8 as in document 01's table. What a number gives besides is 0 where nothing is
+ * said of it. Where several fit, the call answers the first of 11, 1, 2, 3, 4, 8, 5 or 6, 7. */
+#define AMIQSOVIK_DONE 0
+#define AMIQSOVIK_LENGTH 1        /* the store is not a multiple of 512 bytes, or N is outside 4..128 */
+#define AMIQSOVIK_NUMBER 2        /* an argument is outside its range: see the calls */
+#define AMIQSOVIK_DAMAGED 3       /* a block's check is wrong; gives the lowest such block */
+#define AMIQSOVIK_NOT_AN_INDEX 4  /* checks right, a rule of sound stores broken; gives the lowest such rule, 1..8 */
+#define AMIQSOVIK_HELD_ALREADY 5  /* insert: the pair is held */
+#define AMIQSOVIK_NOT_HELD 6      /* remove: the pair is not held */
+#define AMIQSOVIK_NO_ROOM 7       /* insert: the bucket's pages are full, and there is no free page and no new one */
+#define AMIQSOVIK_OUTPUT_SHORT 8  /* lookup: output_length / 6 is below the number of matches; gives that number */
+#define AMIQSOVIK_RESULT_SHORT 11 /* standing: result_length is below 28; gives 28. Not in document 01's table */
+
+/* ---- The calls */
+
+/* Tests a store. DONE (it is sound), LENGTH, DAMAGED or NOT_AN_INDEX. */
+uint64_t amiqsovik_verify(const uint8_t *store, size_t store_length);
+
+/* Makes a store new, whatever its bytes are: two buckets, no pairs. `fill`, 1..40, is how many pairs a bucket is to
+ * hold on average: with more, a split is wanted. DONE, LENGTH or NUMBER. */
+uint64_t amiqsovik_format(uint8_t *store, size_t store_length, uint32_t fill);
+
+/* Puts a pair in. `offset` is 1..65535 and `block` is not 4294967295, else NUMBER. DONE, LENGTH, NUMBER, DAMAGED,
+ * NOT_AN_INDEX, HELD_ALREADY or NO_ROOM. */
+uint64_t amiqsovik_insert(uint8_t *store, size_t store_length, uint32_t hash, uint32_t block, uint32_t offset);
+
+/* Takes a pair out. The numbers are tested as insert tests them. DONE, LENGTH, NUMBER, DAMAGED, NOT_AN_INDEX or
+ * NOT_HELD. */
+uint64_t amiqsovik_remove(uint8_t *store, size_t store_length, uint32_t hash, uint32_t block, uint32_t offset);
+
+/* Lists the places of the pairs held under a hash code, ascending by block, then offset: six bytes each, the block
+ * and then the offset, little-endian (amiqsovik_match_block and amiqsovik_match_offset read them). Later output
+ * bytes stay. DONE, which gives the number of matches, LENGTH, DAMAGED, NOT_AN_INDEX or OUTPUT_SHORT. */
+uint64_t amiqsovik_lookup(const uint8_t *store, size_t store_length, uint32_t hash, uint8_t *output,
+                          size_t output_length);
+
+/* Does steps of splits, at most `budget`, 0..65535, else NUMBER. After each step the store is sound and every lookup
+ * finds what it found before. DONE, with the number of steps done and why they stopped, LENGTH, NUMBER, DAMAGED or
+ * NOT_AN_INDEX. A stop with no room is no refusal: the steps done before it stay. */
+uint64_t amiqsovik_work(uint8_t *store, size_t store_length, uint32_t budget);
+
+#define AMIQSOVIK_STOP_SPENT 0   /* the budget is spent */
+#define AMIQSOVIK_STOP_NO_ROOM 7 /* the next step finds no room; it changed nothing */
+#define AMIQSOVIK_STOP_IDLE 9    /* there is no job, and no split is wanted */
+
+/* Writes 28 bytes to `result`, little-endian (amiqsovik_stands reads them): count of held pairs, buckets, phase, old
+ * bucket, new bucket, 32 bits each, and then the slack, fill * buckets - count, in 64 bits, two's complement. A slack
+ * below zero means that a split is wanted. Later bytes of `result` stay. DONE, RESULT_SHORT, LENGTH, DAMAGED or
+ * NOT_AN_INDEX. RESULT_SHORT is tested first and writes nothing; the other refusals write 28 zeros. */
+uint64_t amiqsovik_standing(const uint8_t *store, size_t store_length, uint8_t *result, size_t result_length);
+
+#define AMIQSOVIK_PHASE_NONE 0 /* no job; both bucket numbers are 0 */
+#define AMIQSOVIK_PHASE_COPYING 1
+#define AMIQSOVIK_PHASE_CLEARING 2
+
+/* ---- Readers of what the calls write */
+
+static inline uint32_t amiqsovik_u32(const uint8_t *p)
+{
+    return (uint32_t)p[0] | (uint32_t)p[1] << 8 | (uint32_t)p[2] << 16 | (uint32_t)p[3] << 24;
+}
+
+/* The match `i` of a lookup that gave more than `i`. */
+static inline uint32_t amiqsovik_match_block(const uint8_t *output, size_t i)
+{
+    return amiqsovik_u32(output + AMIQSOVIK_MATCH_BYTES * i);
+}
+
+static inline uint16_t amiqsovik_match_offset(const uint8_t *output, size_t i)
+{
+    const uint8_t *p = output + AMIQSOVIK_MATCH_BYTES * i + 4;
+    return (uint16_t)(p[0] | p[1] << 8);
+}
+
+struct amiqsovik_standing_values {
+    uint32_t count;
+    uint32_t buckets;
+    uint32_t phase;
+    uint32_t old_bucket;
+    uint32_t new_bucket;
+    int64_t slack;
+};
+
+/* The 28 bytes that amiqsovik_standing wrote. */
+static inline struct amiqsovik_standing_values amiqsovik_stands(const uint8_t *result)
+{
+    uint64_t bits = amiqsovik_u32(result + 20) | (uint64_t)amiqsovik_u32(result + 24) << 32;
+    struct amiqsovik_standing_values s;
+    s.count = amiqsovik_u32(result);
+    s.buckets = amiqsovik_u32(result + 4);
+    s.phase = amiqsovik_u32(result + 8);
+    s.old_bucket = amiqsovik_u32(result + 12);
+    s.new_bucket = amiqsovik_u32(result + 16);
+    s.slack = bits >> 63 ? -(int64_t)~bits - 1 : (int64_t)bits;
+    return s;
+}
+
+#ifdef __cplusplus
+}
+#endif
+
+#endif

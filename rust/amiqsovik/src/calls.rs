@@ -1,0 +1,123 @@
+//! The seven calls, over plain slices and plain numbers.
+
+use crate::answer::{Phase, Refusal, Standing, Worked};
+use crate::foreign;
+use crate::matches::Matches;
+use crate::word::Word;
+
+/// Judges a store: done if it is a sound index.
+///
+/// ```
+/// use amiqsovik::{verify, Refusal};
+/// assert_eq!(verify(&[0; 100]), Err(Refusal::Length));
+/// assert_eq!(verify(&[0; 4 * 512]), Err(Refusal::Damaged { block: 0 }));
+/// ```
+pub fn verify(store: &[u8]) -> Result<(), Refusal> {
+    Word(foreign::verify(store)).done().map(drop)
+}
+
+/// Makes a store of any bytes an empty index. `fill`, 1 to 40, is the number of pairs a bucket above which buckets
+/// split.
+///
+/// ```
+/// let mut store = [0; 8 * 512];
+/// amiqsovik::format(&mut store, 30)?;
+/// assert_eq!(amiqsovik::standing(&store)?.slack, 60);
+/// # Ok::<(), amiqsovik::Refusal>(())
+/// ```
+pub fn format(store: &mut [u8], fill: u32) -> Result<(), Refusal> {
+    Word(foreign::format(store, fill)).done().map(drop)
+}
+
+/// Puts in the pair of a hash code and a reading's place. An offset that does not fit 16 bits is refused, as 0 is.
+///
+/// ```
+/// # let mut store = [0; 8 * 512];
+/// # amiqsovik::format(&mut store, 30)?;
+/// use amiqsovik::{insert, Refusal};
+/// assert_eq!(insert(&mut store, 5, 7, 1), Ok(()));
+/// assert_eq!(insert(&mut store, 5, 7, 1), Err(Refusal::HeldAlready));
+/// assert_eq!(insert(&mut store, 5, 7, 65_536), Err(Refusal::Number));
+/// # Ok::<(), amiqsovik::Refusal>(())
+/// ```
+pub fn insert(store: &mut [u8], hash: u32, block: u32, offset: u32) -> Result<(), Refusal> {
+    Word(foreign::insert(store, hash, block, offset)).done().map(drop)
+}
+
+/// Takes a pair out.
+///
+/// ```
+/// # let mut store = [0; 8 * 512];
+/// # amiqsovik::format(&mut store, 30)?;
+/// use amiqsovik::{remove, Refusal};
+/// assert_eq!(remove(&mut store, 5, 7, 1), Err(Refusal::NotHeld));
+/// # Ok::<(), amiqsovik::Refusal>(())
+/// ```
+pub fn remove(store: &mut [u8], hash: u32, block: u32, offset: u32) -> Result<(), Refusal> {
+    Word(foreign::remove(store, hash, block, offset)).done().map(drop)
+}
+
+/// Writes the readings held under a hash code to the output, 6 bytes each, and gives them. Later bytes of the output
+/// stay as they are.
+///
+/// ```
+/// # let mut store = [0; 8 * 512];
+/// # amiqsovik::format(&mut store, 30)?;
+/// use amiqsovik::{insert, lookup, Reading, Refusal};
+/// insert(&mut store, 5, 7, 1)?;
+/// insert(&mut store, 5, 3, 2)?;
+/// let mut output = [0; 600];
+/// let found: Vec<Reading> = lookup(&store, 5, &mut output)?.collect();
+/// assert_eq!(found, [Reading::new(3, 2), Reading::new(7, 1)]);
+/// let short = lookup(&store, 5, &mut output[..11]).map(|found| found.len());
+/// assert_eq!(short, Err(Refusal::OutputShort { matches: 2 }));
+/// # Ok::<(), amiqsovik::Refusal>(())
+/// ```
+pub fn lookup<'o>(store: &[u8], hash: u32, output: &'o mut [u8]) -> Result<Matches<'o>, Refusal> {
+    let word = Word(foreign::lookup(store, hash, output)).done()?;
+    Ok(Matches::new(output, word.gives()))
+}
+
+/// Makes up to `budget` steps, at most 65535, of the splits that are wanted. The store is a sound index after each
+/// step.
+///
+/// ```
+/// # let mut store = [0; 8 * 512];
+/// use amiqsovik::{format, insert, work, Stop, Worked};
+/// format(&mut store, 1)?;
+/// for hash in [0, 2, 4] {
+///     insert(&mut store, hash, 9, 1)?;
+/// }
+/// assert_eq!(work(&mut store, 2)?, Worked { steps: 2, stop: Stop::Spent });
+/// assert_eq!(work(&mut store, 9)?, Worked { steps: 3, stop: Stop::Idle });
+/// # Ok::<(), amiqsovik::Refusal>(())
+/// ```
+pub fn work(store: &mut [u8], budget: u32) -> Result<Worked, Refusal> {
+    let word = Word(foreign::work(store, budget)).done()?;
+    Ok(Worked { steps: word.steps(), stop: word.stop() })
+}
+
+/// How the index stands.
+///
+/// ```
+/// # let mut store = [0; 8 * 512];
+/// use amiqsovik::{format, standing, Phase, Standing};
+/// format(&mut store, 10)?;
+/// let now = Standing { count: 0, buckets: 2, phase: Phase::None, slack: 20 };
+/// assert_eq!(standing(&store)?, now);
+/// # Ok::<(), amiqsovik::Refusal>(())
+/// ```
+pub fn standing(store: &[u8]) -> Result<Standing, Refusal> {
+    let mut result = [0; 28];
+    Word(foreign::standing(store, &mut result)).done()?;
+    let (numbers, slack) = result.split_at(20);
+    let number = |i: usize| u32::from_le_bytes(std::array::from_fn(|k| numbers[4 * i + k]));
+    let phase = match number(2) {
+        0 => Phase::None,
+        1 => Phase::Copying { old: number(3), new: number(4) },
+        2 => Phase::Clearing { old: number(3), new: number(4) },
+        other => panic!("the archive answered with phase {other}"),
+    };
+    let slack = i64::from_le_bytes(std::array::from_fn(|k| slack[k]));
+    Ok(Standing { count: number(0), buckets: number(1), phase, slack })
+}

@@ -1,0 +1,80 @@
+//! The archive's functions, and the only unsafe code: each call lends slices for as long as it runs.
+
+mod c {
+    #![allow(clippy::missing_safety_doc)]
+
+    extern "C" {
+        pub fn amiqsovik_verify(store: *const u8, len: usize) -> u64;
+        pub fn amiqsovik_format(store: *mut u8, len: usize, fill: u32) -> u64;
+        pub fn amiqsovik_insert(store: *mut u8, len: usize, hash: u32, block: u32, offset: u32) -> u64;
+        pub fn amiqsovik_remove(store: *mut u8, len: usize, hash: u32, block: u32, offset: u32) -> u64;
+        pub fn amiqsovik_lookup(store: *const u8, len: usize, hash: u32, out: *mut u8, out_len: usize) -> u64;
+        pub fn amiqsovik_work(store: *mut u8, len: usize, budget: u32) -> u64;
+        pub fn amiqsovik_standing(store: *const u8, len: usize, result: *mut u8, result_len: usize) -> u64;
+    }
+}
+
+// SAFETY, of every call below: a function of the archive reads and writes nothing but the `len` bytes from the pointer
+// that it is given (reads only, through a `*const`), whatever they hold; it keeps no pointer and no state when it
+// returns, never unwinds, and takes any numbers. A Rust slice is a valid, aligned pointer with its length, and the
+// borrow checker sees to it that a slice that is written overlaps no other and is used by nobody else meanwhile.
+
+pub fn verify(store: &[u8]) -> u64 {
+    // SAFETY: the store is lent to be read.
+    unsafe { c::amiqsovik_verify(store.as_ptr(), store.len()) }
+}
+
+pub fn format(store: &mut [u8], fill: u32) -> u64 {
+    // SAFETY: the store is lent to be changed, and nothing else.
+    unsafe { c::amiqsovik_format(store.as_mut_ptr(), store.len(), fill) }
+}
+
+pub fn insert(store: &mut [u8], hash: u32, block: u32, offset: u32) -> u64 {
+    // SAFETY: the store is lent to be changed, and nothing else.
+    unsafe { c::amiqsovik_insert(store.as_mut_ptr(), store.len(), hash, block, offset) }
+}
+
+pub fn remove(store: &mut [u8], hash: u32, block: u32, offset: u32) -> u64 {
+    // SAFETY: the store is lent to be changed, and nothing else.
+    unsafe { c::amiqsovik_remove(store.as_mut_ptr(), store.len(), hash, block, offset) }
+}
+
+pub fn lookup(store: &[u8], hash: u32, output: &mut [u8]) -> u64 {
+    // SAFETY: the store is lent to be read, the output to be changed, and they do not overlap.
+    unsafe { c::amiqsovik_lookup(store.as_ptr(), store.len(), hash, output.as_mut_ptr(), output.len()) }
+}
+
+pub fn work(store: &mut [u8], budget: u32) -> u64 {
+    // SAFETY: the store is lent to be changed, and nothing else.
+    unsafe { c::amiqsovik_work(store.as_mut_ptr(), store.len(), budget) }
+}
+
+pub fn standing(store: &[u8], result: &mut [u8; 28]) -> u64 {
+    // SAFETY: the store is lent to be read, the result to be changed, and they do not overlap.
+    unsafe { c::amiqsovik_standing(store.as_ptr(), store.len(), result.as_mut_ptr(), result.len()) }
+}
+
+#[cfg(test)]
+mod tests {
+    use super::c;
+
+    /// The one answer that the wrapper never gets, since it always lends 28 bytes.
+    #[test]
+    fn a_short_result_is_refused_first() {
+        for len in [0, 1, 27] {
+            let mut result = [0x5A; 28];
+            // SAFETY: both pointers are those of arrays, with at most their lengths, and the arrays do not overlap.
+            let word = unsafe { c::amiqsovik_standing([0; 7].as_ptr(), 7, result.as_mut_ptr(), len) };
+            assert_eq!((word, result), (28 << 32 | 11, [0x5A; 28]));
+        }
+    }
+
+    /// What standing leaves in the result: zeros on a refusal, and nothing past 28 bytes.
+    #[test]
+    fn a_refused_standing_gives_zeros() {
+        let mut result = [0x5A; 30];
+        // SAFETY: as above.
+        let word = unsafe { c::amiqsovik_standing([0; 7].as_ptr(), 7, result.as_mut_ptr(), result.len()) };
+        assert_eq!((word, result[..28].to_vec(), result[28..].to_vec()), (1, vec![0; 28], vec![0x5A; 2]));
+    }
+}

@@ -1,0 +1,41 @@
+//! Amiqsovik's hash index: a safe interface to the proved one.
+//!
+//! A store is a byte slice of 4 to 128 blocks of 512 bytes that you own and lend. The index keeps pairs in it: a
+//! 32-bit hash code and the place of a [`Reading`]. The code behind the calls is machine-checked: whatever bytes and
+//! numbers it is given, each call ends, and either is done or gives a [`Refusal`] and changes nothing. It allocates
+//! nothing.
+//!
+//! The seven calls are functions over slices; [`Store`] has them as methods.
+//!
+//! ```
+//! use amiqsovik::{Reading, Store};
+//! let mut bytes = vec![0; 16 * 512];
+//! let mut store = Store::formatted(&mut bytes, 10)?;
+//! store.insert(0xC0FFEE, Reading::new(7, 1))?;
+//! let mut output = [0; 60];
+//! let found: Vec<Reading> = store.lookup(0xC0FFEE, &mut output)?.collect();
+//! assert_eq!(found, [Reading::new(7, 1)]);
+//! # Ok::<(), amiqsovik::Refusal>(())
+//! ```
+//!
+//! Splits of buckets go step by step, when you say so: call [`work`] when [`standing`]'s slack is below zero. Lookups
+//! find the same readings before, between and after the steps.
+
+#![warn(missing_docs)]
+#![deny(unsafe_code)]
+
+mod answer;
+mod calls;
+#[allow(unsafe_code)]
+mod foreign;
+mod matches;
+mod store;
+mod word;
+
+pub use answer::{Phase, Refusal, Standing, Stop, Worked};
+pub use calls::{format, insert, lookup, remove, standing, verify, work};
+pub use matches::{Matches, Reading, MATCH_SIZE};
+pub use store::Store;
+
+/// The bytes of a block. A store has 4 to 128 of them.
+pub const BLOCK_SIZE: usize = 512;

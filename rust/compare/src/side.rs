@@ -1,0 +1,166 @@
+//! The two implementations behind one interface, their answers in document 01's numbers.
+
+/// An answer: the number of the refusal or 0, what it gives besides, and work's steps and stop. A done lookup gives its
+/// number of matches.
+#[derive(Debug, Clone, Copy, PartialEq, Eq, Default)]
+pub struct Reply {
+    pub number: u8,
+    pub gives: u32,
+    pub steps: u32,
+    pub stop: u8,
+}
+
+impl Reply {
+    pub fn done(self) -> bool {
+        self.number == 0
+    }
+
+    pub fn refused(number: u8, gives: u32) -> Self {
+        Reply { number, gives, ..Reply::default() }
+    }
+}
+
+/// How an index stands; all zero on a refusal. The phase is 0 none, 1 copying, 2 clearing.
+#[derive(Debug, Clone, Copy, PartialEq, Eq, Default)]
+pub struct State {
+    pub count: u32,
+    pub buckets: u32,
+    pub phase: u32,
+    pub old: u32,
+    pub new: u32,
+    pub slack: i64,
+}
+
+/// An implementation of the index.
+pub trait Side {
+    fn verify(store: &[u8]) -> Reply;
+    fn format(store: &mut [u8], fill: u32) -> Reply;
+    fn insert(store: &mut [u8], hash: u32, block: u32, offset: u32) -> Reply;
+    fn remove(store: &mut [u8], hash: u32, block: u32, offset: u32) -> Reply;
+    fn lookup(store: &[u8], hash: u32, output: &mut [u8]) -> Reply;
+    fn work(store: &mut [u8], budget: u32) -> Reply;
+    fn standing(store: &[u8]) -> (Reply, State);
+}
+
+/// The proved index, through its wrapper.
+pub struct Proved;
+
+/// The ordinary one.
+pub struct Ordinary;
+
+impl Side for Proved {
+    fn verify(store: &[u8]) -> Reply {
+        proved(amiqsovik::verify(store))
+    }
+
+    fn format(store: &mut [u8], fill: u32) -> Reply {
+        proved(amiqsovik::format(store, fill))
+    }
+
+    fn insert(store: &mut [u8], hash: u32, block: u32, offset: u32) -> Reply {
+        proved(amiqsovik::insert(store, hash, block, offset))
+    }
+
+    fn remove(store: &mut [u8], hash: u32, block: u32, offset: u32) -> Reply {
+        proved(amiqsovik::remove(store, hash, block, offset))
+    }
+
+    fn lookup(store: &[u8], hash: u32, output: &mut [u8]) -> Reply {
+        match amiqsovik::lookup(store, hash, output) {
+            Ok(matches) => Reply { gives: matches.len() as u32, ..Reply::default() },
+            Err(refusal) => proved(Err(refusal)),
+        }
+    }
+
+    fn work(store: &mut [u8], budget: u32) -> Reply {
+        match amiqsovik::work(store, budget) {
+            Ok(did) => Reply { steps: did.steps, stop: did.stop.number(), ..Reply::default() },
+            Err(refusal) => proved(Err(refusal)),
+        }
+    }
+
+    fn standing(store: &[u8]) -> (Reply, State) {
+        use amiqsovik::Phase;
+        match amiqsovik::standing(store) {
+            Ok(now) => {
+                let (phase, old, new) = match now.phase {
+                    Phase::None => (0, 0, 0),
+                    Phase::Copying { old, new } => (1, old, new),
+                    Phase::Clearing { old, new } => (2, old, new),
+                };
+                let state = State { count: now.count, buckets: now.buckets, phase, old, new, slack: now.slack };
+                (Reply::default(), state)
+            }
+            Err(refusal) => (proved(Err(refusal)), State::default()),
+        }
+    }
+}
+
+fn proved(answer: Result<(), amiqsovik::Refusal>) -> Reply {
+    use amiqsovik::Refusal::{Damaged, NotAnIndex, OutputShort};
+    match answer {
+        Ok(()) => Reply::default(),
+        Err(refusal) => {
+            let gives = match refusal {
+                Damaged { block: n } | NotAnIndex { rule: n } | OutputShort { matches: n } => n,
+                _ => 0,
+            };
+            Reply::refused(refusal.number(), gives)
+        }
+    }
+}
+
+impl Side for Ordinary {
+    fn verify(store: &[u8]) -> Reply {
+        ordinary(ordinary::verify(store))
+    }
+
+    fn format(store: &mut [u8], fill: u32) -> Reply {
+        ordinary(ordinary::format(store, fill))
+    }
+
+    fn insert(store: &mut [u8], hash: u32, block: u32, offset: u32) -> Reply {
+        ordinary(ordinary::insert(store, hash, block, offset))
+    }
+
+    fn remove(store: &mut [u8], hash: u32, block: u32, offset: u32) -> Reply {
+        ordinary(ordinary::remove(store, hash, block, offset))
+    }
+
+    fn lookup(store: &[u8], hash: u32, output: &mut [u8]) -> Reply {
+        match ordinary::lookup(store, hash, output) {
+            Ok(matches) => Reply { gives: matches, ..Reply::default() },
+            Err(refusal) => ordinary(Err(refusal)),
+        }
+    }
+
+    fn work(store: &mut [u8], budget: u32) -> Reply {
+        match ordinary::work(store, budget) {
+            Ok(did) => Reply { steps: did.steps, stop: did.stop.number(), ..Reply::default() },
+            Err(refusal) => ordinary(Err(refusal)),
+        }
+    }
+
+    fn standing(store: &[u8]) -> (Reply, State) {
+        use ordinary::Phase;
+        match ordinary::standing(store) {
+            Ok(now) => {
+                let (phase, old, new) = match now.phase {
+                    Phase::None => (0, 0, 0),
+                    Phase::Copying { old, new } => (1, old, new),
+                    Phase::Clearing { old, new } => (2, old, new),
+                };
+                let state = State { count: now.count, buckets: now.buckets, phase, old, new, slack: now.slack };
+                (Reply::default(), state)
+            }
+            Err(refusal) => (ordinary(Err(refusal)), State::default()),
+        }
+    }
+}
+
+fn ordinary(answer: Result<(), ordinary::Refusal>) -> Reply {
+    match answer {
+        Ok(()) => Reply::default(),
+        Err(refusal) => Reply::refused(refusal.number(), refusal.gives()),
+    }
+}

@@ -1,0 +1,114 @@
+//! One store, kept twice: every call is made on both and compared.
+
+use crate::side::{Ordinary, Proved, Reply, Side, State};
+
+/// The same bytes in the hands of both implementations.
+#[derive(Clone)]
+pub struct Twin {
+    proved: Vec<u8>,
+    ordinary: Vec<u8>,
+    /// Said when something differs.
+    pub label: String,
+}
+
+impl Twin {
+    pub fn new(bytes: Vec<u8>, label: impl Into<String>) -> Self {
+        Twin { proved: bytes.clone(), ordinary: bytes, label: label.into() }
+    }
+
+    pub fn bytes(&self) -> &[u8] {
+        &self.proved
+    }
+
+    pub fn verify(&self) -> Reply {
+        self.read("verify", Proved::verify, Ordinary::verify)
+    }
+
+    pub fn standing(&self) -> (Reply, State) {
+        self.read("standing", Proved::standing, Ordinary::standing)
+    }
+
+    pub fn format(&mut self, fill: u32) -> Reply {
+        let call = format!("format {fill}");
+        self.write(&call, |store| Proved::format(store, fill), |store| Ordinary::format(store, fill))
+    }
+
+    pub fn insert(&mut self, hash: u32, block: u32, offset: u32) -> Reply {
+        let call = format!("insert {hash} {block} {offset}");
+        self.write(
+            &call,
+            |store| Proved::insert(store, hash, block, offset),
+            |store| Ordinary::insert(store, hash, block, offset),
+        )
+    }
+
+    pub fn remove(&mut self, hash: u32, block: u32, offset: u32) -> Reply {
+        let call = format!("remove {hash} {block} {offset}");
+        self.write(
+            &call,
+            |store| Proved::remove(store, hash, block, offset),
+            |store| Ordinary::remove(store, hash, block, offset),
+        )
+    }
+
+    pub fn work(&mut self, budget: u32) -> Reply {
+        let call = format!("work {budget}");
+        self.write(&call, |store| Proved::work(store, budget), |store| Ordinary::work(store, budget))
+    }
+
+    /// A lookup with an output of `room` bytes, and the matches that it gave.
+    pub fn lookup(&self, hash: u32, room: usize) -> (Reply, Vec<(u32, u16)>) {
+        let blank: Vec<u8> = (0..room).map(|i| 0xA5 ^ i as u8).collect();
+        let call = format!("lookup {hash} {room}");
+        let (reply, output) = self.read(
+            &call,
+            |store| {
+                let mut output = blank.clone();
+                (Proved::lookup(store, hash, &mut output), output)
+            },
+            |store| {
+                let mut output = blank.clone();
+                (Ordinary::lookup(store, hash, &mut output), output)
+            },
+        );
+        let written = if reply.done() { 6 * reply.gives as usize } else { 0 };
+        assert_eq!(output[written..], blank[written..], "{}: {call} wrote past its matches", self.label);
+        let places = output[..written].chunks_exact(6);
+        let places = places.map(|place| {
+            let block = u32::from_le_bytes([place[0], place[1], place[2], place[3]]);
+            (block, u16::from_le_bytes([place[4], place[5]]))
+        });
+        (reply, places.collect())
+    }
+
+    fn read<T: PartialEq + std::fmt::Debug>(
+        &self,
+        call: &str,
+        proved: impl Fn(&[u8]) -> T,
+        ordinary: impl Fn(&[u8]) -> T,
+    ) -> T {
+        let answer = proved(&self.proved);
+        let other = ordinary(&self.ordinary);
+        assert_eq!(answer, other, "{}: {call}: answers differ (proved, ordinary)", self.label);
+        assert!(self.proved == self.ordinary, "{}: {call} changed the store", self.label);
+        answer
+    }
+
+    fn write(
+        &mut self,
+        call: &str,
+        proved: impl Fn(&mut [u8]) -> Reply,
+        ordinary: impl Fn(&mut [u8]) -> Reply,
+    ) -> Reply {
+        let before = self.proved.clone();
+        let answer = proved(&mut self.proved);
+        let other = ordinary(&mut self.ordinary);
+        assert_eq!(answer, other, "{}: {call}: answers differ (proved, ordinary)", self.label);
+        if let Some(at) = (0..before.len()).find(|&at| self.proved[at] != self.ordinary[at]) {
+            let (block, byte) = (at / 512, at % 512);
+            panic!("{}: {call}: {answer:?}: stores differ at block {block}, byte {byte}", self.label);
+        }
+        assert!(answer.done() || before == self.proved, "{}: {call}: refused, but changed the store", self.label);
+        answer
+    }
+}

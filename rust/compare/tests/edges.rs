@@ -1,0 +1,88 @@
+//! Lengths, numbers and outputs at and past their ends.
+
+use compare::build::sound;
+use compare::random::Random;
+use compare::side::Reply;
+use compare::twin::Twin;
+
+fn filled(pairs: u32) -> Twin {
+    let mut twin = Twin::new(vec![0; 12 * 512], "edges");
+    assert!(twin.format(40).done());
+    for i in 0..pairs {
+        assert!(twin.insert(77, i, 1 + i).done());
+    }
+    twin
+}
+
+#[test]
+fn lengths() {
+    let whole = sound(&mut Random::new(1), 128, 1, 40);
+    let mut lengths = vec![0, 1, 27, 28, 511, 512, 513, 3 * 512, 4 * 512 - 1, 4 * 512 + 1, 127 * 512 + 511];
+    lengths.extend([128 * 512 - 512 + 1, 100 * 512 + 256]);
+    let mut stores: Vec<Vec<u8>> = lengths.iter().map(|&len| whole[..len].to_vec()).collect();
+    stores.push([whole.clone(), vec![0]].concat());
+    stores.push([whole.clone(), vec![0; 512]].concat());
+    stores.push([whole.clone(), whole].concat());
+    for store in stores {
+        let mut twin = Twin::new(store.clone(), format!("{} bytes", store.len()));
+        let length = Reply::refused(1, 0);
+        assert_eq!(twin.verify(), length);
+        assert_eq!(twin.standing().0, length);
+        assert_eq!(twin.lookup(1, 600).0, length);
+        // A wrong length comes before a wrong number.
+        for (good, bad) in [(1, 0), (40, 41), (7, u32::MAX)] {
+            assert_eq!((twin.format(good), twin.format(bad)), (length, length));
+            assert_eq!((twin.insert(1, 1, good), twin.insert(1, 1, bad)), (length, length));
+            assert_eq!((twin.remove(1, 1, good), twin.remove(1, u32::MAX, bad)), (length, length));
+            assert_eq!((twin.work(good), twin.work(u32::MAX)), (length, length));
+        }
+    }
+}
+
+#[test]
+fn a_prefix_of_whole_blocks_is_no_index() {
+    let whole = sound(&mut Random::new(2), 24, 0, 40);
+    for blocks in 4..24 {
+        let twin = Twin::new(whole[..blocks * 512].to_vec(), format!("first {blocks} blocks"));
+        assert_eq!(twin.verify(), Reply::refused(4, 1));
+    }
+}
+
+#[test]
+fn numbers() {
+    let mut twin = filled(3);
+    let number = Reply::refused(2, 0);
+    for offset in [0, 65_536, 65_537, 131_073, u32::MAX] {
+        assert_eq!((twin.insert(77, 0, offset), twin.remove(77, 0, offset)), (number, number));
+    }
+    assert_eq!((twin.insert(77, u32::MAX, 1), twin.remove(77, u32::MAX, 1)), (number, number));
+    for fill in [0, 41, 65_536 + 7, u32::MAX] {
+        assert_eq!(twin.format(fill), number);
+    }
+    for budget in [65_536, 65_537, u32::MAX] {
+        assert_eq!(twin.work(budget), number);
+    }
+    for hash in [0, 77, u32::MAX] {
+        assert!(twin.insert(hash, u32::MAX - 1, 65_535).done());
+        assert_eq!(twin.insert(hash, u32::MAX - 1, 65_535).number, 5);
+        assert!(twin.remove(hash, u32::MAX - 1, 65_535).done());
+        assert_eq!(twin.remove(hash, u32::MAX - 1, 65_535).number, 6);
+    }
+    assert_eq!(twin.work(65_535), Reply { stop: 9, ..Reply::default() });
+    assert_eq!(twin.work(0), Reply::default());
+}
+
+#[test]
+fn outputs() {
+    let twin = filled(50);
+    for room in [0, 1, 5, 6, 7, 294, 299] {
+        assert_eq!(twin.lookup(77, room).0, Reply::refused(8, 50));
+    }
+    let places: Vec<(u32, u16)> = (0..50).map(|i| (i, 1 + i as u16)).collect();
+    for room in [300, 301, 305, 306, 30_000] {
+        assert_eq!(twin.lookup(77, room).1, places);
+    }
+    for room in [0, 1, 6] {
+        assert_eq!(twin.lookup(78, room), (Reply::default(), Vec::new()));
+    }
+}

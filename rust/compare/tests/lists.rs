@@ -1,0 +1,56 @@
+//! Random lists of calls on both sides: answers, stores and outputs are the same.
+
+use compare::lists::{Maker, Seen};
+use compare::twin::Twin;
+
+fn run(seed: u64, blocks: usize, fill: u32, calls: u32, maker: &mut Maker, seen: &mut Seen) {
+    let mut twin = Twin::new(vec![0x5A; blocks * 512], format!("seed {seed}, N {blocks}, fill {fill}"));
+    assert!(twin.format(fill).done());
+    for _ in 0..calls {
+        let call = maker.call();
+        let reply = call.make(&mut twin);
+        maker.note(call, reply);
+        seen.note(call, reply, &twin);
+    }
+    assert!(twin.verify().done());
+}
+
+#[test]
+fn few_codes_in_small_stores() {
+    let mut seen = Seen::default();
+    for seed in 0..10 {
+        let mut maker = Maker::new(seed, 2 + seed as u32 % 3, 150, true);
+        run(seed, 4 + seed as usize, 1 + seed as u32 * 13 % 40, 800, &mut maker, &mut seen);
+    }
+    seen.reached(&[0, 2, 5, 6, 7, 8], &[0, 7, 9], &[0, 1, 2]);
+    assert!(seen.longest_chain >= 4 && seen.most_free_pages >= 1, "{seen:?}");
+}
+
+#[test]
+fn many_codes_in_middle_stores() {
+    let mut seen = Seen::default();
+    for seed in 100..106 {
+        let mut maker = Maker::new(seed, 150, 4, seed % 2 == 0);
+        run(seed, 14 + 7 * (seed as usize - 100), 4 + (seed as u32 - 100) * 6, 620, &mut maker, &mut seen);
+    }
+    seen.reached(&[0, 2, 5, 6, 8], &[0, 7, 9], &[0, 1, 2]);
+    assert!(seen.most_buckets >= 12 && seen.most_free_pages >= 1, "{seen:?}");
+}
+
+#[test]
+fn many_codes_in_the_largest_store() {
+    let mut seen = Seen::default();
+    let mut maker = Maker::new(200, 1000, 2, false);
+    maker.budget = 40;
+    run(200, 128, 2, 400, &mut maker, &mut seen);
+    seen.reached(&[0, 2, 5], &[0, 7, 9], &[0, 1, 2]);
+    assert!(seen.most_buckets >= 48, "{seen:?}");
+}
+
+#[test]
+fn few_codes_in_the_largest_store() {
+    let mut seen = Seen::default();
+    let mut maker = Maker::new(300, 2, 500, true);
+    run(300, 128, 8, 500, &mut maker, &mut seen);
+    assert!(seen.longest_chain >= 3, "{seen:?}");
+}

@@ -1,0 +1,133 @@
+//! The seven calls.
+
+use crate::answer::{Refusal, Standing, Stop, Worked};
+use crate::block::{self, Block, Trailer, BITMAP, BUCKET, NONE};
+use crate::check::sound;
+use crate::edit::Edit;
+use crate::meta::{Meta, MOST};
+use crate::page::{Entry, Pair};
+use crate::view::View;
+use crate::work::step;
+
+/// The bytes of a match in the output.
+const MATCH: usize = 6;
+
+fn legal(blocks: usize, rest: &[u8]) -> Result<(), Refusal> {
+    if rest.is_empty() && (4..=MOST).contains(&blocks) {
+        Ok(())
+    } else {
+        Err(Refusal::Length)
+    }
+}
+
+fn blocks(store: &[u8]) -> Result<&[Block], Refusal> {
+    let (blocks, rest) = store.as_chunks();
+    legal(blocks.len(), rest).map(|()| blocks)
+}
+
+fn blocks_mut(store: &mut [u8]) -> Result<&mut [Block], Refusal> {
+    let (blocks, rest) = store.as_chunks_mut();
+    legal(blocks.len(), rest).map(|()| blocks)
+}
+
+/// Judges the store: done if it is sound.
+pub fn verify(store: &[u8]) -> Result<(), Refusal> {
+    sound(blocks(store)?).map(drop)
+}
+
+/// Makes any bytes of legal length an empty index.
+pub fn format(store: &mut [u8], fill: u32) -> Result<(), Refusal> {
+    let blocks = blocks_mut(store)?;
+    if !(1..=40).contains(&fill) {
+        return Err(Refusal::Number);
+    }
+    blocks.as_flattened_mut().fill(0);
+    Meta::fresh(blocks.len() as u32, fill as u16).write(&mut blocks[0]);
+    Trailer::new(1, NONE, 0, BUCKET).put(&mut blocks[1]);
+    Trailer::new(1, NONE, 1, BUCKET).put(&mut blocks[2]);
+    blocks[3][..256].fill(0xFF);
+    Trailer::unlinked(BITMAP).put(&mut blocks[3]);
+    blocks.iter_mut().for_each(block::seal);
+    Ok(())
+}
+
+/// Puts a pair in.
+pub fn insert(store: &mut [u8], hash: u32, block: u32, offset: u32) -> Result<(), Refusal> {
+    let blocks = blocks_mut(store)?;
+    let pair = Pair::new(hash, block, offset)?;
+    let meta = sound(blocks)?;
+    let mut edit = Edit::new(blocks, meta);
+    if edit.view().held(pair).is_some() {
+        return Err(Refusal::HeldAlready);
+    }
+    edit.place(edit.meta.bucket_of(hash), Entry { pair, moved: false })?;
+    edit.meta.count += 1;
+    edit.finish();
+    Ok(())
+}
+
+/// Takes a pair out and, while its bucket is being populated, its moved copy too.
+pub fn remove(store: &mut [u8], hash: u32, block: u32, offset: u32) -> Result<(), Refusal> {
+    let blocks = blocks_mut(store)?;
+    let pair = Pair::new(hash, block, offset)?;
+    let meta = sound(blocks)?;
+    let mut edit = Edit::new(blocks, meta);
+    let Some(spot) = edit.view().held(pair) else {
+        return Err(Refusal::NotHeld);
+    };
+    edit.take_away(spot);
+    let bucket = edit.meta.bucket_of(hash);
+    if edit.view().populated_from(bucket).is_some() {
+        if let Some(copy) = edit.view().find(bucket, pair) {
+            edit.take_away(copy);
+        }
+    }
+    edit.meta.count -= 1;
+    edit.finish();
+    Ok(())
+}
+
+/// Writes the places held under a hash code, ascending, 6 bytes each, and gives their number.
+pub fn lookup(store: &[u8], hash: u32, output: &mut [u8]) -> Result<u32, Refusal> {
+    let blocks = blocks(store)?;
+    let meta = sound(blocks)?;
+    let places = View { blocks, meta: &meta }.matches(hash);
+    let number = places.len() as u32;
+    if output.len() / MATCH < places.len() {
+        return Err(Refusal::OutputShort(number));
+    }
+    for (slot, (block, offset)) in output.chunks_exact_mut(MATCH).zip(places) {
+        slot[..4].copy_from_slice(&block.to_le_bytes());
+        slot[4..].copy_from_slice(&offset.to_le_bytes());
+    }
+    Ok(number)
+}
+
+/// Makes up to `budget` steps of splits.
+pub fn work(store: &mut [u8], budget: u32) -> Result<Worked, Refusal> {
+    let blocks = blocks_mut(store)?;
+    if budget > 65_535 {
+        return Err(Refusal::Number);
+    }
+    let meta = sound(blocks)?;
+    let mut edit = Edit::new(blocks, meta);
+    let mut steps = 0;
+    let stop = loop {
+        if steps == budget {
+            break Stop::Spent;
+        }
+        match step(&mut edit) {
+            Ok(()) => steps += 1,
+            Err(stop) => break stop,
+        }
+    };
+    edit.finish();
+    Ok(Worked { steps, stop })
+}
+
+/// How the index stands.
+pub fn standing(store: &[u8]) -> Result<Standing, Refusal> {
+    let blocks = blocks(store)?;
+    let meta = sound(blocks)?;
+    Ok(View { blocks, meta: &meta }.standing())
+}

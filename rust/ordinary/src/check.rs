@@ -1,0 +1,202 @@
+//! What a store is: whole, damaged, or not an index.
+
+use crate::answer::{Phase, Refusal};
+use crate::block::{self, Block, Trailer, BITMAP, BUCKET, CLEANUP, CONTENT, META, NONE, OVERFLOW, POPULATED, SPLIT};
+use crate::meta::{splits_from, Meta, Role, MOST};
+use crate::page::{self, Pair};
+use crate::view::View;
+
+/// The meta block of a sound store, or what is wrong with the store.
+pub fn sound(blocks: &[Block]) -> Result<Meta, Refusal> {
+    if let Some(damaged) = blocks.iter().position(|block| !block::intact(block)) {
+        return Err(Refusal::Damaged(damaged as u32));
+    }
+    let meta = Meta::read(&blocks[0]);
+    match broken_rule(blocks, &meta) {
+        Some(rule) => Err(Refusal::NotAnIndex(rule)),
+        None => Ok(meta),
+    }
+}
+
+/// The lowest broken rule. Each is tested only when those before it hold.
+fn broken_rule(blocks: &[Block], meta: &Meta) -> Option<u32> {
+    if !meta.rule1(&blocks[0], blocks.len()) {
+        return Some(1);
+    }
+    if !meta.rule2() {
+        return Some(2);
+    }
+    let store = Store { view: View { blocks, meta }, roles: meta.roles() };
+    let rules = [Store::rule3, Store::rule4, Store::rule5, Store::rule6, Store::rule7, Store::rule8];
+    rules.iter().zip(3..).find_map(|(rule, number)| (!rule(&store)).then_some(number))
+}
+
+/// A store under test, its meta block found right.
+struct Store<'a> {
+    view: View<'a>,
+    roles: [Role; MOST],
+}
+
+impl Store<'_> {
+    fn blocks(&self) -> impl Iterator<Item = (Role, &Block)> {
+        self.roles.into_iter().zip(self.view.blocks)
+    }
+
+    fn bucket_page(&self, bucket: u32) -> &Block {
+        &self.view.blocks[self.view.meta.bucket_block(bucket)]
+    }
+
+    fn buckets(&self) -> std::ops::Range<u32> {
+        0..self.view.meta.buckets()
+    }
+
+    /// Roles, one block at a time, and the job flags.
+    fn rule3(&self) -> bool {
+        self.blocks().all(|(role, block)| self.fits(role, block)) && self.job_flags_fit()
+    }
+
+    fn fits(&self, role: Role, block: &Block) -> bool {
+        let trailer = Trailer::of(block);
+        match role {
+            Role::Meta => trailer == Trailer::unlinked(META),
+            Role::Bitmap => trailer == Trailer::unlinked(BITMAP),
+            Role::Bucket(bucket) => trailer.has_id() && trailer.bucket == bucket,
+            Role::Overflow if trailer.flags == OVERFLOW => {
+                trailer.has_id() && trailer.bucket <= self.view.meta.max_bucket
+            }
+            Role::Overflow | Role::Unused => block::unused(block),
+        }
+    }
+
+    fn job_flags_fit(&self) -> bool {
+        let (old, new) = (self.view.meta.job_old(), self.view.meta.max_bucket);
+        let flags = |bucket| block::flags(self.bucket_page(bucket));
+        let jobs = [(BUCKET, BUCKET), (BUCKET | SPLIT, BUCKET | POPULATED), (BUCKET | CLEANUP, BUCKET)];
+        jobs.contains(&(flags(old), flags(new)))
+            && self.buckets().filter(|&bucket| bucket != old && bucket != new).all(|bucket| flags(bucket) == BUCKET)
+    }
+
+    /// Links. No page is reached twice, since its previous field names one page only.
+    fn rule4(&self) -> bool {
+        let mut reached = 0;
+        for bucket in self.buckets() {
+            match self.linked_pages(bucket) {
+                Some(pages) => reached += pages,
+                None => return false,
+            }
+        }
+        reached == self.overflow_pages().count()
+    }
+
+    fn overflow_pages(&self) -> impl Iterator<Item = &Block> {
+        self.blocks()
+            .filter(|(role, block)| *role == Role::Overflow && block::flags(block) == OVERFLOW)
+            .map(|(_, block)| block)
+    }
+
+    /// The number of overflow pages in a bucket's chain, if all its links are right.
+    fn linked_pages(&self, bucket: u32) -> Option<usize> {
+        let mut from = self.view.meta.bucket_block(bucket) as u32;
+        let mut pages = 0;
+        loop {
+            let next = block::next(&self.view.blocks[from as usize]);
+            if next == NONE {
+                return Some(pages);
+            }
+            let page = self.view.blocks.get(next as usize)?;
+            let trailer = Trailer::of(page);
+            let linked = self.roles[next as usize] == Role::Overflow
+                && trailer.flags == OVERFLOW
+                && (trailer.previous, trailer.bucket) == (from, bucket)
+                && page::len(page) != 0;
+            if !linked {
+                return None;
+            }
+            pages += 1;
+            from = next;
+        }
+    }
+
+    /// Pages, each by itself, and no pair twice in a chain.
+    fn rule5(&self) -> bool {
+        let is_page = |role: &Role| matches!(role, Role::Bucket(_));
+        self.blocks().filter(|(role, _)| is_page(role)).all(|(_, block)| page::well_formed(block))
+            && self.overflow_pages().all(page::well_formed)
+            && self.buckets().all(|bucket| self.has_no_twins(bucket))
+    }
+
+    fn has_no_twins(&self, bucket: u32) -> bool {
+        // One page is strictly ascending.
+        block::next(self.bucket_page(bucket)) == NONE
+            || self.sorted_pairs(bucket).windows(2).all(|pairs| pairs[0] != pairs[1])
+    }
+
+    fn sorted_pairs(&self, bucket: u32) -> Vec<Pair> {
+        let mut pairs: Vec<_> = self.view.entries(bucket).map(|spot| spot.entry.pair).collect();
+        pairs.sort_unstable();
+        pairs
+    }
+
+    /// The bitmap, and first free.
+    fn rule6(&self) -> bool {
+        let meta = self.view.meta;
+        let free = |&bit: &u32| block::unused(&self.view.blocks[meta.bit_block(bit)]);
+        let mut bits = [0xFF; CONTENT];
+        bits[256..].fill(0);
+        for bit in (1..meta.bits()).filter(free) {
+            bits[bit as usize / 8] &= !(1 << (bit % 8));
+        }
+        let first_free = (1..meta.bits()).find(free).unwrap_or(meta.bits());
+        self.view.blocks[meta.bitmap()][..CONTENT] == bits && meta.first_free == first_free
+    }
+
+    /// Entries stand in their buckets; while copying, old and new bucket fit together.
+    fn rule7(&self) -> bool {
+        let placed = self.buckets().all(|bucket| self.stand_right(bucket));
+        match self.view.phase() {
+            Phase::Copying { old, new } => placed && self.copies_fit(old, new),
+            _ => placed,
+        }
+    }
+
+    fn stand_right(&self, bucket: u32) -> bool {
+        let guest = match self.view.phase() {
+            Phase::Copying { old, new } | Phase::Clearing { old, new } if old == bucket => new,
+            _ => bucket,
+        };
+        self.view.entries(bucket).all(|spot| {
+            let own = self.view.meta.bucket_of(spot.entry.pair.hash);
+            own == bucket || own == guest
+        })
+    }
+
+    fn copies_fit(&self, old: u32, new: u32) -> bool {
+        let originals = self.sorted_pairs(old);
+        self.view.entries(new).all(|spot| spot.entry.moved == originals.binary_search(&spot.entry.pair).is_ok())
+    }
+
+    /// Previous fields of bucket pages, and the count.
+    fn rule8(&self) -> bool {
+        let mut latest = [1; MOST];
+        for bucket in 2..self.view.meta.buckets() {
+            latest[bucket as usize] = bucket;
+            latest[splits_from(bucket) as usize] = bucket;
+        }
+        self.buckets().all(|bucket| block::previous(self.bucket_page(bucket)) == latest[bucket as usize])
+            && self.held() == self.view.meta.count as usize
+    }
+
+    /// The number of held pairs.
+    fn held(&self) -> usize {
+        let entries = |bucket| self.view.entries(bucket).map(|spot| spot.entry);
+        let all: usize = self.buckets().map(|bucket| entries(bucket).count()).sum();
+        match self.view.phase() {
+            Phase::None => all,
+            Phase::Copying { new, .. } => all - entries(new).filter(|entry| entry.moved).count(),
+            Phase::Clearing { old, new } => {
+                let of_new = |hash| self.view.meta.bucket_of(hash) == new;
+                all - entries(old).filter(|entry| of_new(entry.pair.hash)).count()
+            }
+        }
+    }
+}

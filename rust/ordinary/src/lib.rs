@@ -1,0 +1,34 @@
+//! The hash index of document 01 in ordinary Rust.
+//!
+//! A store is a byte slice of 4 to 128 blocks of 512 bytes. Every call takes any bytes and any numbers, judges the
+//! whole store first, and either is done or gives a [`Refusal`] and leaves the store and the output as they were.
+//! This crate is written from the document alone, so that the proved index can be compared with it.
+//!
+//! ```
+//! let mut store = vec![0; 16 * 512];
+//! ordinary::format(&mut store, 10)?;
+//! ordinary::insert(&mut store, 5, 7, 1)?;
+//! ordinary::insert(&mut store, 5, 3, 2)?;
+//! let mut output = [0; 12];
+//! assert_eq!(ordinary::lookup(&store, 5, &mut output)?, 2);
+//! assert_eq!(output, [3, 0, 0, 0, 2, 0, 7, 0, 0, 0, 1, 0]);
+//! # Ok::<(), ordinary::Refusal>(())
+//! ```
+
+#![forbid(unsafe_code)]
+
+mod answer;
+mod block;
+mod calls;
+mod check;
+mod crc;
+mod edit;
+mod meta;
+mod page;
+pub mod script;
+mod view;
+mod work;
+
+pub use answer::{Phase, Refusal, Standing, Stop, Worked};
+pub use calls::{format, insert, lookup, remove, standing, verify, work};
+pub use crc::crc32c;
