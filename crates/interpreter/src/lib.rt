@@ -3,7 +3,6 @@ mod answers; // answers.rt: answers as text
 mod calls; // calls.rt: the call of a line, on the store that stands
 mod lines; // lines.rt: the pending line and its end
 pub mod feed; // feed.rt: a piece of a script, and its end
-mod stub;
 
 // What is kept between two pieces of a script: the number of the last line that ended, the bytes of the pending line
 // (`seen` of them, 81 where there are more than 80), and N of the store that stands, 0 before the first.
