@@ -4,7 +4,7 @@ use mathlib.Core.Bool.{Bool, true, false, cond, _&&_}
 use mathlib.Core.List.{List, [], _∷_, _++_}
 use Prim.Native.Nat.{ℕ, zero, suc, _*_, _≤_}
 use native.Mathlib.Omega.{arith}
-use borrow.Author.Tests.{leb-true, leb-false, le-leb, lt-leb}
+use borrow.Author.Tests.{leb-true, le-leb}
 use lib.Dec.{leb}
 use lib.ListN.{length, take, drop}
 use Rattle.lists.specs.ListsLaws.{and-left, and-right}
@@ -29,6 +29,23 @@ module _ (c : ScriptState) (store out : List ℕ) where
         store = leb-true storeBytes (length store) (and-left (leb storeBytes (length store)) _ slices);
         output = leb-true lineOutput (length out) (and-right (leb storeBytes (length store)) _ slices);
       }
+
+  pub room-ready : Room (c .blocks) store out → ready c store out ≡ true
+  room-ready r =
+      rw
+      (le-leb (c .blocks) 128 (r .few), le-leb storeBytes (length store) (r .store), le-leb lineOutput (length out) (r .output))
+
+  -- the state after a line serves as well
+  pub ready-next : {q : Ran} (d : ScriptState) (new after : List ℕ) (count : ℕ) → ready c store out ≡ true
+      → Ends q store new d out after count → length new ≡ length store → length after ≡ length out → true ≡ ready d new after
+  ready-next d new after count e q l m =
+      let r = ready-room e in
+      sym
+      (rw (
+        le-leb (d .blocks) 128 (q .few),
+        le-leb storeBytes (length new) (omega (arith, r .store)),
+        le-leb lineOutput (length after) (omega (arith, r .output)),
+      ))
 
   -- a run that writes nothing and keeps the store
   pub fed-still : {m : ℕ} (d : ScriptState) → Room (d .blocks) store out

@@ -2,7 +2,7 @@
 use mathlib.Core.Path.{_≡_}
 use mathlib.Core.Bool.{Bool, true, false}
 use mathlib.Core.List.{List, [], _∷_}
-use Prim.Native.Nat.{ℕ, suc}
+use Prim.Native.Nat.{ℕ, suc, _≤_}
 use lib.Dec.{eqb}
 use lib.ListN.{length}
 use Rattle.interpreter.specs.declared.ScriptState.{ScriptState}
@@ -35,6 +35,7 @@ gatheredAs r = record { pending = pendingIn (r .state); used = r .used; ended = 
 
 -- a run, made in a lent store and output
 pub record Ends (q : Ran) (old new : List ℕ) (c : ScriptState) (before after : List ℕ) (count : ℕ) : Type 0 where
+  pub few : c .blocks ≤ 128
   pub state : stateOf c new ≡ q .state
   pub store : new ≡ over (q .state .store) old
   pub text : after ≡ over (q .text) before

@@ -140,6 +140,7 @@ ends-run q old new c before after count p n r =
     let stands : take (512 * c .blocks) new ≡ t =
     ap (take (512 * c .blocks)) (r .store .bytes) ∙ take-at t (drop (length t) old) (512 * c .blocks) (r .store .size) in
     record {
+      few = r .store .few;
       state =
           ap (λ (x : Pending). record { pending = x; line = c .number; store = take (512 * c .blocks) new }) p
           ∙ ap (λ (x : ℕ). record { pending = q .state .pending; line = x; store = take (512 * c .blocks) new }) n

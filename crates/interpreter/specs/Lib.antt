@@ -7,3 +7,4 @@ pub mod RunsLaws
 pub mod Held
 pub mod HeldLaws
 pub mod FeedLaws
+pub mod FedLaws

@@ -12,6 +12,7 @@ ghost use Rattle.interpreter.specs.Feed.{stateOf, ready, feedOutcome, fi
 // Before the first byte of a script.
 pub fn start() -> ScriptState
     ensures { λ r. ⌜ ((store : List ℕ) → stateOf r store ≡ begin) ⌝ }
+    ensures { λ r. ⌜ r .blocks ≡ 0 ⌝ }
 {
     ScriptState {
         number: 0,
@@ -38,6 +39,7 @@ fn is_ready(state: ScriptState, store: &[u8], output: &[u8]) -> bool
 pub fn feed(state: ScriptState, store: &mut [u8], input: &[u8], output: &mut [u8]) -> Fed
     ensures { λ r. ⌜ feedOutcome state (now (store .entry)) (now (input .entry)) (now (output .entry))
         ≡ fedAs r (now (store .exit)) (now (output .exit)) ⌝ }
+    ensures { λ r. ⌜ r .ready ≡ ready (r .state) (now (store .exit)) (now (output .exit)) ⌝ }
 {
     if !is_ready(state, store, output) {
         return Fed {
@@ -72,6 +74,7 @@ pub fn feed(state: ScriptState, store: &mut [u8], input: &[u8], output: &mut [u8
 pub fn finish(state: ScriptState, store: &mut [u8], output: &mut [u8]) -> Fed
     ensures { λ r. ⌜ finishOutcome state (now (store .entry)) (now (output .entry))
         ≡ fedAs r (now (store .exit)) (now (output .exit)) ⌝ }
+    ensures { λ r. ⌜ r .ready ≡ ready (r .state) (now (store .exit)) (now (output .exit)) ⌝ }
 {
     if !is_ready(state, store, output) {
         return Fed {

@@ -2,7 +2,7 @@ use mathlib.Core.Path.{_≡_, sym, _∙_}
 use mathlib.Core.Bool.{true}
 use borrow.Author.Tests.{not-true, not-false}
 use Rattle.interpreter.specs.Feed.{ready}
-use Rattle.interpreter.specs.FeedLaws.{feed-unready, feed-room, feed-open, feed-ended}
+use Rattle.interpreter.specs.FeedLaws.{room-ready, ready-next, feed-unready, feed-room, feed-open, feed-ended}
 use borrow.Author.Needs.{needs}
 use Rattle.interpreter.proofs.feed.feed.Statement.{statement}
 use Rattle.interpreter.proofs.feed.feed.Tie as tie
@@ -23,8 +23,8 @@ same-length-2 c = search needs
 returns : tie.Need-returns
 returns c =
     let a = c .before .before .before .before .before .before .before .args in
-    feed-unready (a .state) (a .store .now) (a .output .now) (a .input .now)
-    (sym (c .before .is-ready .ensures) ∙ not-true _ (c .if1 .taken))
+    let no = sym (c .before .is-ready .ensures) ∙ not-true _ (c .if1 .taken) in
+    (feed-unready (a .state) (a .store .now) (a .output .now) (a .input .now) no, sym no)
 
 gather-requires : tie.Need-gather-requires
 gather-requires c κs = search needs
@@ -40,8 +40,12 @@ returns-2 c =
     let p = c .before .before .before in
     let a = p .before .before .before .before .before .before .before .before .args in
     let g = p .gather in
-    feed-open (a .state) (a .store .now) (a .input .now) (a .output .now) (g .result) (g .ensures .0) (g .ensures .1 .0)
-    (g .ensures .1 .1) (fit (p .before)) (not-true _ (c .if2 .taken))
+    let room = feed-room (a .state) (a .store .now) (a .input .now) (a .output .now) (g .result) (g .ensures .0)
+    (g .ensures .1 .0) (g .ensures .1 .1) (fit (p .before)) in (
+      feed-open (a .state) (a .store .now) (a .input .now) (a .output .now) (g .result) (g .ensures .0) (g .ensures .1 .0)
+          (g .ensures .1 .1) (fit (p .before)) (not-true _ (c .if2 .taken)),
+      sym (room-ready (g .result .state) (a .store .now) (a .output .now) room),
+    )
 
 end-line-requires : tie.Need-end-line-requires
 end-line-requires c κs =
@@ -63,9 +67,13 @@ returns-3 c =
     let p = q .before .before .before .before .before .before in
     let a = p .before .before .before .before .before .before .before .before .args in
     let g = p .gather in
-    feed-ended (a .state) (a .store .now) (a .input .now) (a .output .now) (g .result) (g .ensures .0) (g .ensures .1 .0)
-    (g .ensures .1 .1) (fit (p .before)) (q .end-line .result .state) (q .end-line .last .1 .0) (q .end-line .last .1 .1 .0)
-    (q .end-line .result .written) (not-false _ (q .before .before .before .if2 .left)) (q .end-line .ensures)
+    let n = q .end-line in (
+      feed-ended (a .state) (a .store .now) (a .input .now) (a .output .now) (g .result) (g .ensures .0) (g .ensures .1 .0)
+          (g .ensures .1 .1) (fit (p .before)) (n .result .state) (n .last .1 .0) (n .last .1 .1 .0) (n .result .written)
+          (not-false _ (q .before .before .before .if2 .left)) (n .ensures),
+      ready-next (a .state) (a .store .now) (a .output .now) (n .result .state) (n .last .1 .0) (n .last .1 .1 .0)
+          (n .result .written) (fit (p .before)) (n .ensures) (n .kept .1 .0) (n .kept .1 .1 .0),
+    )
 
 pub feed-spec : {M : Type 1} → statement M
 feed-spec =

@@ -3,7 +3,7 @@ use mathlib.Core.Bool.{true}
 use borrow.Author.Tests.{not-true, not-false}
 use lib.ListN.{length}
 use Rattle.interpreter.specs.Feed.{ready}
-use Rattle.interpreter.specs.FeedLaws.{ready-room, finish-unready, finish-still, finish-ended}
+use Rattle.interpreter.specs.FeedLaws.{ready-room, ready-next, finish-unready, finish-still, finish-ended}
 use borrow.Author.Needs.{needs}
 use Rattle.interpreter.proofs.feed.finish.Statement.{statement}
 use Rattle.interpreter.proofs.feed.finish.Tie as tie
@@ -27,8 +27,8 @@ same-length-2 c = search needs
 returns : tie.Need-returns
 returns c =
     let a = c .before .before .before .before .before .before .args in
-    finish-unready (a .state) (a .store .now) (a .output .now)
-    (sym (c .before .is-ready .ensures) ∙ not-true _ (c .if1 .taken))
+    let no = sym (c .before .is-ready .ensures) ∙ not-true _ (c .if1 .taken) in
+    (finish-unready (a .state) (a .store .now) (a .output .now) no, sym no)
 
 same-length-3 : tie.Need-same-length-3
 same-length-3 c = search needs
@@ -39,7 +39,7 @@ same-length-4 c = search needs
 returns-2 : tie.Need-returns-2
 returns-2 c =
     let a = c .before .before .before .before .before .before .before .before .args in
-    finish-still (a .state) (a .store .now) (a .output .now) (fit (c .before .before)) (c .if2 .taken)
+    (finish-still (a .state) (a .store .now) (a .output .now) (fit (c .before .before)) (c .if2 .taken), sym (fit (c .before .before)))
 
 end-line-requires : tie.Need-end-line-requires
 end-line-requires c κs =
@@ -56,8 +56,12 @@ returns-3 c =
     let q = c .before .before .before .before .before in
     let t = q .before .before .before in
     let a = t .before .before .before .before .before .before .before .before .args in
-    finish-ended (a .state) (a .store .now) (a .output .now) (fit (t .before .before)) (q .end-line .result .state) (q .end-line .last .1 .0)
-    (q .end-line .last .1 .1 .0) (q .end-line .result .written) (whole (t .before .before .before .before .before .before .before .before)) (t .if2 .left) (q .end-line .ensures)
+    let n = q .end-line in (
+      finish-ended (a .state) (a .store .now) (a .output .now) (fit (t .before .before)) (n .result .state) (n .last .1 .0)
+          (n .last .1 .1 .0) (n .result .written) (whole (t .before .before .before .before .before .before .before .before)) (t .if2 .left) (n .ensures),
+      ready-next (a .state) (a .store .now) (a .output .now) (n .result .state) (n .last .1 .0) (n .last .1 .1 .0)
+          (n .result .written) (fit (t .before .before)) (n .ensures) (n .kept .1 .0) (n .kept .1 .1 .0),
+    )
 
 pub finish-spec : {M : Type 1} → statement M
 finish-spec =
