@@ -1,0 +1,10 @@
+pub mod Script
+pub mod Machine
+pub mod MachineLaws
+pub mod Feed
+pub mod Runs
+pub mod RunsLaws
+pub mod Held
+pub mod HeldLaws
+pub mod FeedLaws
+pub mod FedLaws

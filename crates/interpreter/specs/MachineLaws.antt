@@ -1,0 +1,129 @@
+-- Feeding a script in pieces of any size, and then ending it, writes what the script writes.
+use mathlib.Core.Path.{_≡_, refl, sym, ap, _∙_}
+use mathlib.Core.Bool.{Bool, true, false, cond}
+use mathlib.Core.List.{List, [], _∷_, _++_, append-assoc, append-nil}
+use Prim.Native.Nat.{ℕ, suc, _+_, _≤_, _<_}
+use native.Mathlib.Omega.{arith}
+use borrow.Author.Tests.{ltb-true, ltb-false, leb-true, leb-false, le-leb, lt-leb}
+use lib.Dec.{eqb, ltb, leb}
+use lib.ListN.{length, length-append}
+use Rattle.lists.specs.Lists.{bind}
+use Rattle.line.specs.declared.Command.{Command}
+use Rattle.line.specs.Words.{partsFrom}
+use Rattle.line.specs.Command.{maxLine, readLine}
+use Rattle.line.specs.CommandLaws.{line-long}
+use Rattle.interpreter.specs.Script.{Turn, runCommand, ended, nextLine, runLines, scriptOutput}
+use Rattle.interpreter.specs.Machine.{Pending, short, long, grow, commandAt, State, begin, Ran, endLine, keepByte}
+use Rattle.interpreter.specs.Machine.{onByte, onBytes, endIn, atEnd, onPieces}
+
+-- ---- pieces
+
+-- one run after the other
+abbrev pub andThen : Ran → (State → Ran) → Ran
+andThen r f = let q = f (r .state) in record { state = q .state; text = r .text ++ q .text }
+
+pub onBytes-append : (s : State) (xs ys : List ℕ) → onBytes s (xs ++ ys) ≡ andThen (onBytes s xs) (λ t. onBytes t ys)
+onBytes-append s [] ys = refl
+onBytes-append s (b ∷ bs) ys =
+    let r = onByte s b in
+    ap (λ (q : Ran). record { state = q .state; text = r .text ++ q .text }) (onBytes-append (r .state) bs ys)
+    ∙ ap (λ (t : List ℕ). record { state = onBytes (onBytes (r .state) bs .state) ys .state; text = t })
+    (sym (append-assoc (r .text) (onBytes (r .state) bs .text) (onBytes (onBytes (r .state) bs .state) ys .text)))
+
+pub onPieces-joined : (s : State) (ps : List (List ℕ)) → onPieces s ps ≡ onPieces s (bind ps (λ p. p) ∷ [])
+onPieces-joined s [] = refl
+onPieces-joined s (p ∷ ps) =
+    let r = onBytes s p in
+    let rest = bind ps (λ p. p) in
+    let q = onBytes (r .state) rest in
+    ap (λ (t : List ℕ). r .text ++ t) (onPieces-joined (r .state) ps)
+    ∙ sym (append-assoc (r .text) (q .text) (atEnd (q .state) .text))
+    ∙ ap (λ (x : Ran). x .text ++ atEnd (x .state) .text) (sym (onBytes-append s p rest))
+
+-- ---- the pending line
+
+-- the bytes of a line so far
+abbrev pendingOf : List ℕ → Pending
+pendingOf l = cond (leb (length l) maxLine) (short l) long
+
+pending-grow : (l : List ℕ) (b : ℕ) → grow (pendingOf l) b ≡ pendingOf (l ++ (b ∷ []))
+pending-grow l b = go (leb (length l) maxLine) refl
+  where
+    room : (t : Bool) → ltb (length l) maxLine ≡ t → leb (length (l ++ (b ∷ []))) maxLine ≡ t
+    room true e = le-leb (length (l ++ (b ∷ []))) maxLine (simp length-append (omega (arith, ltb-true (length l) maxLine e)))
+    room false e = lt-leb (length (l ++ (b ∷ []))) maxLine (simp length-append (omega (arith, ltb-false (length l) maxLine e)))
+
+    go : (t : Bool) → leb (length l) maxLine ≡ t → grow (cond t (short l) long) b ≡ pendingOf (l ++ (b ∷ []))
+    go true e =
+        ap (λ (t : Bool). cond t (short (l ++ (b ∷ []))) long) (sym (room (ltb (length l) maxLine) refl))
+    go false e =
+        ap (λ (t : Bool). cond t (short (l ++ (b ∷ []))) long)
+        (sym (lt-leb (length (l ++ (b ∷ []))) maxLine (simp length-append (omega (arith, leb-false (length l) maxLine e)))))
+
+pending-command : (l : List ℕ) → commandAt (pendingOf l) ≡ readLine l
+pending-command l = go (leb (length l) maxLine) refl
+  where
+    go : (t : Bool) → leb (length l) maxLine ≡ t → commandAt (cond t (short l) long) ≡ readLine l
+    go true e = refl
+    go false e = sym (line-long l (leb-false (length l) maxLine e))
+
+-- ---- lines
+
+ended-more : (l acc bs : List ℕ) → ended (l ∷ partsFrom 10 acc bs) ≡ l ∷ ended (partsFrom 10 acc bs)
+ended-more l acc [] = refl
+ended-more l acc (b ∷ bs) = go (eqb b 10) (ended-more l (acc ++ (b ∷ [])) bs)
+  where
+    at : Bool → List (List ℕ)
+    at t = elim t [ true ↦ acc ∷ partsFrom 10 [] bs | false ↦ partsFrom 10 (acc ++ (b ∷ [])) bs ]
+
+    go : (t : Bool) → ended (l ∷ partsFrom 10 (acc ++ (b ∷ [])) bs) ≡ l ∷ ended (partsFrom 10 (acc ++ (b ∷ [])) bs)
+        → ended (l ∷ at t) ≡ l ∷ ended (at t)
+    go true e = refl
+    go false e = e
+
+-- the state in the middle of a line
+abbrev within : (n : ℕ) → (store acc : List ℕ) → State
+within n s acc = record { pending = pendingOf acc; line = n; store = s }
+
+-- what is written from a state on, to the end of the script
+abbrev rest : State → List ℕ → List ℕ
+rest s bs = let r = onBytes s bs in r .text ++ atEnd (r .state) .text
+
+last : (n : ℕ) (s acc : List ℕ) → atEnd (within n s acc) .text ≡ runLines n s (ended (acc ∷ []))
+last n s [] = refl
+last n s (x ∷ xs) =
+    go (leb (length (x ∷ xs)) maxLine)
+    ∙ ap (λ (c : Command). runCommand c (nextLine n) s .text) (pending-command (x ∷ xs))
+    ∙ sym (append-nil (runCommand (readLine (x ∷ xs)) (nextLine n) s .text))
+  where
+    go : (t : Bool)
+        → let p = cond t (short (x ∷ xs)) long in
+        endIn p (record { pending = p; line = n; store = s }) .text ≡ runCommand (commandAt p) (nextLine n) s .text
+    go true = refl
+    go false = refl
+
+pub rest-lines : (n : ℕ) (s acc bs : List ℕ) → rest (within n s acc) bs ≡ runLines n s (ended (partsFrom 10 acc bs))
+rest-lines n s acc [] = last n s acc
+rest-lines n s acc (b ∷ bs) =
+    go (eqb b 10) (λ t. rest-lines (nextLine n) t [] bs) (rest-lines n s (acc ++ (b ∷ [])) bs)
+  where
+    go : (t : Bool)
+        → ((u : List ℕ) → rest (within (nextLine n) u []) bs ≡ runLines (nextLine n) u (ended (partsFrom 10 [] bs)))
+        → rest (within n s (acc ++ (b ∷ []))) bs ≡ runLines n s (ended (partsFrom 10 (acc ++ (b ∷ [])) bs))
+        → let r = cond t (endLine (within n s acc)) (keepByte (within n s acc) b) in
+        r .text ++ onBytes (r .state) bs .text ++ atEnd (onBytes (r .state) bs .state) .text
+        ≡ runLines n s (ended (elim t [ true ↦ acc ∷ partsFrom 10 [] bs | false ↦ partsFrom 10 (acc ++ (b ∷ [])) bs ]))
+    go true new old =
+        let r = endLine (within n s acc) in
+        append-assoc (r .text) (onBytes (r .state) bs .text) (atEnd (onBytes (r .state) bs .state) .text)
+        ∙ ap (λ (x : List ℕ). r .text ++ x) (new (r .state .store))
+        ∙ ap (λ (c : Command). let t = runCommand c (nextLine n) s in t .text ++ runLines (nextLine n) (t .store) (ended (partsFrom 10 [] bs)))
+        (pending-command acc)
+        ∙ ap (runLines n s) (sym (ended-more acc [] bs))
+    go false new old =
+        ap (λ (p : Pending). rest (record { pending = p; line = n; store = s }) bs) (pending-grow acc b) ∙ old
+
+-- A script fed in pieces of any size, and then ended, writes what the script writes.
+pub script-in-pieces : (ps : List (List ℕ)) → onPieces begin ps ≡ scriptOutput (bind ps (λ p. p))
+unfolding scriptOutput
+script-in-pieces ps = onPieces-joined begin ps ∙ rest-lines 0 [] [] (bind ps (λ p. p))

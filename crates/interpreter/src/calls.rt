@@ -1,0 +1,158 @@
+// The call of a line, on the first `blocks` blocks of a lent store.
+use crate::Ran;
+use crate::answers::put_answer;
+use crate::answers::put_looked;
+use crate::answers::put_worked;
+use crate::answers::refusal_number;
+use index::change::insert;
+use index::change::remove;
+use index::format::format;
+use index::read::lookup;
+use index::work::work;
+use line::Command;
+use line::text::put_refused;
+use line::text::put_store;
+use model::Answer;
+ghost use mathlib.Core.Path.{_≡_};
+ghost use Prim.Native.Nat.{_*_, _≤_};
+ghost use lib.ListN.{length, take};
+ghost use Rattle.line.specs.declared.Command.{Command as command};
+ghost use Rattle.interpreter.specs.Script.{runCommand};
+ghost use Rattle.interpreter.specs.Runs.{Runs, Room};
+
+fn run_format(
+    blocks: u32,
+    fill: u32,
+    line: u64,
+    standing: u32,
+    store: &mut [u8],
+    output: &mut [u8],
+) -> Ran
+    requires { ⌜ Room standing (now store) (now output) ⌝ }
+    ensures { λ r. ⌜ Runs (runCommand (command.Format blocks fill) line (take (512 * standing) (now (store .entry))))
+        (now (store .entry)) (now (store .exit)) (r .blocks) (now (output .entry)) (now (output .exit)) (r .written) ⌝ }
+{
+    if blocks > 128 {
+        let written = put_refused(output, line, 1);
+        return Ran {
+            blocks: standing,
+            written,
+        };
+    }
+    let end = 512 * blocks as usize;
+    let answer = format(&mut store[..end], fill);
+    match answer {
+        Answer::Done => {
+            let written = put_store(output, blocks, fill);
+            Ran { blocks, written }
+        }
+        Answer::Refused(refusal) => {
+            let written = put_refused(output, line, refusal_number(refusal));
+            Ran {
+                blocks: standing,
+                written,
+            }
+        }
+    }
+}
+
+fn run_insert(
+    hash: u32,
+    block: u32,
+    offset: u32,
+    line: u64,
+    blocks: u32,
+    store: &mut [u8],
+    output: &mut [u8],
+) -> usize
+    requires { ⌜ Room blocks (now store) (now output) ⌝ }
+    ensures { λ r. ⌜ Runs (runCommand (command.Insert hash block offset) line (take (512 * blocks) (now (store .entry))))
+        (now (store .entry)) (now (store .exit)) blocks (now (output .entry)) (now (output .exit)) r ⌝ }
+{
+    let end = 512 * blocks as usize;
+    let answer = insert(&mut store[..end], hash, block, offset);
+    put_answer(output, line, answer)
+}
+
+fn run_remove(
+    hash: u32,
+    block: u32,
+    offset: u32,
+    line: u64,
+    blocks: u32,
+    store: &mut [u8],
+    output: &mut [u8],
+) -> usize
+    requires { ⌜ Room blocks (now store) (now output) ⌝ }
+    ensures { λ r. ⌜ Runs (runCommand (command.Remove hash block offset) line (take (512 * blocks) (now (store .entry))))
+        (now (store .entry)) (now (store .exit)) blocks (now (output .entry)) (now (output .exit)) r ⌝ }
+{
+    let end = 512 * blocks as usize;
+    let answer = remove(&mut store[..end], hash, block, offset);
+    put_answer(output, line, answer)
+}
+
+fn run_lookup(hash: u32, line: u64, blocks: u32, store: &[u8], output: &mut [u8]) -> usize
+    requires { ⌜ Room blocks (now store) (now output) ⌝ }
+    ensures { λ r. ⌜ Runs (runCommand (command.Lookup hash) line (take (512 * blocks) (now (store .entry))))
+        (now (store .entry)) (now (store .entry)) blocks (now (output .entry)) (now (output .exit)) r ⌝ }
+{
+    let end = 512 * blocks as usize;
+    let mut places = [0u8; 30000];
+    let answer = lookup(&store[..end], hash, &mut places);
+    put_looked(output, line, answer, &places)
+}
+
+fn run_work(budget: u32, line: u64, blocks: u32, store: &mut [u8], output: &mut [u8]) -> usize
+    requires { ⌜ Room blocks (now store) (now output) ⌝ }
+    ensures { λ r. ⌜ Runs (runCommand (command.Work budget) line (take (512 * blocks) (now (store .entry))))
+        (now (store .entry)) (now (store .exit)) blocks (now (output .entry)) (now (output .exit)) r ⌝ }
+{
+    let end = 512 * blocks as usize;
+    let answer = work(&mut store[..end], budget);
+    put_worked(output, line, answer)
+}
+
+pub fn run_command(
+    command: Command,
+    line: u64,
+    blocks: u32,
+    store: &mut [u8],
+    output: &mut [u8],
+) -> Ran
+    requires { ⌜ Room blocks (now store) (now output) ⌝ }
+    ensures { λ r. ⌜ Runs (runCommand command line (take (512 * blocks) (now (store .entry))))
+        (now (store .entry)) (now (store .exit)) (r .blocks) (now (output .entry)) (now (output .exit)) (r .written) ⌝ }
+{
+    match command {
+        Command::Format { blocks: n, fill } => run_format(n, fill, line, blocks, store, output),
+        Command::Insert {
+            hash,
+            block,
+            offset,
+        } => {
+            let written = run_insert(hash, block, offset, line, blocks, store, output);
+            Ran { blocks, written }
+        }
+        Command::Remove {
+            hash,
+            block,
+            offset,
+        } => {
+            let written = run_remove(hash, block, offset, line, blocks, store, output);
+            Ran { blocks, written }
+        }
+        Command::Lookup { hash } => {
+            let written = run_lookup(hash, line, blocks, store, output);
+            Ran { blocks, written }
+        }
+        Command::Work { budget } => {
+            let written = run_work(budget, line, blocks, store, output);
+            Ran { blocks, written }
+        }
+        Command::Unreadable => {
+            let written = put_refused(output, line, 10);
+            Ran { blocks, written }
+        }
+    }
+}

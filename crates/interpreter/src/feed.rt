@@ -1,0 +1,103 @@
+// A script fed piece by piece.
+use crate::Fed;
+use crate::ScriptState;
+use crate::lines::end_line;
+use crate::lines::gather;
+ghost use mathlib.Core.Path.{_≡_};
+ghost use mathlib.Core.List.{List};
+ghost use Prim.Native.Nat.{ℕ};
+ghost use Rattle.interpreter.specs.Machine.{begin};
+ghost use Rattle.interpreter.specs.Feed.{stateOf, ready, feedOutcome, finishOutcome, fedAs};
+
+// Before the first byte of a script.
+pub fn start() -> ScriptState
+    ensures { λ r. ⌜ ((store : List ℕ) → stateOf r store ≡ begin) ⌝ }
+    ensures { λ r. ⌜ r .blocks ≡ 0 ⌝ }
+{
+    ScriptState {
+        number: 0,
+        seen: 0,
+        line: [0; 80],
+        blocks: 0,
+    }
+}
+
+// Whether the state and the slices serve for a line.
+fn is_ready(state: ScriptState, store: &[u8], output: &[u8]) -> bool
+    ensures { λ r. ⌜ r ≡ ready state (now (store .entry)) (now (output .entry)) ⌝ }
+{
+    if state.blocks > 128 {
+        return false;
+    }
+    if store.len() < 65536 {
+        return false;
+    }
+    output.len() >= 85006
+}
+
+// Takes the bytes of `input` up to the end of a line, or all if none ends there, and runs the line that ended.
+pub fn feed(state: ScriptState, store: &mut [u8], input: &[u8], output: &mut [u8]) -> Fed
+    ensures { λ r. ⌜ feedOutcome state (now (store .entry)) (now (input .entry)) (now (output .entry))
+        ≡ fedAs r (now (store .exit)) (now (output .exit)) ⌝ }
+    ensures { λ r. ⌜ r .ready ≡ ready (r .state) (now (store .exit)) (now (output .exit)) ⌝ }
+{
+    if !is_ready(state, store, output) {
+        return Fed {
+            ready: false,
+            state,
+            used: 0,
+            written: 0,
+        };
+    }
+    let gathered = gather(state, input);
+    let held = gathered.state;
+    let used = gathered.used;
+    if !gathered.ended {
+        return Fed {
+            ready: true,
+            state: held,
+            used,
+            written: 0,
+        };
+    }
+    let ended = end_line(held, store, output);
+    let next = ended.state;
+    Fed {
+        ready: true,
+        state: next,
+        used,
+        written: ended.written,
+    }
+}
+
+// Ends the script: a last line that lacks its LF is run.
+pub fn finish(state: ScriptState, store: &mut [u8], output: &mut [u8]) -> Fed
+    ensures { λ r. ⌜ finishOutcome state (now (store .entry)) (now (output .entry))
+        ≡ fedAs r (now (store .exit)) (now (output .exit)) ⌝ }
+    ensures { λ r. ⌜ r .ready ≡ ready (r .state) (now (store .exit)) (now (output .exit)) ⌝ }
+{
+    if !is_ready(state, store, output) {
+        return Fed {
+            ready: false,
+            state,
+            used: 0,
+            written: 0,
+        };
+    }
+    if state.seen == 0 {
+        return Fed {
+            ready: true,
+            state,
+            used: 0,
+            written: 0,
+        };
+    }
+    let ended = end_line(state, store, output);
+    let next = ended.state;
+    Fed {
+        ready: true,
+        state: next,
+        used: 0,
+        written: ended.written,
+    }
+}

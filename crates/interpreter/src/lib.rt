@@ -1,0 +1,42 @@
+// The script program's library: a script's bytes to its output's bytes, piece by piece.
+mod answers; // answers.rt: answers as text
+mod calls; // calls.rt: the call of a line, on the store that stands
+mod lines; // lines.rt: the pending line and its end
+pub mod feed; // feed.rt: a piece of a script, and its end
+
+// What is kept between two pieces of a script: the number of the last line that ended, the bytes of the pending line
+// (`seen` of them, 81 where there are more than 80), and N of the store that stands, 0 before the first.
+pub struct ScriptState {
+    number: u64,
+    seen: usize,
+    line: [u8; 80],
+    blocks: u32,
+}
+
+// The state after a piece, how many of its bytes were used, and how many were written. Nothing was done if it was not
+// ready: the state is none that a script has, or a slice is too short.
+pub struct Fed {
+    pub ready: bool,
+    pub state: ScriptState,
+    pub used: usize,
+    pub written: usize,
+}
+
+// N of the store that stands after a line, and how many bytes the line wrote.
+struct Ran {
+    blocks: u32,
+    written: usize,
+}
+
+// The state after the bytes before an LF or the end of a piece, how many bytes those are, with the LF, and which it was.
+struct Gathered {
+    state: ScriptState,
+    used: usize,
+    ended: bool,
+}
+
+// The state after a line, and how many bytes the line wrote.
+struct Ended {
+    state: ScriptState,
+    written: usize,
+}

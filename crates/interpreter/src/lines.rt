@@ -1,0 +1,96 @@
+// The pending line, and its end.
+use crate::Ended;
+use crate::Gathered;
+use crate::ScriptState;
+use crate::calls::run_command;
+use line::Command;
+use line::commands::read_line;
+use std::num::wrapping_add_u64;
+ghost use mathlib.Core.Path.{_≡_};
+ghost use Prim.Native.Nat.{_*_, _≤_};
+ghost use lib.ListN.{length, take};
+ghost use Rattle.interpreter.specs.Machine.{commandAt, endLine};
+ghost use Rattle.interpreter.specs.Feed.{pendingIn, stateOf};
+ghost use Rattle.interpreter.specs.Runs.{Room};
+ghost use Rattle.interpreter.specs.Held.{Keeps, gatherIn, gatheredAs, Ends};
+
+// One byte more of the pending line.
+fn keep_byte(state: ScriptState, byte: u8) -> ScriptState
+    ensures { λ r. ⌜ Keeps state byte r ⌝ }
+{
+    let seen = state.seen;
+    let mut line = state.line;
+    if seen < 80 {
+        line[seen] = byte;
+        return ScriptState {
+            number: state.number,
+            seen: seen + 1,
+            line,
+            blocks: state.blocks,
+        };
+    }
+    ScriptState {
+        number: state.number,
+        seen: 81,
+        line,
+        blocks: state.blocks,
+    }
+}
+
+// Keeps the bytes up to an LF or the end of `input`.
+pub fn gather(state: ScriptState, input: &[u8]) -> Gathered
+    ensures { λ r. ⌜ gatheredAs r ≡ gatherIn (pendingIn state) (now (input .entry)) ⌝ }
+    ensures { λ r. ⌜ (r .state .number ≡ state .number) × (r .state .blocks ≡ state .blocks) ⌝ }
+{
+    let mut held = state;
+    let mut i = 0;
+    while i < input.len() {
+        let byte = input[i];
+        if byte == b'\n' {
+            return Gathered {
+                state: held,
+                used: i + 1,
+                ended: true,
+            };
+        }
+        held = keep_byte(held, byte);
+        i += 1;
+    }
+    Gathered {
+        state: held,
+        used: i,
+        ended: false,
+    }
+}
+
+// The command of the pending line.
+fn pending_command(state: ScriptState) -> Command
+    ensures { λ r. ⌜ r ≡ commandAt (pendingIn state) ⌝ }
+{
+    let seen = state.seen;
+    if seen > 80 {
+        return Command::Unreadable;
+    }
+    let line = state.line;
+    read_line(&line[..seen])
+}
+
+// Ends the pending line and runs it.
+pub fn end_line(state: ScriptState, store: &mut [u8], output: &mut [u8]) -> Ended
+    requires { ⌜ Room (state .blocks) (now store) (now output) ⌝ }
+    ensures { λ r. ⌜ Ends (endLine (stateOf state (now (store .entry)))) (now (store .entry)) (now (store .exit))
+        (r .state) (now (output .entry)) (now (output .exit)) (r .written) ⌝ }
+{
+    let number = wrapping_add_u64(state.number, 1);
+    let command = pending_command(state);
+    let ran = run_command(command, number, state.blocks, store, output);
+    Ended {
+        state: ScriptState {
+            number,
+            seen: 0,
+            line: [0; 80],
+            blocks: ran.blocks,
+        },
+        written: ran.written,
+    }
+}

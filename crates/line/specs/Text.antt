@@ -1,0 +1,43 @@
+-- Document 01, "The script": the lines of output, each with its LF.
+use mathlib.Core.Path.{_≡_}
+use mathlib.Core.List.{List, [], _∷_, _++_}
+use Prim.Native.Nat.{ℕ, _+_, _*_, _≤_}
+use lib.ListN.{length}
+use lib.Seq.{sets}
+use Rattle.lists.specs.Lists.{bind, upFrom}
+use Rattle.endian.specs.Endian.{u16At, u32At}
+use Rattle.line.specs.Digits.{digits}
+
+-- `store N fill F`
+unfoldable pub storeText : (blocks fill : ℕ) → List ℕ
+storeText n fill =
+    (115 ∷ 116 ∷ 111 ∷ 114 ∷ 101 ∷ 32 ∷ []) ++ digits n ++ (32 ∷ 102 ∷ 105 ∷ 108 ∷ 108 ∷ 32 ∷ []) ++ digits fill ++ (10 ∷ [])
+
+-- `ok`
+unfoldable pub okText : List ℕ
+okText = 111 ∷ 107 ∷ 10 ∷ []
+
+-- `line L: refused R`
+unfoldable pub refusedText : (line number : ℕ) → List ℕ
+refusedText line number =
+    (108 ∷ 105 ∷ 110 ∷ 101 ∷ 32 ∷ []) ++ digits line
+    ++ (58 ∷ 32 ∷ 114 ∷ 101 ∷ 102 ∷ 117 ∷ 115 ∷ 101 ∷ 100 ∷ 32 ∷ []) ++ digits number ++ (10 ∷ [])
+
+-- `steps S stop T`
+unfoldable pub stepsText : (steps stop : ℕ) → List ℕ
+stepsText steps stop =
+    (115 ∷ 116 ∷ 101 ∷ 112 ∷ 115 ∷ 32 ∷ []) ++ digits steps ++ (32 ∷ 115 ∷ 116 ∷ 111 ∷ 112 ∷ 32 ∷ []) ++ digits stop ++ (10 ∷ [])
+
+-- ` b/o`, the i-th match of a lookup's output
+unfoldable pub placeText : (output : List ℕ) (i : ℕ) → List ℕ
+placeText out i = (32 ∷ []) ++ digits (u32At out (6 * i)) ++ (47 ∷ []) ++ digits (u16At out (6 * i + 4))
+
+-- `M: b/o b/o`, no match is `0:`
+unfoldable pub foundText : (count : ℕ) (output : List ℕ) → List ℕ
+foundText m out = digits m ++ (58 ∷ []) ++ bind (upFrom 0 m) (placeText out) ++ (10 ∷ [])
+
+-- `text` was written over `old` from `at` on, up to `end`, and had room there
+pub record Wrote (old : List ℕ) (at : ℕ) (text new : List ℕ) (end : ℕ) : Type 0 where
+  pub bytes : new ≡ sets old at text
+  pub ends : end ≡ at + length text
+  pub fits : end ≤ length old
