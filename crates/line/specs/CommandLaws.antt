@@ -24,7 +24,7 @@ pub fields-wrong : (ws : List (List ℕ)) → fieldsFrom Fields.Wrong ws ≡ Fie
 fields-wrong [] = refl
 fields-wrong (w ∷ ws) = ap (λ (f : Fields). fieldsFrom f ws) (wrong-more (numberOf w)) ∙ fields-wrong ws
 
-cond-same : (t : Bool) (c : Command) → cond t c c ≡ c
+pub cond-same : (t : Bool) (c : Command) → cond t c c ≡ c
 cond-same true c = refl
 cond-same false c = refl
 

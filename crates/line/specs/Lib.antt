@@ -2,6 +2,7 @@ pub mod Words
 pub mod WordsLaws
 pub mod Command
 pub mod CommandLaws
+pub mod CommaLaws
 pub mod Digits
 pub mod DigitsLaws
 pub mod Text
