@@ -59,9 +59,11 @@ run-more i (suc n) =
 
 bind-append : (f : ℕ → List ℕ) (xs ys : List ℕ) → bind (xs ++ ys) f ≡ bind xs f ++ bind ys f
 bind-append f [] ys = refl
-bind-append f (x ∷ xs) ys = ap (λ (l : List ℕ). f x ++ l) (bind-append f xs ys) ∙ sym (append-assoc (f x) (bind xs f) (bind ys f))
+bind-append f (x ∷ xs) ys = ap (λ (l : List ℕ). f x ++ l) (bind-append f xs ys)
+    ∙ sym (append-assoc (f x) (bind xs f) (bind ys f))
 
 pub bind-more : (f : ℕ → List ℕ) (n : ℕ) → bind (upFrom 0 (n + 1)) f ≡ bind (upFrom 0 n) f ++ f n
 bind-more f n =
-    ap (λ (k : ℕ). bind (upFrom 0 k) f) (add-one n) ∙ ap (λ (l : List ℕ). bind l f) (run-more 0 n) ∙ bind-append f (upFrom 0 n) ((0 + n) ∷ [])
+    ap (λ (k : ℕ). bind (upFrom 0 k) f) (add-one n) ∙ ap (λ (l : List ℕ). bind l f) (run-more 0 n)
+    ∙ bind-append f (upFrom 0 n) ((0 + n) ∷ [])
     ∙ ap (λ (l : List ℕ). bind (upFrom 0 n) f ++ l) (append-nil (f (0 + n)) ∙ ap f (zero-add n))

@@ -27,7 +27,8 @@ same-length c = search needs
 returns : tie.Need-returns
 returns c =
     let k = c .before .before .before .before in
-    wrote-as (sym (ap (answerText (k .before .before .before .args .line)) (k .enum-told .given .1))) (c .before .before .put-ok .ensures)
+    wrote-as (sym (ap (answerText (k .before .before .before .args .line)) (k .enum-told .given .1)))
+    (c .before .before .put-ok .ensures)
 
 same-length-2 : tie.Need-same-length-2
 same-length-2 c = search needs

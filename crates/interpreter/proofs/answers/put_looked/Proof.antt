@@ -35,7 +35,8 @@ returns c =
     let p = c .before .before in
     let k = p .before .before .before in
     let a = k .before .before .before .before .args in
-    wrote-as (sym (ap (λ (x : LookupAnswer). lookupText (a .line) x (a .places .now)) (k .answer .given .1))) (p .put-found .ensures)
+    wrote-as (sym (ap (λ (x : LookupAnswer). lookupText (a .line) x (a .places .now)) (k .answer .given .1)))
+    (p .put-found .ensures)
 
 same-length-2 : tie.Need-same-length-2
 same-length-2 c = search needs

@@ -34,7 +34,8 @@ returns c =
     let s = p .before .before .before .before in
     let a = s .args in
     record {
-      store = stands-made (a .store .now) _ (p .insert .last .0) (s .pre .few) (p .insert .kept .0 ∙ part-size (s .pre)) (p .insert .ensures .1);
+      store = stands-made (a .store .now) _ (p .insert .last .0) (s .pre .few)
+          (p .insert .kept .0 ∙ part-size (s .pre)) (p .insert .ensures .1);
       text = wrote-as (ap (answerText (a .line)) (p .insert .ensures .0)) (c .before .before .put-answer .ensures);
     }
 

@@ -45,7 +45,8 @@ returns c =
     let s = p .before .before .before .before .before in
     record {
       store = stands-kept (s .pre);
-      text = wrote-as (ap (λ (k : Looked). lookupText (s .args .line) (k .answer) (k .output)) (sym (p .lookup .ensures))) (c .before .before .put-looked .ensures);
+      text = wrote-as (ap (λ (k : Looked). lookupText (s .args .line) (k .answer) (k .output))
+          (sym (p .lookup .ensures))) (c .before .before .put-looked .ensures);
     }
 
 pub run-lookup-spec : {M : Type 1} → statement M

@@ -34,7 +34,8 @@ returns c =
     let s = p .before .before .before .before in
     let a = s .args in
     record {
-      store = stands-made (a .store .now) _ (p .remove .last .0) (s .pre .few) (p .remove .kept .0 ∙ part-size (s .pre)) (p .remove .ensures .1);
+      store = stands-made (a .store .now) _ (p .remove .last .0) (s .pre .few)
+          (p .remove .kept .0 ∙ part-size (s .pre)) (p .remove .ensures .1);
       text = wrote-as (ap (answerText (a .line)) (p .remove .ensures .0)) (c .before .before .put-answer .ensures);
     }
 

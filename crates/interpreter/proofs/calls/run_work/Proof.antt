@@ -34,7 +34,8 @@ returns c =
     let s = p .before .before .before .before in
     let a = s .args in
     record {
-      store = stands-made (a .store .now) _ (p .work .last .0) (s .pre .few) (p .work .kept .0 ∙ part-size (s .pre)) (p .work .ensures .1);
+      store = stands-made (a .store .now) _ (p .work .last .0) (s .pre .few) (p .work .kept .0 ∙ part-size (s .pre))
+          (p .work .ensures .1);
       text = wrote-as (ap (workText (a .line)) (p .work .ensures .0)) (c .before .before .put-worked .ensures);
     }
 

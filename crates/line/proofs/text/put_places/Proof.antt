@@ -36,8 +36,12 @@ loop-again c =
     let p = c .before .before in
     let l = p .before .before .before in
     let s = l .before .before .before in
-    let both = then-wrote (l .loop .inv .2) (p .put-place .ensures .0) in
-    (omega arith, omega (arith, p .put-place .ensures .1, l .loop .inv .1), rw (← bind-more (placeText (s .args .places .now)) (l .loop .i)) at both)
+    let both = then-wrote (l .loop .inv .2) (p .put-place .ensures .0) in (
+      omega arith,
+      omega (arith, p .put-place .ensures .1, l .loop .inv .1),
+      rw
+          (← bind-more (placeText (s .args .places .now)) (l .loop .i)) at both,
+    )
 
 same-length : tie.Need-same-length Inv-loop μ-loop
 same-length c = wrote-length (c .before .loop .inv .2)
