@@ -6,7 +6,7 @@ use lib.Dec.{leb}
 use lib.ListN.{length, take, drop}
 use Rattle.line.specs.Words.{span}
 use Rattle.line.specs.Command.{maxLine}
-use Rattle.line.specs.Text.{lineOutput}
+use Rattle.text.specs.Text.{lineOutput}
 use Rattle.interpreter.specs.declared.ScriptState.{ScriptState}
 use Rattle.interpreter.specs.declared.Fed.{Fed}
 use Rattle.interpreter.specs.Machine.{Pending, short, long, State, Ran, onBytes, atEnd}

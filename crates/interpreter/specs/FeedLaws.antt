@@ -9,7 +9,7 @@ use lib.Dec.{leb}
 use lib.ListN.{length, take, drop}
 use Rattle.lists.specs.ListsLaws.{and-left, and-right}
 use Rattle.line.specs.Command.{maxLine}
-use Rattle.line.specs.Text.{lineOutput}
+use Rattle.text.specs.Text.{lineOutput}
 use Rattle.interpreter.specs.declared.ScriptState.{ScriptState}
 use Rattle.interpreter.specs.declared.Fed.{Fed}
 use Rattle.interpreter.specs.declared.Gathered.{Gathered}
@@ -24,7 +24,8 @@ use Rattle.interpreter.specs.HeldLaws.{holding, gather-used, gather-run}
 module _ (c : ScriptState) (store out : List ℕ) where
   pub ready-room : ready c store out ≡ true → Room (c .blocks) store out
   ready-room e =
-      let slices = and-right (leb (c .blocks) scriptBlocks) (leb storeBytes (length store) && leb lineOutput (length out)) e in
+      let slices =
+      and-right (leb (c .blocks) scriptBlocks) (leb storeBytes (length store) && leb lineOutput (length out)) e in
       record {
         few = leb-true (c .blocks) scriptBlocks (and-left (leb (c .blocks) scriptBlocks) _ e);
         store = leb-true storeBytes (length store) (and-left (leb storeBytes (length store)) _ slices);

@@ -12,7 +12,7 @@ use lib.ListN.{length, take, drop, getD, set, drop-of-length-le}
 use lib.Seq.{length-take-le, take-suc-set, drop-cons, take-at}
 use Rattle.line.specs.Command.{maxLine}
 use Rattle.line.specs.Words.{span}
-use Rattle.line.specs.TextLaws.{wrote-start, wrote-count}
+use Rattle.text.specs.TextLaws.{wrote-start, wrote-count}
 use Rattle.interpreter.specs.declared.ScriptState.{ScriptState}
 use Rattle.interpreter.specs.Machine.{Pending, short, long, grow, State, Ran, endLine, keepByte, onBytes}
 use Rattle.interpreter.specs.Feed.{pendingIn, lineBytes}

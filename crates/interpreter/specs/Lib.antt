@@ -8,3 +8,4 @@ pub mod Held
 pub mod HeldLaws
 pub mod FeedLaws
 pub mod FedLaws
+pub mod Examples

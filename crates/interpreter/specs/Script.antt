@@ -5,7 +5,7 @@ use lib.ListN.{replicate}
 use Rattle.line.specs.declared.Command.{Command}
 use Rattle.line.specs.Words.{parts}
 use Rattle.line.specs.Command.{readLine}
-use Rattle.line.specs.Text.{storeText, okText, refusedText, stepsText, foundText}
+use Rattle.text.specs.Text.{storeText, okText, refusedText, stepsText, foundText}
 use Rattle.model.specs.declared.Answer.{Answer}
 use Rattle.model.specs.declared.LookupAnswer.{LookupAnswer}
 use Rattle.model.specs.declared.WorkAnswer.{WorkAnswer}

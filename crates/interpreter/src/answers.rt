@@ -1,17 +1,17 @@
 // Answers as text. Each function writes from the output's start on, and answers how many bytes.
-use line::text::put_found;
-use line::text::put_ok;
-use line::text::put_refused;
-use line::text::put_steps;
 use model::Answer;
 use model::LookupAnswer;
 use model::Refusal;
 use model::Stop;
 use model::WorkAnswer;
+use text::put_found;
+use text::put_ok;
+use text::put_refused;
+use text::put_steps;
 ghost use mathlib.Core.Path.{_≡_};
 ghost use Prim.Native.Nat.{_*_, _≤_};
 ghost use lib.ListN.{length};
-ghost use Rattle.line.specs.Text.{Wrote, lineOutput};
+ghost use Rattle.text.specs.Text.{Wrote, lineOutput};
 ghost use Rattle.model.specs.Answers.{refusalNo, stopNo};
 ghost use Rattle.interpreter.specs.Script.{answerText, lookupText, workText};
 ghost use Rattle.interpreter.specs.Runs.{Roomy};

@@ -5,7 +5,7 @@ use crate::STORE_BYTES;
 use crate::ScriptState;
 use crate::lines::end_line;
 use crate::lines::gather;
-use line::text::LINE_OUTPUT;
+use text::LINE_OUTPUT;
 ghost use mathlib.Core.Path.{_≡_};
 ghost use mathlib.Core.List.{List};
 ghost use Prim.Native.Nat.{ℕ};

@@ -4,7 +4,7 @@ use interpreter::ScriptState;
 use interpreter::feed::feed;
 use interpreter::feed::finish;
 use interpreter::feed::start;
-use line::text::LINE_OUTPUT;
+use text::LINE_OUTPUT;
 ghost use mathlib.Core.Path.{_≡_};
 ghost use mathlib.Core.Bool.{true};
 ghost use Rattle.interpreter.specs.Machine.{onBytes};

@@ -1,6 +1,6 @@
 use mathlib.Core.Path.{_≡_, sym, ap, _∙_, subst}
-use Rattle.line.specs.Text.{refusedText}
-use Rattle.line.specs.TextLaws.{wrote-as}
+use Rattle.text.specs.Text.{refusedText}
+use Rattle.text.specs.TextLaws.{wrote-as}
 use Rattle.model.specs.declared.LookupAnswer.{LookupAnswer}
 use Rattle.interpreter.specs.Script.{lookupText}
 use Rattle.interpreter.specs.Runs.{Roomy}

@@ -4,8 +4,8 @@ use Prim.Native.Nat.{ℕ, _*_}
 use native.Mathlib.Omega.{arith}
 use lib.ListN.{length, take, drop, take-append-drop}
 use lib.Seq.{length-take-le}
-use Rattle.line.specs.Text.{refusedText}
-use Rattle.line.specs.TextLaws.{wrote-as}
+use Rattle.text.specs.Text.{refusedText}
+use Rattle.text.specs.TextLaws.{wrote-as}
 use Rattle.interpreter.specs.Runs.{Stands}
 use Rattle.interpreter.specs.RunsLaws.{stands-kept, stands-made, runs-as}
 use Rattle.interpreter.specs.RunsLaws.{format-done, format-refused, format-kept, format-large}

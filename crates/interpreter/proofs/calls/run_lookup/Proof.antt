@@ -2,7 +2,7 @@ use mathlib.Core.Path.{_≡_, refl, sym, ap, _∙_}
 use mathlib.Core.List.{List}
 use Prim.Native.Nat.{ℕ, _*_}
 use lib.ListN.{length, take, replicate}
-use Rattle.line.specs.TextLaws.{wrote-as}
+use Rattle.text.specs.TextLaws.{wrote-as}
 use Rattle.model.specs.Calls.{Looked}
 use Rattle.interpreter.specs.Script.{lookupText, runCommand}
 use Rattle.interpreter.specs.RunsLaws.{part-size, stands-kept, lookup-roomy}

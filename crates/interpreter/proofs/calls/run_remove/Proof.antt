@@ -1,5 +1,5 @@
 use mathlib.Core.Path.{_≡_, sym, ap, _∙_}
-use Rattle.line.specs.TextLaws.{wrote-as}
+use Rattle.text.specs.TextLaws.{wrote-as}
 use Rattle.interpreter.specs.Script.{answerText, runCommand}
 use Rattle.interpreter.specs.RunsLaws.{part-size, stands-made}
 use borrow.Author.Needs.{needs}

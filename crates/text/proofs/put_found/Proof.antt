@@ -1,10 +1,10 @@
 use native.Mathlib.Omega.{arith}
-use Rattle.line.specs.DigitsLaws.{digits-few}
-use Rattle.line.specs.Text.{foundText}
-use Rattle.line.specs.TextLaws.{then-wrote}
+use Rattle.text.specs.DigitsLaws.{digits-few}
+use Rattle.text.specs.Text.{foundText}
+use Rattle.text.specs.TextLaws.{then-wrote}
 use borrow.Author.Needs.{needs}
-use Rattle.line.proofs.text.put_found.Statement.{statement}
-use Rattle.line.proofs.text.put_found.Tie as tie
+use Rattle.text.proofs.put_found.Statement.{statement}
+use Rattle.text.proofs.put_found.Tie as tie
 
 put-number-requires : tie.Need-put-number-requires
 put-number-requires c κs =

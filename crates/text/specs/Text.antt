@@ -6,7 +6,7 @@ use lib.ListN.{length}
 use lib.Seq.{sets}
 use Rattle.lists.specs.Lists.{bind, upFrom}
 use Rattle.endian.specs.Endian.{u16At, u32At}
-use Rattle.line.specs.Digits.{digits}
+use Rattle.text.specs.Digits.{digits}
 
 -- the bytes that one line can need: 5,000 matches of 17 bytes, their number, a colon and LF
 abbrev pub lineOutput : ℕ

@@ -3,11 +3,11 @@ use mathlib.Core.List.{List, [], _++_, append-nil}
 use Prim.Native.Nat.{ℕ, _≤_}
 use native.Mathlib.Omega.{arith}
 use lib.ListN.{length, drop, length-set, drop-of-length-le}
-use Rattle.line.specs.Digits.{digits}
-use Rattle.line.specs.DigitsLaws.{digits-some, spell-last, spell-more, spell-fewer}
-use Rattle.line.specs.TextLaws.{digits-64}
-use Rattle.line.proofs.text.spell.Statement.{statement}
-use Rattle.line.proofs.text.spell.Tie as tie
+use Rattle.text.specs.Digits.{digits}
+use Rattle.text.specs.DigitsLaws.{digits-some, spell-last, spell-more, spell-fewer}
+use Rattle.text.specs.TextLaws.{digits-64}
+use Rattle.text.proofs.spell.Statement.{statement}
+use Rattle.text.proofs.spell.Tie as tie
 
 abbrev Inv-loop : tie.InvT-loop
 Inv-loop n space₀ rest₀ at₀ space rest at =

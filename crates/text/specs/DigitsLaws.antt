@@ -10,7 +10,7 @@ use borrow.Author.Tests.{lt-ltb, le-ltb, ltb-true, ltb-false}
 use lib.Dec.{ltb}
 use lib.ListN.{length, drop, set, length-append, length-set}
 use lib.Seq.{drop-cons, getD-set-same, drop-set-lt}
-use Rattle.line.specs.Digits.{digitsIn, digits}
+use Rattle.text.specs.Digits.{digitsIn, digits}
 
 -- more fuel changes nothing
 fuel : (k m n : ℕ) → n < k → n < m → digitsIn k n ≡ digitsIn m n

@@ -3,10 +3,10 @@ use Prim.Native.Nat.{_-_}
 use native.Mathlib.Omega.{arith}
 use lib.ListN.{take, drop, length-drop}
 use lib.Seq.{take-all}
-use Rattle.line.specs.Digits.{digits}
+use Rattle.text.specs.Digits.{digits}
 use borrow.Author.Needs.{needs}
-use Rattle.line.proofs.text.put_number.Statement.{statement}
-use Rattle.line.proofs.text.put_number.Tie as tie
+use Rattle.text.proofs.put_number.Statement.{statement}
+use Rattle.text.proofs.put_number.Tie as tie
 
 -- the bytes that are lent are the digits
 spelled : (c : tie.After-spell)

@@ -1,10 +1,10 @@
 use mathlib.Core.Path.{_≡_}
 use native.Mathlib.Omega.{arith}
-use Rattle.line.specs.Text.{placeText}
-use Rattle.line.specs.TextLaws.{then-wrote, digits-16, digits-32}
+use Rattle.text.specs.Text.{placeText}
+use Rattle.text.specs.TextLaws.{then-wrote, digits-16, digits-32}
 use borrow.Author.Needs.{needs}
-use Rattle.line.proofs.text.put_place.Statement.{statement}
-use Rattle.line.proofs.text.put_place.Tie as tie
+use Rattle.text.proofs.put_place.Statement.{statement}
+use Rattle.text.proofs.put_place.Tie as tie
 
 mul-from : tie.Need-mul-from
 mul-from c = search needs

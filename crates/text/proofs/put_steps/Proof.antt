@@ -1,9 +1,9 @@
 use native.Mathlib.Omega.{arith}
-use Rattle.line.specs.Text.{stepsText}
-use Rattle.line.specs.TextLaws.{then-wrote, digits-32}
+use Rattle.text.specs.Text.{stepsText}
+use Rattle.text.specs.TextLaws.{then-wrote, digits-32}
 use borrow.Author.Needs.{needs}
-use Rattle.line.proofs.text.put_steps.Statement.{statement}
-use Rattle.line.proofs.text.put_steps.Tie as tie
+use Rattle.text.proofs.put_steps.Statement.{statement}
+use Rattle.text.proofs.put_steps.Tie as tie
 
 slice-aggregate-put-bytes : tie.Need-slice-aggregate-put-bytes
 slice-aggregate-put-bytes c = search needs

@@ -4,10 +4,10 @@ use Prim.Native.Nat.{ℕ, _+_, _-_, _*_, _≤_}
 use native.Mathlib.Omega.{arith}
 use lib.ListN.{length}
 use Rattle.lists.specs.Lists.{bind, upFrom}
-use Rattle.line.specs.Text.{Wrote, placeText}
-use Rattle.line.specs.TextLaws.{then-wrote, wrote-length, bind-more}
-use Rattle.line.proofs.text.put_places.Statement.{statement}
-use Rattle.line.proofs.text.put_places.Tie as tie
+use Rattle.text.specs.Text.{Wrote, placeText}
+use Rattle.text.specs.TextLaws.{then-wrote, wrote-length, bind-more}
+use Rattle.text.proofs.put_places.Statement.{statement}
+use Rattle.text.proofs.put_places.Tie as tie
 
 abbrev Inv-loop : tie.InvT-loop
 Inv-loop output₀ at places count end₀ i₀ output end i =
