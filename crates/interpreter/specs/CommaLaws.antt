@@ -5,7 +5,7 @@ use mathlib.Core.List.{List}
 use Prim.Native.Nat.{ℕ}
 use Rattle.line.specs.declared.Command.{Command}
 use Rattle.line.specs.Command.{readLine}
-use Rattle.line.specs.Text.{refusedText}
+use Rattle.text.specs.Text.{refusedText}
 use Rattle.line.specs.CommaLaws.{comma, comma-unreadable}
 use Rattle.interpreter.specs.Script.{runCommand}
 

@@ -25,22 +25,26 @@ written-fits false c m q store out r new after e =
 pub finish-written : (c : ScriptState) (store out : List ℕ) (r : Fed) (new after : List ℕ)
     → finishOutcome c store out ≡ fedAs r new after → r .written ≤ length after
 unfolding finishOutcome
-finish-written c store out r new after e = written-fits (ready c store out) c 0 (atEnd (stateOf c store)) store out r new after e
+finish-written c store out r new after e =
+    written-fits (ready c store out) c 0 (atEnd (stateOf c store)) store out r new after e
 
 module _ (c : ScriptState) (store input out : List ℕ) (r : Fed) (new after : List ℕ)
     (e : feedOutcome c store input out ≡ fedAs r new after) where
   pub feed-written : r .written ≤ length after
   unfolding feedOutcome
   feed-written =
-      written-fits (ready c store out) c (lineBytes input) (onBytes (stateOf c store) (take (lineBytes input) input)) store out r new
+      written-fits (ready c store out) c (lineBytes input)
+      (onBytes (stateOf c store) (take (lineBytes input) input)) store out r new
       after e
 
   module _ (y : ready c store out ≡ true) where
-    fed : fedBy (lineBytes input) (onBytes (stateOf c store) (take (lineBytes input) input)) store out ≡ fedAs r new after
+    fed : fedBy (lineBytes input) (onBytes (stateOf c store) (take (lineBytes input) input)) store out
+        ≡ fedAs r new after
     unfolding feedOutcome
     fed =
         ap (λ (t : Bool).
-        cond t (fedBy (lineBytes input) (onBytes (stateOf c store) (take (lineBytes input) input)) store out) (notReady c store out))
+        cond t (fedBy (lineBytes input) (onBytes (stateOf c store) (take (lineBytes input) input)) store out)
+        (notReady c store out))
         (sym y) ∙ e
 
     pub feed-ready : r .ready ≡ true
@@ -50,7 +54,8 @@ module _ (c : ScriptState) (store input out : List ℕ) (r : Fed) (new after : L
     feed-used = sym (ap (λ (f : Feeding). f .used) fed)
 
     -- the rest of the input, from the state after the bytes that were used
-    pub feed-rest : onBytes (stateOf c store) input .state ≡ onBytes (stateOf (r .state) new) (drop (r .used) input) .state
+    pub feed-rest : onBytes (stateOf c store) input .state
+        ≡ onBytes (stateOf (r .state) new) (drop (r .used) input) .state
     feed-rest =
         let n = lineBytes input in
         ap (λ (l : List ℕ). onBytes (stateOf c store) l .state) (sym (take-append-drop n input))

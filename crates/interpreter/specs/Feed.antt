@@ -6,6 +6,7 @@ use lib.Dec.{leb}
 use lib.ListN.{length, take, drop}
 use Rattle.line.specs.Words.{span}
 use Rattle.line.specs.Command.{maxLine}
+use Rattle.text.specs.Text.{lineOutput}
 use Rattle.interpreter.specs.declared.ScriptState.{ScriptState}
 use Rattle.interpreter.specs.declared.Fed.{Fed}
 use Rattle.interpreter.specs.Machine.{Pending, short, long, State, Ran, onBytes, atEnd}
@@ -21,17 +22,16 @@ stateOf c store = record { pending = pendingIn c; line = c .number; store = take
 
 -- ---- room
 
--- the bytes of the largest store that a script can make
+-- the script's largest N
+abbrev pub scriptBlocks : ℕ
+scriptBlocks = 128
+
 abbrev pub storeBytes : ℕ
-storeBytes = 65536
+storeBytes = 512 * scriptBlocks
 
--- the bytes that a line can write: 5,000 matches of 17 bytes, their number, a colon and LF
-abbrev pub lineOutput : ℕ
-lineOutput = 85006
-
--- a store of at most 128 blocks, and slices that are long enough
+-- a store that a script can make, and slices that are long enough
 abbrev pub ready : ScriptState → (store output : List ℕ) → Bool
-ready c store out = leb (c .blocks) 128 && (leb storeBytes (length store) && leb lineOutput (length out))
+ready c store out = leb (c .blocks) scriptBlocks && (leb storeBytes (length store) && leb lineOutput (length out))
 
 -- ---- the outcomes
 
@@ -71,10 +71,12 @@ lineBytes input = min (suc (span 10 input)) (length input)
 unfoldable pub feedOutcome : ScriptState → (store input output : List ℕ) → Feeding
 feedOutcome c store input out =
     cond (ready c store out)
-    (fedBy (lineBytes input) (onBytes (stateOf c store) (take (lineBytes input) input)) store out) (notReady c store out)
+    (fedBy (lineBytes input) (onBytes (stateOf c store) (take (lineBytes input) input)) store out)
+    (notReady c store out)
 
 unfoldable pub finishOutcome : ScriptState → (store output : List ℕ) → Feeding
-finishOutcome c store out = cond (ready c store out) (fedBy 0 (atEnd (stateOf c store)) store out) (notReady c store out)
+finishOutcome c store out =
+    cond (ready c store out) (fedBy 0 (atEnd (stateOf c store)) store out) (notReady c store out)
 
 -- what a call answered and left
 abbrev pub fedAs : Fed → (store output : List ℕ) → Feeding

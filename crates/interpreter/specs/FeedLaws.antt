@@ -9,11 +9,12 @@ use lib.Dec.{leb}
 use lib.ListN.{length, take, drop}
 use Rattle.lists.specs.ListsLaws.{and-left, and-right}
 use Rattle.line.specs.Command.{maxLine}
+use Rattle.text.specs.Text.{lineOutput}
 use Rattle.interpreter.specs.declared.ScriptState.{ScriptState}
 use Rattle.interpreter.specs.declared.Fed.{Fed}
 use Rattle.interpreter.specs.declared.Gathered.{Gathered}
 use Rattle.interpreter.specs.Machine.{Pending, short, long, State, Ran, endLine, onBytes, endIn, atEnd}
-use Rattle.interpreter.specs.Feed.{pendingIn, stateOf, storeBytes, lineOutput, ready, Feeding, over, fedBy, notReady}
+use Rattle.interpreter.specs.Feed.{pendingIn, stateOf, scriptBlocks, storeBytes, ready, over, fedBy, notReady}
 use Rattle.interpreter.specs.Feed.{lineBytes, feedOutcome, finishOutcome, fedAs}
 use Rattle.interpreter.specs.Runs.{Room}
 use Rattle.interpreter.specs.RunsLaws.{part-size, over-own}
@@ -23,26 +24,32 @@ use Rattle.interpreter.specs.HeldLaws.{holding, gather-used, gather-run}
 module _ (c : ScriptState) (store out : List ℕ) where
   pub ready-room : ready c store out ≡ true → Room (c .blocks) store out
   ready-room e =
-      let slices = and-right (leb (c .blocks) 128) (leb storeBytes (length store) && leb lineOutput (length out)) e in
+      let slices =
+      and-right (leb (c .blocks) scriptBlocks) (leb storeBytes (length store) && leb lineOutput (length out)) e in
       record {
-        few = leb-true (c .blocks) 128 (and-left (leb (c .blocks) 128) _ e);
+        few = leb-true (c .blocks) scriptBlocks (and-left (leb (c .blocks) scriptBlocks) _ e);
         store = leb-true storeBytes (length store) (and-left (leb storeBytes (length store)) _ slices);
         output = leb-true lineOutput (length out) (and-right (leb storeBytes (length store)) _ slices);
       }
 
   pub room-ready : Room (c .blocks) store out → ready c store out ≡ true
   room-ready r =
-      rw
-      (le-leb (c .blocks) 128 (r .few), le-leb storeBytes (length store) (r .store), le-leb lineOutput (length out) (r .output))
+      rw (
+        le-leb (c .blocks) scriptBlocks (r .few),
+        le-leb storeBytes (length store) (r .store),
+        le-leb lineOutput (length out)
+            (r .output),
+      )
 
   -- the state after a line serves as well
   pub ready-next : {q : Ran} (d : ScriptState) (new after : List ℕ) (count : ℕ) → ready c store out ≡ true
-      → Ends q store new d out after count → length new ≡ length store → length after ≡ length out → true ≡ ready d new after
+      → Ends q store new d out after count → length new ≡ length store → length after ≡ length out → true
+      ≡ ready d new after
   ready-next d new after count e q l m =
       let r = ready-room e in
       sym
       (rw (
-        le-leb (d .blocks) 128 (q .few),
+        le-leb (d .blocks) scriptBlocks (q .few),
         le-leb storeBytes (length new) (omega (arith, r .store)),
         le-leb lineOutput (length after) (omega (arith, r .output)),
       ))
@@ -58,7 +65,8 @@ module _ (c : ScriptState) (store out : List ℕ) where
       (sym (over-own store (512 * d .blocks) (part-size r)))
 
   -- a run of a line that ended
-  pub fed-ended : {m : ℕ} (q : Ran) (d : ScriptState) (new after : List ℕ) (count : ℕ) → Ends q store new d out after count
+  pub fed-ended : {m : ℕ} (q : Ran) (d : ScriptState) (new after : List ℕ) (count : ℕ)
+      → Ends q store new d out after count
       → fedBy m q store out ≡ fedAs (record { ready = true; state = d; used = m; written = count }) new after
   fed-ended {m} q d new after count e = cc (e .state, e .store, e .text, e .written)
 
@@ -82,7 +90,12 @@ module _ (c : ScriptState) (store input out : List ℕ) (g : Gathered) (e : gath
   held : holding (stateOf c store) (pendingIn (g .state)) ≡ stateOf (g .state) store
   held =
       ap (λ (m : ℕ). record { pending = pendingIn (g .state); line = m; store = take (512 * c .blocks) store }) (sym n)
-      ∙ ap (λ (m : ℕ). record { pending = pendingIn (g .state); line = g .state .number; store = take (512 * m) store }) (sym k)
+      ∙ ap (λ (m : ℕ). record {
+        pending = pendingIn (g .state);
+        line = g .state .number;
+        store = take
+            (512 * m) store;
+      }) (sym k)
 
   -- a line that ended, or one that has not
   abbrev line-run : Bool → State → Ran
@@ -98,20 +111,24 @@ module _ (c : ScriptState) (store input out : List ℕ) (g : Gathered) (e : gath
   used : lineBytes input ≡ g .used
   used = sym (gather-used (pendingIn c) input) ∙ ap (λ (x : Gather). x .used) (sym e)
 
-  fed : (t : Bool) → g .ended ≡ t → feedOutcome c store input out ≡ fedBy (g .used) (line-run t (stateOf (g .state) store)) store out
+  fed : (t : Bool) → g .ended ≡ t → feedOutcome c store input out
+      ≡ fedBy (g .used) (line-run t (stateOf (g .state) store)) store out
   unfolding feedOutcome
   fed t h =
       rw r
       (ap (λ (m : ℕ). fedBy m (onBytes (stateOf c store) (take (lineBytes input) input)) store out) used
-      ∙ ap (λ (q : Ran). fedBy (g .used) q store out) (ran ∙ ap (λ (u : Bool). line-run u (stateOf (g .state) store)) h))
+      ∙ ap (λ (q : Ran). fedBy (g .used) q store out)
+      (ran ∙ ap (λ (u : Bool). line-run u (stateOf (g .state) store)) h))
 
   pub feed-open : g .ended ≡ false
-      → feedOutcome c store input out ≡ fedAs (record { ready = true; state = g .state; used = g .used; written = 0 }) store out
+      → feedOutcome c store input out ≡ fedAs
+      (record { ready = true; state = g .state; used = g .used; written = 0 }) store out
   feed-open h = fed false h ∙ fed-still c store out (g .state) feed-room
 
   pub feed-ended : (d : ScriptState) (new after : List ℕ) (count : ℕ) → g .ended ≡ true
       → Ends (endLine (stateOf (g .state) store)) store new d out after count
-      → feedOutcome c store input out ≡ fedAs (record { ready = true; state = d; used = g .used; written = count }) new after
+      → feedOutcome c store input out ≡ fedAs
+      (record { ready = true; state = d; used = g .used; written = count }) new after
   feed-ended d new after count h q =
       fed true h ∙ fed-ended c store out (endLine (stateOf (g .state) store)) d new after count q
 
@@ -142,6 +159,7 @@ module _ (c : ScriptState) (store out : List ℕ) (r : ready c store out ≡ tru
       (ap (λ (x : Ran). fedBy 0 x store out) (go (leb (c .seen) maxLine))
       ∙ fed-ended c store out (endLine (stateOf c store)) d new after count q)
     where
-      go : (t : Bool) → endIn (cond t (short (take (c .seen) (c .line))) long) (stateOf c store) ≡ endLine (stateOf c store)
+      go : (t : Bool) → endIn (cond t (short (take (c .seen) (c .line))) long) (stateOf c store)
+          ≡ endLine (stateOf c store)
       go true = end-some (c .seen) (c .line) (stateOf c store) h (omega arith)
       go false = refl

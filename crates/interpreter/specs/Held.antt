@@ -8,7 +8,7 @@ use lib.ListN.{length}
 use Rattle.interpreter.specs.declared.ScriptState.{ScriptState}
 use Rattle.interpreter.specs.declared.Gathered.{Gathered}
 use Rattle.interpreter.specs.Machine.{Pending, grow, State, Ran}
-use Rattle.interpreter.specs.Feed.{pendingIn, stateOf, over}
+use Rattle.interpreter.specs.Feed.{pendingIn, stateOf, scriptBlocks, over}
 
 -- one byte more
 pub record Keeps (c : ScriptState) (b : ℕ) (r : ScriptState) : Type 0 where
@@ -16,7 +16,7 @@ pub record Keeps (c : ScriptState) (b : ℕ) (r : ScriptState) : Type 0 where
   pub number : r .number ≡ c .number
   pub blocks : r .blocks ≡ c .blocks
 
--- The pending line after the bytes up to an LF or the end, how many bytes those are with the LF, and whether it was an LF.
+-- The pending line after the bytes up to an LF or the end, their number, with the LF, and whether it was an LF.
 pub record Gather : Type 0 where
   pub pending : Pending
   pub used : ℕ
@@ -27,7 +27,8 @@ gatherIn p [] = record { pending = p; used = 0; ended = false }
 gatherIn p (b ∷ bs) =
     elim (eqb b 10) [
       | true ↦ record { pending = p; used = 1; ended = true }
-      | false ↦ let g = gatherIn (grow p b) bs in record { pending = g .pending; used = suc (g .used); ended = g .ended }
+      | false ↦ let g = gatherIn (grow p b) bs in
+          record { pending = g .pending; used = suc (g .used); ended = g .ended }
     ]
 
 abbrev pub gatheredAs : Gathered → Gather
@@ -35,7 +36,7 @@ gatheredAs r = record { pending = pendingIn (r .state); used = r .used; ended = 
 
 -- a run, made in a lent store and output
 pub record Ends (q : Ran) (old new : List ℕ) (c : ScriptState) (before after : List ℕ) (count : ℕ) : Type 0 where
-  pub few : c .blocks ≤ 128
+  pub few : c .blocks ≤ scriptBlocks
   pub state : stateOf c new ≡ q .state
   pub store : new ≡ over (q .state .store) old
   pub text : after ≡ over (q .text) before

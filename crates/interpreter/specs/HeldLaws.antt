@@ -12,7 +12,7 @@ use lib.ListN.{length, take, drop, getD, set, drop-of-length-le}
 use lib.Seq.{length-take-le, take-suc-set, drop-cons, take-at}
 use Rattle.line.specs.Command.{maxLine}
 use Rattle.line.specs.Words.{span}
-use Rattle.line.specs.TextLaws.{wrote-start, wrote-count}
+use Rattle.text.specs.TextLaws.{wrote-start, wrote-count}
 use Rattle.interpreter.specs.declared.ScriptState.{ScriptState}
 use Rattle.interpreter.specs.Machine.{Pending, short, long, grow, State, Ran, endLine, keepByte, onBytes}
 use Rattle.interpreter.specs.Feed.{pendingIn, lineBytes}
@@ -23,13 +23,21 @@ use Rattle.interpreter.specs.Runs.{Runs}
 
 module _ (c : ScriptState) (b : ℕ) (whole : length (c .line) ≡ 80) where
   pub keep-room : c .seen < 80
-      → pendingIn (record { number = c .number; seen = c .seen + 1; line = set (c .line) (c .seen) b; blocks = c .blocks })
+      → pendingIn (record {
+        number = c .number;
+        seen = c .seen + 1;
+        line = set (c .line)
+            (c .seen) b;
+        blocks = c .blocks;
+      })
       ≡ grow (pendingIn c) b
   keep-room h =
       let few : length (take (c .seen) (c .line)) ≡ c .seen = length-take-le (c .seen) (c .line) (omega arith) in
-      let room : ltb (length (take (c .seen) (c .line))) maxLine ≡ true = lt-ltb (length (take (c .seen) (c .line))) maxLine (omega arith) in
+      let room : ltb (length (take (c .seen) (c .line))) maxLine
+      ≡ true = lt-ltb (length (take (c .seen) (c .line))) maxLine (omega arith) in
       rw (le-leb (c .seen + 1) maxLine (omega arith), le-leb (c .seen) maxLine (omega arith), room)
-      (ap short (ap (λ (n : ℕ). take n (set (c .line) (c .seen) b)) (add-one (c .seen)) ∙ take-suc-set (c .line) (c .seen) b (omega arith)))
+      (ap short (ap (λ (n : ℕ). take n (set (c .line) (c .seen) b)) (add-one (c .seen))
+      ∙ take-suc-set (c .line) (c .seen) b (omega arith)))
 
   pub keep-full : 80 ≤ c .seen
       → pendingIn (record { number = c .number; seen = 81; line = c .line; blocks = c .blocks }) ≡ grow (pendingIn c) b
@@ -39,7 +47,8 @@ module _ (c : ScriptState) (b : ℕ) (whole : length (c .line) ≡ 80) where
       go true e =
           let few : length (take (c .seen) (c .line)) ≡ c .seen =
           length-take-le (c .seen) (c .line) (omega (arith, leb-true (c .seen) maxLine e)) in
-          let full : ltb (length (take (c .seen) (c .line))) maxLine ≡ false = le-ltb (length (take (c .seen) (c .line))) maxLine (omega arith) in
+          let full : ltb (length (take (c .seen) (c .line))) maxLine
+          ≡ false = le-ltb (length (take (c .seen) (c .line))) maxLine (omega arith) in
           rw full
       go false e = refl
 
@@ -55,7 +64,8 @@ module _ (p : Pending) (l : List ℕ) (i : ℕ) where
       ap (λ (x : List ℕ). after i (gatherIn p x)) (drop-of-length-le l h)
       ∙ ap (λ (n : ℕ). record { pending = p; used = n; ended = false }) (add-zero i)
 
-  pub gather-hit : i < length l → getD l i 0 ≡ 10 → gatherIn p (drop i l) ≡ record { pending = p; used = 1; ended = true }
+  pub gather-hit : i < length l → getD l i 0 ≡ 10 → gatherIn p (drop i l)
+      ≡ record { pending = p; used = 1; ended = true }
   gather-hit h e = rw (drop-cons l i 0 h, gatherIn, eq-eqb (getD l i 0) 10 e)
 
   pub gather-miss : i < length l → (getD l i 0 ≡ 10 → ⊥)
@@ -69,7 +79,8 @@ pub after-none : (g : Gather) → g ≡ after 0 g
 after-none g = ap (λ (n : ℕ). record { pending = g .pending; used = n; ended = g .ended }) (sym (zero-add (g .used)))
 
 pub after-more : (i : ℕ) (g : Gather) → after i (after 1 g) ≡ after (i + 1) g
-after-more i g = ap (λ (n : ℕ). record { pending = g .pending; used = n; ended = g .ended }) (sym (add-assoc i 1 (g .used)))
+after-more i g = ap (λ (n : ℕ). record { pending = g .pending; used = n; ended = g .ended })
+    (sym (add-assoc i 1 (g .used)))
 
 -- ---- the machine's run of them
 
@@ -81,7 +92,8 @@ gather-used p (b ∷ bs) = go (eqb b 10) (gather-used (grow p b) bs)
     at t =
         elim t [
           | true ↦ record { pending = p; used = 1; ended = true }
-          | false ↦ let g = gatherIn (grow p b) bs in record { pending = g .pending; used = suc (g .used); ended = g .ended }
+          | false ↦ let g = gatherIn (grow p b) bs in
+              record { pending = g .pending; used = suc (g .used); ended = g .ended }
         ]
 
     go : (t : Bool) → gatherIn (grow p b) bs .used ≡ lineBytes bs
@@ -117,14 +129,16 @@ gather-run s p (b ∷ bs) = go (eqb b 10) refl (gather-run s (grow p b) bs)
         → onBytes (holding s (grow p b)) (take (g .used) bs)
         ≡ cond (g .ended) (endLine (holding s (g .pending))) (record { state = holding s (g .pending); text = [] })
         → onBytes (holding s p) (take (at t .used) (b ∷ bs))
-        ≡ cond (at t .ended) (endLine (holding s (at t .pending))) (record { state = holding s (at t .pending); text = [] })
+        ≡ cond (at t .ended) (endLine (holding s (at t .pending)))
+        (record { state = holding s (at t .pending); text = [] })
     go true e ih =
         ap (λ (u : Bool). record { state = step u .state; text = step u .text ++ [] }) e
         ∙ ap (λ (x : List ℕ). record { state = step true .state; text = x }) (append-nil (step true .text))
     go false e ih =
         ap
         (λ (u : Bool).
-        let q = onBytes (step u .state) (take (g .used) bs) in record { state = q .state; text = step u .text ++ q .text })
+        let q = onBytes (step u .state) (take (g .used) bs) in
+        record { state = q .state; text = step u .text ++ q .text })
         e
         ∙ ih
 
@@ -138,7 +152,8 @@ pub ends-run : (q : Ran) (old new : List ℕ) (c : ScriptState) (before after : 
 ends-run q old new c before after count p n r =
     let t = q .state .store in
     let stands : take (512 * c .blocks) new ≡ t =
-    ap (take (512 * c .blocks)) (r .store .bytes) ∙ take-at t (drop (length t) old) (512 * c .blocks) (r .store .size) in
+    ap (take (512 * c .blocks)) (r .store .bytes)
+    ∙ take-at t (drop (length t) old) (512 * c .blocks) (r .store .size) in
     record {
       few = r .store .few;
       state =

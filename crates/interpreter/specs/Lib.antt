@@ -9,3 +9,4 @@ pub mod HeldLaws
 pub mod FeedLaws
 pub mod FedLaws
 pub mod CommaLaws
+pub mod Examples

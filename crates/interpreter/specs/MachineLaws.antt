@@ -13,8 +13,8 @@ use Rattle.line.specs.Words.{partsFrom}
 use Rattle.line.specs.Command.{maxLine, readLine}
 use Rattle.line.specs.CommandLaws.{line-long}
 use Rattle.interpreter.specs.Script.{Turn, runCommand, ended, nextLine, runLines, scriptOutput}
-use Rattle.interpreter.specs.Machine.{Pending, short, long, grow, commandAt, State, begin, Ran, endLine, keepByte}
-use Rattle.interpreter.specs.Machine.{onByte, onBytes, endIn, atEnd, onPieces}
+use Rattle.interpreter.specs.Machine.{Pending, short, long, grow, commandAt, State, begin, Ran, endLine}
+use Rattle.interpreter.specs.Machine.{keepByte, onByte, onBytes, endIn, atEnd, onPieces}
 
 -- ---- pieces
 
@@ -50,15 +50,18 @@ pending-grow : (l : List ℕ) (b : ℕ) → grow (pendingOf l) b ≡ pendingOf (
 pending-grow l b = go (leb (length l) maxLine) refl
   where
     room : (t : Bool) → ltb (length l) maxLine ≡ t → leb (length (l ++ (b ∷ []))) maxLine ≡ t
-    room true e = le-leb (length (l ++ (b ∷ []))) maxLine (simp length-append (omega (arith, ltb-true (length l) maxLine e)))
-    room false e = lt-leb (length (l ++ (b ∷ []))) maxLine (simp length-append (omega (arith, ltb-false (length l) maxLine e)))
+    room true e =
+        le-leb (length (l ++ (b ∷ []))) maxLine (simp length-append (omega (arith, ltb-true (length l) maxLine e)))
+    room false e =
+        lt-leb (length (l ++ (b ∷ []))) maxLine (simp length-append (omega (arith, ltb-false (length l) maxLine e)))
 
     go : (t : Bool) → leb (length l) maxLine ≡ t → grow (cond t (short l) long) b ≡ pendingOf (l ++ (b ∷ []))
     go true e =
         ap (λ (t : Bool). cond t (short (l ++ (b ∷ []))) long) (sym (room (ltb (length l) maxLine) refl))
     go false e =
         ap (λ (t : Bool). cond t (short (l ++ (b ∷ []))) long)
-        (sym (lt-leb (length (l ++ (b ∷ []))) maxLine (simp length-append (omega (arith, leb-false (length l) maxLine e)))))
+        (sym (lt-leb (length (l ++ (b ∷ []))) maxLine
+        (simp length-append (omega (arith, leb-false (length l) maxLine e)))))
 
 pending-command : (l : List ℕ) → commandAt (pendingOf l) ≡ readLine l
 pending-command l = go (leb (length l) maxLine) refl
@@ -117,7 +120,8 @@ rest-lines n s acc (b ∷ bs) =
         let r = endLine (within n s acc) in
         append-assoc (r .text) (onBytes (r .state) bs .text) (atEnd (onBytes (r .state) bs .state) .text)
         ∙ ap (λ (x : List ℕ). r .text ++ x) (new (r .state .store))
-        ∙ ap (λ (c : Command). let t = runCommand c (nextLine n) s in t .text ++ runLines (nextLine n) (t .store) (ended (partsFrom 10 [] bs)))
+        ∙ ap (λ (c : Command). let t = runCommand c (nextLine n) s in
+        t .text ++ runLines (nextLine n) (t .store) (ended (partsFrom 10 [] bs)))
         (pending-command acc)
         ∙ ap (runLines n s) (sym (ended-more acc [] bs))
     go false new old =

@@ -3,14 +3,14 @@ use mathlib.Core.Path.{_≡_}
 use mathlib.Core.List.{List}
 use Prim.Native.Nat.{ℕ, _*_, _≤_}
 use lib.ListN.{length}
-use Rattle.line.specs.Text.{Wrote}
+use Rattle.text.specs.Text.{Wrote, lineOutput}
 use Rattle.interpreter.specs.Script.{Turn}
 use Rattle.model.specs.declared.LookupAnswer.{LookupAnswer}
-use Rattle.interpreter.specs.Feed.{storeBytes, lineOutput, over}
+use Rattle.interpreter.specs.Feed.{scriptBlocks, storeBytes, over}
 
 -- the store that stands is that of the turn, of `blocks` blocks, and later bytes stay
 pub record Stands (t : List ℕ) (old new : List ℕ) (blocks : ℕ) : Type 0 where
-  pub few : blocks ≤ 128
+  pub few : blocks ≤ scriptBlocks
   pub size : length t ≡ 512 * blocks
   pub bytes : new ≡ over t old
 
@@ -18,9 +18,9 @@ pub record Runs (t : Turn) (old new : List ℕ) (blocks : ℕ) (before after : L
   pub store : Stands (t .store) old new blocks
   pub text : Wrote before 0 (t .text) after written
 
--- what a line needs: a store of at most 128 blocks, and slices that are long enough
+-- what a line needs: a store that a script can make, and slices that are long enough
 pub record Room (blocks : ℕ) (s out : List ℕ) : Type 0 where
-  pub few : blocks ≤ 128
+  pub few : blocks ≤ scriptBlocks
   pub store : storeBytes ≤ length s
   pub output : lineOutput ≤ length out
 

@@ -11,7 +11,7 @@ use lib.Seq.{length-take-le}
 use Rattle.lists.specs.Block.{blocks}
 use Rattle.page.specs.declared.Pair.{Pair}
 use Rattle.line.specs.declared.Command.{Command}
-use Rattle.line.specs.Text.{storeText, refusedText}
+use Rattle.text.specs.Text.{storeText, refusedText}
 use Rattle.model.specs.declared.Refusal.{Refusal}
 use Rattle.model.specs.declared.Answer.{Answer}
 use Rattle.model.specs.declared.LookupAnswer.{LookupAnswer}
@@ -20,9 +20,10 @@ use Rattle.model.specs.Index.{Index}
 use Rattle.model.specs.Held.{matches}
 use Rattle.model.specs.Calls.{maxBlocks, sizeOk, fillOk, format, listed, lookup}
 use Rattle.image.specs.Layout.{encode}
-use Rattle.image.specs.Outcomes.{Tested, passed, failed, tested, lengthOk, Changed, formatIn, formatOutcome, lookupOn, lookupOutcome}
+use Rattle.image.specs.Outcomes.{Tested, passed, failed, tested, lengthOk, Changed, formatIn, formatOutcome}
+use Rattle.image.specs.Outcomes.{lookupOn, lookupOutcome}
 use Rattle.interpreter.specs.Script.{Turn, formatTurn, runCommand}
-use Rattle.interpreter.specs.Feed.{over}
+use Rattle.interpreter.specs.Feed.{scriptBlocks, over}
 use Rattle.interpreter.specs.Runs.{Stands, Runs, Room, Roomy}
 
 -- ---- the store that stands
@@ -42,7 +43,7 @@ stands-kept {blocks} {s} r =
     record { few = r .few; size = part-size r; bytes = over-own s (512 * blocks) (part-size r) }
 
 -- the part of the lent store was replaced by t
-pub stands-made : {blocks : ℕ} (s t part : List ℕ) → blocks ≤ 128 → length part ≡ 512 * blocks → part ≡ t
+pub stands-made : {blocks : ℕ} (s t part : List ℕ) → blocks ≤ scriptBlocks → length part ≡ 512 * blocks → part ≡ t
     → Stands t s (part ++ drop (512 * blocks) s) blocks
 stands-made {blocks} s t part few l e =
     record {
@@ -58,7 +59,8 @@ runs-as {t} {u} {old} {new} {blocks} {before} {after} {written} e r =
 
 -- ---- lookup: at most 5,000 matches in 30,000 bytes
 
-pub lookup-roomy : (s : List ℕ) (h : ℕ) (lent out : List ℕ) (r : LookupAnswer) → length lent ≡ 30000 → length out ≡ 30000
+pub lookup-roomy : (s : List ℕ) (h : ℕ) (lent out : List ℕ) (r : LookupAnswer) → length lent ≡ 30000 → length out
+    ≡ 30000
     → lookupOutcome s h lent .answer ≡ r → Roomy r out
 unfolding lookupOutcome lookup
 lookup-roomy s h lent out r l m e = subst (λ (a : LookupAnswer). Roomy a out) e (go (tested true s))
@@ -99,7 +101,8 @@ module _ (s : List ℕ) (line n fill : ℕ) (old : List ℕ) (size : length s �
   same = format-turn s (replicate (512 * n) 0) line n fill old (size ∙ sym (length-replicate (512 * n) 0))
 
   pub format-done : formatOutcome s fill .answer ≡ Answer.Done
-      → record { text = storeText n fill; store = formatOutcome s fill .store } ≡ runCommand (Command.Format n fill) line old
+      → record { text = storeText n fill; store = formatOutcome s fill .store }
+      ≡ runCommand (Command.Format n fill) line old
   format-done e = sym (ap (λ (a : Answer). formatTurn line n fill a old (formatOutcome s fill .store)) e) ∙ same
 
   pub format-refused : (r : Refusal) → formatOutcome s fill .answer ≡ Answer.Refused r
@@ -107,7 +110,8 @@ module _ (s : List ℕ) (line n fill : ℕ) (old : List ℕ) (size : length s �
   format-refused r e = sym (ap (λ (a : Answer). formatTurn line n fill a old (formatOutcome s fill .store)) e) ∙ same
 
 -- a refused one changes nothing
-pub format-kept : (s : List ℕ) (fill : ℕ) (r : Refusal) → formatOutcome s fill .answer ≡ Answer.Refused r → formatOutcome s fill .store ≡ s
+pub format-kept : (s : List ℕ) (fill : ℕ) (r : Refusal) → formatOutcome s fill .answer ≡ Answer.Refused r
+    → formatOutcome s fill .store ≡ s
 unfolding formatOutcome
 format-kept s fill r e = go (lengthOk s) (fillOk fill) (encode (format (blocks s) fill)) e
   where

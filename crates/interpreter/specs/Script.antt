@@ -5,7 +5,7 @@ use lib.ListN.{replicate}
 use Rattle.line.specs.declared.Command.{Command}
 use Rattle.line.specs.Words.{parts}
 use Rattle.line.specs.Command.{readLine}
-use Rattle.line.specs.Text.{storeText, okText, refusedText, stepsText, foundText}
+use Rattle.text.specs.Text.{storeText, okText, refusedText, stepsText, foundText}
 use Rattle.model.specs.declared.Answer.{Answer}
 use Rattle.model.specs.declared.LookupAnswer.{LookupAnswer}
 use Rattle.model.specs.declared.WorkAnswer.{WorkAnswer}
@@ -53,7 +53,8 @@ runCommand (Command.Remove h b o) line s =
     let c = removeOutcome s (record { hash = h; block = b; offset = o }) in
     record { text = answerText line (c .answer); store = c .store }
 runCommand (Command.Lookup h) line s =
-    let c = lookupOutcome s h (replicate lent 0) in record { text = lookupText line (c .answer) (c .output); store = s }
+    let c = lookupOutcome s h (replicate lent 0) in
+    record { text = lookupText line (c .answer) (c .output); store = s }
 runCommand (Command.Work budget) line s =
     let c = workOutcome s budget in record { text = workText line (c .answer); store = c .store }
 runCommand Command.Unreadable line s = record { text = refusedText line 10; store = s }

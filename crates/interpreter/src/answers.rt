@@ -1,17 +1,17 @@
 // Answers as text. Each function writes from the output's start on, and answers how many bytes.
-use line::text::put_found;
-use line::text::put_ok;
-use line::text::put_refused;
-use line::text::put_steps;
 use model::Answer;
 use model::LookupAnswer;
 use model::Refusal;
 use model::Stop;
 use model::WorkAnswer;
+use text::put_found;
+use text::put_ok;
+use text::put_refused;
+use text::put_steps;
 ghost use mathlib.Core.Path.{_≡_};
 ghost use Prim.Native.Nat.{_*_, _≤_};
 ghost use lib.ListN.{length};
-ghost use Rattle.line.specs.Text.{Wrote};
+ghost use Rattle.text.specs.Text.{Wrote, lineOutput};
 ghost use Rattle.model.specs.Answers.{refusalNo, stopNo};
 ghost use Rattle.interpreter.specs.Script.{answerText, lookupText, workText};
 ghost use Rattle.interpreter.specs.Runs.{Roomy};
@@ -44,7 +44,7 @@ fn stop_number(stop: Stop) -> u32
 }
 
 pub fn put_answer(output: &mut [u8], line: u64, answer: Answer) -> usize
-    requires { ⌜ 85006 ≤ length (now output) ⌝ }
+    requires { ⌜ lineOutput ≤ length (now output) ⌝ }
     ensures { λ r. ⌜ Wrote (now (output .entry)) 0 (answerText line answer) (now (output .exit)) r ⌝ }
 {
     match answer {
@@ -54,9 +54,10 @@ pub fn put_answer(output: &mut [u8], line: u64, answer: Answer) -> usize
 }
 
 pub fn put_looked(output: &mut [u8], line: u64, answer: LookupAnswer, places: &[u8]) -> usize
-    requires { ⌜ 85006 ≤ length (now output) ⌝ }
+    requires { ⌜ lineOutput ≤ length (now output) ⌝ }
     requires { ⌜ Roomy answer (now places) ⌝ }
-    ensures { λ r. ⌜ Wrote (now (output .entry)) 0 (lookupText line answer (now (places .entry))) (now (output .exit)) r ⌝ }
+    ensures { λ r. ⌜ Wrote (now (output .entry)) 0 (lookupText line answer (now (places .entry)))
+        (now (output .exit)) r ⌝ }
 {
     match answer {
         LookupAnswer::Found { matches } => put_found(output, places, matches),
@@ -65,7 +66,7 @@ pub fn put_looked(output: &mut [u8], line: u64, answer: LookupAnswer, places: &[
 }
 
 pub fn put_worked(output: &mut [u8], line: u64, answer: WorkAnswer) -> usize
-    requires { ⌜ 85006 ≤ length (now output) ⌝ }
+    requires { ⌜ lineOutput ≤ length (now output) ⌝ }
     ensures { λ r. ⌜ Wrote (now (output .entry)) 0 (workText line answer) (now (output .exit)) r ⌝ }
 {
     match answer {

@@ -1,5 +1,6 @@
 // The call of a line, on the first `blocks` blocks of a lent store.
 use crate::Ran;
+use crate::SCRIPT_BLOCKS;
 use crate::answers::put_answer;
 use crate::answers::put_looked;
 use crate::answers::put_worked;
@@ -10,9 +11,9 @@ use index::format::format;
 use index::read::lookup;
 use index::work::work;
 use line::Command;
-use line::text::put_refused;
-use line::text::put_store;
 use model::Answer;
+use text::put_refused;
+use text::put_store;
 ghost use mathlib.Core.Path.{_≡_};
 ghost use Prim.Native.Nat.{_*_, _≤_};
 ghost use lib.ListN.{length, take};
@@ -30,9 +31,10 @@ fn run_format(
 ) -> Ran
     requires { ⌜ Room standing (now store) (now output) ⌝ }
     ensures { λ r. ⌜ Runs (runCommand (command.Format blocks fill) line (take (512 * standing) (now (store .entry))))
-        (now (store .entry)) (now (store .exit)) (r .blocks) (now (output .entry)) (now (output .exit)) (r .written) ⌝ }
+        (now (store .entry)) (now (store .exit)) (r .blocks)
+        (now (output .entry)) (now (output .exit)) (r .written) ⌝ }
 {
-    if blocks > 128 {
+    if blocks > SCRIPT_BLOCKS {
         let written = put_refused(output, line, 1);
         return Ran {
             blocks: standing,
@@ -66,7 +68,8 @@ fn run_insert(
     output: &mut [u8],
 ) -> usize
     requires { ⌜ Room blocks (now store) (now output) ⌝ }
-    ensures { λ r. ⌜ Runs (runCommand (command.Insert hash block offset) line (take (512 * blocks) (now (store .entry))))
+    ensures { λ r. ⌜ Runs
+        (runCommand (command.Insert hash block offset) line (take (512 * blocks) (now (store .entry))))
         (now (store .entry)) (now (store .exit)) blocks (now (output .entry)) (now (output .exit)) r ⌝ }
 {
     let end = 512 * blocks as usize;
@@ -84,7 +87,8 @@ fn run_remove(
     output: &mut [u8],
 ) -> usize
     requires { ⌜ Room blocks (now store) (now output) ⌝ }
-    ensures { λ r. ⌜ Runs (runCommand (command.Remove hash block offset) line (take (512 * blocks) (now (store .entry))))
+    ensures { λ r. ⌜ Runs
+        (runCommand (command.Remove hash block offset) line (take (512 * blocks) (now (store .entry))))
         (now (store .entry)) (now (store .exit)) blocks (now (output .entry)) (now (output .exit)) r ⌝ }
 {
     let end = 512 * blocks as usize;
@@ -122,7 +126,8 @@ pub fn run_command(
 ) -> Ran
     requires { ⌜ Room blocks (now store) (now output) ⌝ }
     ensures { λ r. ⌜ Runs (runCommand command line (take (512 * blocks) (now (store .entry))))
-        (now (store .entry)) (now (store .exit)) (r .blocks) (now (output .entry)) (now (output .exit)) (r .written) ⌝ }
+        (now (store .entry)) (now (store .exit)) (r .blocks)
+        (now (output .entry)) (now (output .exit)) (r .written) ⌝ }
 {
     match command {
         Command::Format { blocks: n, fill } => run_format(n, fill, line, blocks, store, output),

@@ -1,8 +1,11 @@
 // A script fed piece by piece.
 use crate::Fed;
+use crate::SCRIPT_BLOCKS;
+use crate::STORE_BYTES;
 use crate::ScriptState;
 use crate::lines::end_line;
 use crate::lines::gather;
+use text::LINE_OUTPUT;
 ghost use mathlib.Core.Path.{_≡_};
 ghost use mathlib.Core.List.{List};
 ghost use Prim.Native.Nat.{ℕ};
@@ -26,13 +29,13 @@ pub fn start() -> ScriptState
 fn is_ready(state: ScriptState, store: &[u8], output: &[u8]) -> bool
     ensures { λ r. ⌜ r ≡ ready state (now (store .entry)) (now (output .entry)) ⌝ }
 {
-    if state.blocks > 128 {
+    if state.blocks > SCRIPT_BLOCKS {
         return false;
     }
-    if store.len() < 65536 {
+    if store.len() < STORE_BYTES {
         return false;
     }
-    output.len() >= 85006
+    output.len() >= LINE_OUTPUT
 }
 
 // Takes the bytes of `input` up to the end of a line, or all if none ends there, and runs the line that ended.

@@ -4,6 +4,11 @@ mod calls; // calls.rt: the call of a line, on the store that stands
 mod lines; // lines.rt: the pending line and its end
 pub mod feed; // feed.rt: a piece of a script, and its end
 
+// The script's largest N, and the bytes of such a store.
+pub const SCRIPT_BLOCKS: u32 = 128;
+
+pub const STORE_BYTES: usize = 65536;
+
 // What is kept between two pieces of a script: the number of the last line that ended, the bytes of the pending line
 // (`seen` of them, 81 where there are more than 80), and N of the store that stands, 0 before the first.
 pub struct ScriptState {
@@ -28,7 +33,7 @@ struct Ran {
     written: usize,
 }
 
-// The state after the bytes before an LF or the end of a piece, how many bytes those are, with the LF, and which it was.
+// The state after the bytes up to an LF or the end of a piece, their number, with the LF, and whether it was an LF.
 struct Gathered {
     state: ScriptState,
     used: usize,

@@ -38,7 +38,11 @@ command-long x y zs [] = refl
 command-long x y zs (b ∷ bs) = go (eqb b 32) (command-long x y (zs ++ (b ∷ [])) bs)
   where
     go : (t : Bool) → commandFrom (partsFrom 32 (x ∷ y ∷ (zs ++ (b ∷ []))) bs) ≡ Command.Unreadable
-        → commandFrom (elim t [ true ↦ (x ∷ y ∷ zs) ∷ partsFrom 32 [] bs | false ↦ partsFrom 32 (x ∷ y ∷ (zs ++ (b ∷ []))) bs ])
+        → commandFrom (elim t [
+          | true ↦ (x ∷ y ∷ zs) ∷ partsFrom 32 [] bs
+          | false ↦ partsFrom 32
+              (x ∷ y ∷ (zs ++ (b ∷ []))) bs
+        ])
         ≡ Command.Unreadable
     go true e = refl
     go false e = e
@@ -63,11 +67,13 @@ pub line-long : (l : List ℕ) → maxLine < length l → readLine l ≡ Command
 unfolding readLine
 line-long l h = rw (lt-leb (length l) maxLine h)
 
-pub line-no-space : (l : List ℕ) → 2 ≤ length l → length l ≤ maxLine → (getD l 1 0 ≡ 32 → ⊥) → readLine l ≡ Command.Unreadable
+pub line-no-space : (l : List ℕ) → 2 ≤ length l → length l ≤ maxLine → (getD l 1 0 ≡ 32 → ⊥) → readLine l
+    ≡ Command.Unreadable
 unfolding readLine
 line-no-space [] h m e = absurd (omega arith)
 line-no-space (b ∷ []) h m e = absurd (omega arith)
-line-no-space (b ∷ c ∷ bs) h m e = rw (le-leb (length (b ∷ c ∷ bs)) maxLine m) (go (eqb b 32) (eqb c 32) (ne-eqb c 32 e))
+line-no-space (b ∷ c ∷ bs) h m e =
+    rw (le-leb (length (b ∷ c ∷ bs)) maxLine m) (go (eqb b 32) (eqb c 32) (ne-eqb c 32 e))
   where
     at : List ℕ → Bool → List (List ℕ)
     at part u = elim u [ true ↦ part ∷ partsFrom 32 [] bs | false ↦ partsFrom 32 (part ++ (c ∷ [])) bs ]
@@ -82,7 +88,8 @@ pub line-call : (l : List ℕ) → 2 ≤ length l → length l ≤ maxLine → g
 unfolding readLine
 line-call [] h m e = absurd (omega arith)
 line-call (b ∷ []) h m e = absurd (omega arith)
-line-call (b ∷ c ∷ bs) h m e = rw (le-leb (length (b ∷ c ∷ bs)) maxLine m) (go (eqb b 32) (eqb c 32) refl (eq-eqb c 32 e))
+line-call (b ∷ c ∷ bs) h m e =
+    rw (le-leb (length (b ∷ c ∷ bs)) maxLine m) (go (eqb b 32) (eqb c 32) refl (eq-eqb c 32 e))
   where
     at : List ℕ → Bool → List (List ℕ)
     at part u = elim u [ true ↦ part ∷ partsFrom 32 [] bs | false ↦ partsFrom 32 (part ++ (c ∷ [])) bs ]
@@ -106,7 +113,8 @@ word-at line at end h e =
     record { from = omega arith; upto = omega arith; spans = omega arith }
 
 module _ {line : List ℕ} {at end : ℕ} (w : Word line at end) (f : Fields) where
-  pub fields-last : end ≡ length line → fieldsFrom f (words (drop at line)) ≡ addNumber f (numberOf (take (end - at) (drop at line)))
+  pub fields-last : end ≡ length line → fieldsFrom f (words (drop at line))
+      ≡ addNumber f (numberOf (take (end - at) (drop at line)))
   fields-last e =
       let all : length (drop at line) ≤ end - at = rw length-drop (omega arith) in
       let none : length (drop at line) ≤ span 32 (drop at line) = omega (arith, w .spans) in
@@ -121,7 +129,8 @@ module _ {line : List ℕ} {at end : ℕ} (w : Word line at end) (f : Fields) wh
       rw (parts-more 32 (drop at line) some, ← w .spans, drop-drop (suc (end - at)) at line)
       (ap (λ (k : ℕ). fieldsFrom (addNumber f (numberOf (take (end - at) (drop at line)))) (words (drop k line))) next)
 
-  pub fields-stop : numberOf (take (end - at) (drop at line)) ≡ Number.Wrong → fieldsFrom f (words (drop at line)) ≡ Fields.Wrong
+  pub fields-stop : numberOf (take (end - at) (drop at line)) ≡ Number.Wrong → fieldsFrom f (words (drop at line))
+      ≡ Fields.Wrong
   fields-stop e = go (ltb end (length line)) refl
     where
       go : (t : Bool) → ltb end (length line) ≡ t → fieldsFrom f (words (drop at line)) ≡ Fields.Wrong

@@ -3,7 +3,4 @@ pub mod WordsLaws
 pub mod Command
 pub mod CommandLaws
 pub mod CommaLaws
-pub mod Digits
-pub mod DigitsLaws
-pub mod Text
-pub mod TextLaws
+pub mod Examples

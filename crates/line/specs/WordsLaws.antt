@@ -31,7 +31,8 @@ module _ (sep : ℕ) where
   pub span-hit : (l : List ℕ) (i : ℕ) → i < length l → getD l i 0 ≡ sep → span sep (drop i l) ≡ 0
   span-hit l i h e = rw (drop-cons l i 0 h, span, eq-eqb (getD l i 0) sep e)
 
-  pub span-miss : (l : List ℕ) (i : ℕ) → i < length l → (getD l i 0 ≡ sep → ⊥) → span sep (drop i l) ≡ suc (span sep (drop (i + 1) l))
+  pub span-miss : (l : List ℕ) (i : ℕ) → i < length l → (getD l i 0 ≡ sep → ⊥) → span sep (drop i l)
+      ≡ suc (span sep (drop (i + 1) l))
   span-miss l i h e = rw (add-one i, drop-cons l i 0 h, span, ne-eqb (getD l i 0) sep e)
 
   -- the first part, and what follows it
@@ -41,7 +42,11 @@ module _ (sep : ℕ) where
     where
       go : (t : Bool) → suc (length bs) ≤ (elim t [ true ↦ 0 | false ↦ suc (span sep bs) ])
           → (length bs ≤ span sep bs → partsFrom sep (acc ++ (b ∷ [])) bs ≡ (acc ++ (b ∷ []) ++ bs) ∷ [])
-          → Path (List (List ℕ)) (elim t [ true ↦ acc ∷ partsFrom sep [] bs | false ↦ partsFrom sep (acc ++ (b ∷ [])) bs ])
+          → Path (List (List ℕ)) (elim t [
+            | true ↦ acc ∷ partsFrom sep [] bs
+            | false ↦ partsFrom sep
+                (acc ++ (b ∷ [])) bs
+          ])
           ((acc ++ (b ∷ bs)) ∷ [])
       go true h ih = absurd (omega arith)
       go false h ih = ih (omega arith) ∙ ap (λ (x : List ℕ). x ∷ []) (append-assoc acc (b ∷ []) bs)
@@ -58,12 +63,17 @@ module _ (sep : ℕ) where
           → (span sep bs < length bs
           → partsFrom sep (acc ++ (b ∷ [])) bs
           ≡ (acc ++ (b ∷ []) ++ take (span sep bs) bs) ∷ parts sep (drop (suc (span sep bs)) bs))
-          → Path (List (List ℕ)) (elim t [ true ↦ acc ∷ partsFrom sep [] bs | false ↦ partsFrom sep (acc ++ (b ∷ [])) bs ])
+          → Path (List (List ℕ)) (elim t [
+            | true ↦ acc ∷ partsFrom sep [] bs
+            | false ↦ partsFrom sep
+                (acc ++ (b ∷ [])) bs
+          ])
           ((acc ++ take (at t) (b ∷ bs)) ∷ parts sep (drop (at t) bs))
       go true h ih = ap (λ (x : List ℕ). x ∷ partsFrom sep [] bs) (sym (append-nil acc))
       go false h ih =
           ih (omega arith)
-          ∙ ap (λ (x : List ℕ). x ∷ parts sep (drop (suc (span sep bs)) bs)) (append-assoc acc (b ∷ []) (take (span sep bs) bs))
+          ∙ ap (λ (x : List ℕ). x ∷ parts sep (drop (suc (span sep bs)) bs))
+          (append-assoc acc (b ∷ []) (take (span sep bs) bs))
 
   pub parts-last : (l : List ℕ) → length l ≤ span sep l → parts sep l ≡ l ∷ []
   parts-last l h = partsFrom-last [] l h

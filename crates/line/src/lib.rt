@@ -1,7 +1,6 @@
-// The bytes of the script language: a line read as a command, numbers and answers as text.
+// A line of the script read as a command.
 pub mod words; // words.rt: the words of a line, numbers
 pub mod commands; // commands.rt: a line as a command
-pub mod text; // text.rt: numbers and lines of output
 
 // A word read as a number.
 pub enum Number {

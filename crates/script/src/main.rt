@@ -1,8 +1,10 @@
 // Runs the script of standard input and writes its output to standard output, both piece by piece.
+use interpreter::STORE_BYTES;
 use interpreter::ScriptState;
 use interpreter::feed::feed;
 use interpreter::feed::finish;
 use interpreter::feed::start;
+use text::LINE_OUTPUT;
 ghost use mathlib.Core.Path.{_≡_};
 ghost use mathlib.Core.Bool.{true};
 ghost use Rattle.interpreter.specs.Machine.{onBytes};
@@ -69,8 +71,8 @@ fn run_reads(state: ScriptState, store: &mut [u8], output: &mut [u8]) -> ScriptS
 }
 
 fn main() {
-    let mut store = [0u8; 65536];
-    let mut output = [0u8; 85006];
+    let mut store = [0u8; STORE_BYTES];
+    let mut output = [0u8; LINE_OUTPUT];
     let last = run_reads(start(), &mut store, &mut output);
     let fed = finish(last, &mut store, &mut output);
     let written = fed.written;

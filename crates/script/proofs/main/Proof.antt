@@ -46,7 +46,8 @@ array-share-prefix-output c = written (c .before .before)
 
 slice-aggregate-write-all : tie.Need-slice-aggregate-write-all
 slice-aggregate-write-all c =
-    let p = c .before .before .before in sym (length-take-le (p .finish .result .written) (p .finish .last .1 .1 .0) (written p))
+    let p = c .before .before .before in sym (length-take-le (p .finish .result .written) (p .finish .last .1 .1 .0)
+    (written p))
 
 write-all-requires : tie.Need-write-all-requires
 write-all-requires c κs = search needs

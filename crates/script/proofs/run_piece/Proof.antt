@@ -23,7 +23,8 @@ abbrev μ-loop : tie.MeasureT-loop
 -- what feed gave of the rest of the piece
 fed : (c : tie.After-feed Inv-loop μ-loop)
     → let l = c .before .before .before .before .before in
-    feedOutcome (l .loop .held) (l .loop .store) (drop (l .loop .at) (l .before .before .before .before .args .piece .now)) (l .loop .output)
+    feedOutcome (l .loop .held) (l .loop .store)
+    (drop (l .loop .at) (l .before .before .before .before .args .piece .now)) (l .loop .output)
     ≡ fedAs (c .feed .result) (c .feed .last .1 .0) (c .feed .last .1 .1 .1 .0)
 fed c =
     let l = c .before .before .before .before .before in
@@ -31,7 +32,8 @@ fed c =
     let f = c .feed in
     subst
     (λ (x : List ℕ).
-    feedOutcome (l .loop .held) (l .loop .store) x (l .loop .output) ≡ fedAs (f .result) (f .last .1 .0) (f .last .1 .1 .1 .0))
+    feedOutcome (l .loop .held) (l .loop .store) x (l .loop .output)
+    ≡ fedAs (f .result) (f .last .1 .0) (f .last .1 .1 .1 .0))
     (take-all (length piece - l .loop .at) (drop (l .loop .at) piece) (omega (arith, length-drop (l .loop .at) piece)))
     (f .ensures .0)
 
@@ -46,11 +48,16 @@ module _ (c : tie.After-feed Inv-loop μ-loop) where
   written = feed-written (l .loop .held) (l .loop .store) rest (l .loop .output) (c .feed .result) _ _ (fed c)
 
   -- a byte at least, and none past the end
-  moved : (1 ≤ c .feed .result .used) × (l .loop .at + c .feed .result .used ≤ length (l .before .before .before .before .args .piece .now))
+  moved : (1 ≤ c .feed .result .used) × (l .loop .at + c .feed .result .used ≤ length
+      (l .before .before .before .before .args .piece .now))
   moved =
-      let used = feed-used (l .loop .held) (l .loop .store) rest (l .loop .output) (c .feed .result) _ _ (fed c) (l .loop .inv .1) in
-      let long = length-drop (l .loop .at) (l .before .before .before .before .args .piece .now) in
-      (omega (arith, c .before .before .before .before .loop-test .taken), omega (arith, c .before .before .before .before .loop-test .taken))
+      let used = feed-used (l .loop .held) (l .loop .store) rest (l .loop .output) (c .feed .result) _ _ (fed c)
+      (l .loop .inv .1) in
+      let long = length-drop (l .loop .at) (l .before .before .before .before .args .piece .now) in (
+        omega (arith, c .before .before .before .before .loop-test .taken),
+        omega
+            (arith, c .before .before .before .before .loop-test .taken),
+      )
 
 loop-holds : tie.Need-loop-holds Inv-loop μ-loop
 loop-holds c = (omega arith, c .before .before .before .pre, refl, refl, refl)
@@ -72,16 +79,29 @@ slice-reshare-prefix-write-all c = written (c .before .before .before .before)
 
 slice-aggregate-write-all : tie.Need-slice-aggregate-write-all Inv-loop μ-loop
 slice-aggregate-write-all c =
-    let f = c .before .before .before .before .before in sym (length-take-le (f .feed .result .written) (f .feed .last .1 .1 .1 .0) (written f))
+    let f = c .before .before .before .before .before in
+    sym (length-take-le (f .feed .result .written) (f .feed .last .1 .1 .1 .0) (written f))
 
 write-all-requires : tie.Need-write-all-requires Inv-loop μ-loop
 write-all-requires c κs = tt
 
 add-at : tie.Need-add-at Inv-loop μ-loop
-add-at c = omega (arith, moved (c .before .before .before .before .before .before .before .before) .1, c .before .before .before .before .before .before .before .before .before .before .before .before .before .before .before .before .before .good)
+add-at c =
+    omega (
+      arith,
+      moved (c .before .before .before .before .before .before .before .before) .1,
+      c .before .before .before .before .before .before .before .before .before .before .before .before .before .before
+          .before .before .before .good,
+    )
 
 loop-less : tie.Need-loop-less Inv-loop μ-loop
-loop-less c = omega (arith, moved (c .before .before .before .before .before .before .before .before) .0, moved (c .before .before .before .before .before .before .before .before) .1)
+loop-less c =
+    omega (
+      arith,
+      moved (c .before .before .before .before .before .before .before .before) .0,
+      moved
+          (c .before .before .before .before .before .before .before .before) .1,
+    )
 
 loop-again : tie.Need-loop-again Inv-loop μ-loop
 loop-again c =
@@ -94,7 +114,8 @@ loop-again c =
       moved p .1,
       sym (f .ensures .1) ∙ yes,
       l .inv .2 ∙ feed-rest (l .held) (l .store) rest (l .output) (f .result) _ _ (fed p) (l .inv .1)
-          ∙ ap (λ (x : List ℕ). onBytes (stateOf (f .result .state) (f .last .1 .0)) x .state) (drop-drop (f .result .used) (l .at) piece),
+          ∙ ap (λ (x : List ℕ). onBytes (stateOf (f .result .state) (f .last .1 .0)) x .state)
+          (drop-drop (f .result .used) (l .at) piece),
       f .kept .1 .0 ∙ l .inv .3,
       f .kept .1 .1 .1 .0 ∙ l .inv .4,
     )

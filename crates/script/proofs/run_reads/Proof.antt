@@ -41,10 +41,14 @@ returns : tie.Need-returns Inv-loop μ-loop
 returns c = c .before .loop .inv .0
 
 same-length-3 : tie.Need-same-length-3 Inv-loop μ-loop
-same-length-3 c = c .before .before .before .before .before .before .before .run-read .kept .1 .0 ∙ c .before .before .before .before .before .before .before .before .before .before .before .loop .inv .1
+same-length-3 c =
+    c .before .before .before .before .before .before .before .run-read .kept .1 .0
+    ∙ c .before .before .before .before .before .before .before .before .before .before .before .loop .inv .1
 
 same-length-4 : tie.Need-same-length-4 Inv-loop μ-loop
-same-length-4 c = c .before .before .before .before .before .before .before .run-read .kept .1 .1 .0 ∙ c .before .before .before .before .before .before .before .before .before .before .before .loop .inv .2
+same-length-4 c =
+    c .before .before .before .before .before .before .before .run-read .kept .1 .1 .0
+    ∙ c .before .before .before .before .before .before .before .before .before .before .before .loop .inv .2
 
 returns-2 : tie.Need-returns-2 Inv-loop μ-loop
 returns-2 c = c .before .before .before .before .before .before .before .run-read .ensures

@@ -1,6 +1,6 @@
 use mathlib.Core.Path.{sym, ap, _∙_}
-use Rattle.line.specs.Text.{refusedText}
-use Rattle.line.specs.TextLaws.{wrote-as}
+use Rattle.text.specs.Text.{refusedText}
+use Rattle.text.specs.TextLaws.{wrote-as}
 use Rattle.interpreter.specs.Script.{answerText}
 use borrow.Author.Needs.{needs}
 use Rattle.interpreter.proofs.answers.put_answer.Statement.{statement}
@@ -27,7 +27,8 @@ same-length c = search needs
 returns : tie.Need-returns
 returns c =
     let k = c .before .before .before .before in
-    wrote-as (sym (ap (answerText (k .before .before .before .args .line)) (k .enum-told .given .1))) (c .before .before .put-ok .ensures)
+    wrote-as (sym (ap (answerText (k .before .before .before .args .line)) (k .enum-told .given .1)))
+    (c .before .before .put-ok .ensures)
 
 same-length-2 : tie.Need-same-length-2
 same-length-2 c = search needs

@@ -1,6 +1,6 @@
 use mathlib.Core.Path.{_≡_, sym, ap, _∙_, subst}
-use Rattle.line.specs.Text.{refusedText}
-use Rattle.line.specs.TextLaws.{wrote-as}
+use Rattle.text.specs.Text.{refusedText}
+use Rattle.text.specs.TextLaws.{wrote-as}
 use Rattle.model.specs.declared.LookupAnswer.{LookupAnswer}
 use Rattle.interpreter.specs.Script.{lookupText}
 use Rattle.interpreter.specs.Runs.{Roomy}
@@ -35,7 +35,8 @@ returns c =
     let p = c .before .before in
     let k = p .before .before .before in
     let a = k .before .before .before .before .args in
-    wrote-as (sym (ap (λ (x : LookupAnswer). lookupText (a .line) x (a .places .now)) (k .answer .given .1))) (p .put-found .ensures)
+    wrote-as (sym (ap (λ (x : LookupAnswer). lookupText (a .line) x (a .places .now)) (k .answer .given .1)))
+    (p .put-found .ensures)
 
 same-length-2 : tie.Need-same-length-2
 same-length-2 c = search needs

@@ -1,6 +1,6 @@
 use mathlib.Core.Path.{_≡_, sym, ap, _∙_}
-use Rattle.line.specs.Text.{refusedText, stepsText}
-use Rattle.line.specs.TextLaws.{wrote-as}
+use Rattle.text.specs.Text.{refusedText, stepsText}
+use Rattle.text.specs.TextLaws.{wrote-as}
 use Rattle.interpreter.specs.Script.{workText}
 use borrow.Author.Needs.{needs}
 use Rattle.interpreter.proofs.answers.put_worked.Statement.{statement}

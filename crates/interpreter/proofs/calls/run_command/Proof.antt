@@ -55,7 +55,8 @@ returns c =
     let p = c .before .before .before .before in
     let k = p .before .before .before .before in
     let a = k .before .before .before .before .args in
-    runs-as (ap (λ (x : Command). runCommand x (a .line) (take (512 * a .blocks) (a .store .now))) (sym (k .command .given .1))) (p .run-format .ensures)
+    runs-as (ap (λ (x : Command). runCommand x (a .line) (take (512 * a .blocks) (a .store .now)))
+    (sym (k .command .given .1))) (p .run-format .ensures)
 
 same-length-3 : tie.Need-same-length-3
 same-length-3 c = search needs
@@ -68,7 +69,8 @@ returns-2 c =
     let p = c .before .before .before .before in
     let k = p .before .before .before .before in
     let a = k .before .before .before .before .args in
-    runs-as (ap (λ (x : Command). runCommand x (a .line) (take (512 * a .blocks) (a .store .now))) (sym (k .command2 .given .1))) (p .run-insert .ensures)
+    runs-as (ap (λ (x : Command). runCommand x (a .line) (take (512 * a .blocks) (a .store .now)))
+    (sym (k .command2 .given .1))) (p .run-insert .ensures)
 
 same-length-5 : tie.Need-same-length-5
 same-length-5 c = search needs
@@ -81,7 +83,8 @@ returns-3 c =
     let p = c .before .before .before .before in
     let k = p .before .before .before .before in
     let a = k .before .before .before .before .args in
-    runs-as (ap (λ (x : Command). runCommand x (a .line) (take (512 * a .blocks) (a .store .now))) (sym (k .command3 .given .1))) (p .run-remove .ensures)
+    runs-as (ap (λ (x : Command). runCommand x (a .line) (take (512 * a .blocks) (a .store .now)))
+    (sym (k .command3 .given .1))) (p .run-remove .ensures)
 
 same-length-7 : tie.Need-same-length-7
 same-length-7 c = search needs
@@ -94,7 +97,8 @@ returns-4 c =
     let p = c .before .before in
     let k = p .before .before .before .before in
     let a = k .before .before .before .before .args in
-    runs-as (ap (λ (x : Command). runCommand x (a .line) (take (512 * a .blocks) (a .store .now))) (sym (k .command4 .given .1))) (p .run-lookup .ensures)
+    runs-as (ap (λ (x : Command). runCommand x (a .line) (take (512 * a .blocks) (a .store .now)))
+    (sym (k .command4 .given .1))) (p .run-lookup .ensures)
 
 same-length-9 : tie.Need-same-length-9
 same-length-9 c = search needs
@@ -107,7 +111,8 @@ returns-5 c =
     let p = c .before .before .before .before in
     let k = p .before .before .before .before in
     let a = k .before .before .before .before .args in
-    runs-as (ap (λ (x : Command). runCommand x (a .line) (take (512 * a .blocks) (a .store .now))) (sym (k .command5 .given .1))) (p .run-work .ensures)
+    runs-as (ap (λ (x : Command). runCommand x (a .line) (take (512 * a .blocks) (a .store .now)))
+    (sym (k .command5 .given .1))) (p .run-work .ensures)
 
 same-length-11 : tie.Need-same-length-11
 same-length-11 c = search needs
@@ -118,7 +123,8 @@ returns-6 c =
     let k = c .before .before .before .before in
     let s = k .before .before .before .before in
     let a = s .args in
-    runs-as (ap (λ (x : Command). runCommand x (a .line) (take (512 * a .blocks) (a .store .now))) (sym (k .enum-told .given .1)))
+    runs-as (ap (λ (x : Command). runCommand x (a .line) (take (512 * a .blocks) (a .store .now)))
+    (sym (k .enum-told .given .1)))
     (record { store = stands-kept (s .pre); text = c .before .before .put-refused .ensures })
 
 pub run-command-spec : {M : Type 1} → statement M

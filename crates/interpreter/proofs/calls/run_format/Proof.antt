@@ -4,18 +4,21 @@ use Prim.Native.Nat.{ℕ, _*_}
 use native.Mathlib.Omega.{arith}
 use lib.ListN.{length, take, drop, take-append-drop}
 use lib.Seq.{length-take-le}
-use Rattle.line.specs.Text.{refusedText}
-use Rattle.line.specs.TextLaws.{wrote-as}
+use Rattle.text.specs.Text.{refusedText}
+use Rattle.text.specs.TextLaws.{wrote-as}
 use Rattle.interpreter.specs.Runs.{Stands}
-use Rattle.interpreter.specs.RunsLaws.{stands-kept, stands-made, runs-as, format-done, format-refused, format-kept}
-use Rattle.interpreter.specs.RunsLaws.{format-large}
+use Rattle.interpreter.specs.RunsLaws.{stands-kept, stands-made, runs-as}
+use Rattle.interpreter.specs.RunsLaws.{format-done, format-refused, format-kept, format-large}
 use borrow.Author.Needs.{needs}
 use Rattle.interpreter.proofs.calls.run_format.Statement.{statement}
 use Rattle.interpreter.proofs.calls.run_format.Tie as tie
 
 -- the part that is lent to format
-part : (c : tie.Else1) → let a = c .before .before .before .args in length (take (512 * a .blocks) (a .store .now)) ≡ 512 * a .blocks
-part c = let s = c .before .before .before in length-take-le (512 * s .args .blocks) (s .args .store .now) (omega (arith, s .pre .store, c .if1 .left))
+part : (c : tie.Else1) → let a = c .before .before .before .args in
+    length (take (512 * a .blocks) (a .store .now)) ≡ 512 * a .blocks
+part c =
+    let s = c .before .before .before in length-take-le (512 * s .args .blocks) (s .args .store .now)
+    (omega (arith, s .pre .store, c .if1 .left))
 
 put-refused-requires : tie.Need-put-refused-requires
 put-refused-requires c κs = search needs
@@ -71,10 +74,12 @@ returns-2 c =
     let e = f .before .before in
     let a = e .before .before .before .args in
     runs-as
-    (format-done (take (512 * a .blocks) (a .store .now)) (a .line) (a .blocks) (a .fill) (take (512 * a .standing) (a .store .now)) (part e)
+    (format-done (take (512 * a .blocks) (a .store .now)) (a .line) (a .blocks) (a .fill)
+    (take (512 * a .standing) (a .store .now)) (part e)
     (sym (f .format .ensures .0) ∙ k .enum-told .given .1))
     (record {
-      store = stands-made (a .store .now) _ (f .format .last .0) (e .if1 .left) (f .format .kept .0 ∙ part e) (f .format .ensures .1);
+      store = stands-made (a .store .now) _ (f .format .last .0) (e .if1 .left) (f .format .kept .0 ∙ part e)
+          (f .format .ensures .1);
       text = c .before .before .put-store .ensures;
     })
 
@@ -100,8 +105,10 @@ returns-3 c =
     ∙ take-append-drop (512 * a .blocks) old in
     runs-as (format-refused now (a .line) (a .blocks) (a .fill) (take (512 * a .standing) old) (part e) _ no)
     (record {
-      store = subst (λ (x : List ℕ). Stands (take (512 * a .standing) old) old x (a .standing)) (sym kept) (stands-kept (s .pre));
-      text = wrote-as (ap (refusedText (a .line)) (n .refusal-number .ensures)) (c .before .before .put-refused2 .ensures);
+      store = subst (λ (x : List ℕ). Stands (take (512 * a .standing) old) old x (a .standing)) (sym kept)
+          (stands-kept (s .pre));
+      text = wrote-as (ap (refusedText (a .line)) (n .refusal-number .ensures))
+          (c .before .before .put-refused2 .ensures);
     })
 
 pub run-format-spec : {M : Type 1} → statement M

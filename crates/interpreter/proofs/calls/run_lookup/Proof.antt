@@ -2,7 +2,7 @@ use mathlib.Core.Path.{_≡_, refl, sym, ap, _∙_}
 use mathlib.Core.List.{List}
 use Prim.Native.Nat.{ℕ, _*_}
 use lib.ListN.{length, take, replicate}
-use Rattle.line.specs.TextLaws.{wrote-as}
+use Rattle.text.specs.TextLaws.{wrote-as}
 use Rattle.model.specs.Calls.{Looked}
 use Rattle.interpreter.specs.Script.{lookupText, runCommand}
 use Rattle.interpreter.specs.RunsLaws.{part-size, stands-kept, lookup-roomy}
@@ -45,7 +45,8 @@ returns c =
     let s = p .before .before .before .before .before in
     record {
       store = stands-kept (s .pre);
-      text = wrote-as (ap (λ (k : Looked). lookupText (s .args .line) (k .answer) (k .output)) (sym (p .lookup .ensures))) (c .before .before .put-looked .ensures);
+      text = wrote-as (ap (λ (k : Looked). lookupText (s .args .line) (k .answer) (k .output))
+          (sym (p .lookup .ensures))) (c .before .before .put-looked .ensures);
     }
 
 pub run-lookup-spec : {M : Type 1} → statement M

@@ -1,5 +1,5 @@
 use mathlib.Core.Path.{_≡_, sym, ap, _∙_}
-use Rattle.line.specs.TextLaws.{wrote-as}
+use Rattle.text.specs.TextLaws.{wrote-as}
 use Rattle.interpreter.specs.Script.{answerText, runCommand}
 use Rattle.interpreter.specs.RunsLaws.{part-size, stands-made}
 use borrow.Author.Needs.{needs}
@@ -34,7 +34,8 @@ returns c =
     let s = p .before .before .before .before in
     let a = s .args in
     record {
-      store = stands-made (a .store .now) _ (p .remove .last .0) (s .pre .few) (p .remove .kept .0 ∙ part-size (s .pre)) (p .remove .ensures .1);
+      store = stands-made (a .store .now) _ (p .remove .last .0) (s .pre .few)
+          (p .remove .kept .0 ∙ part-size (s .pre)) (p .remove .ensures .1);
       text = wrote-as (ap (answerText (a .line)) (p .remove .ensures .0)) (c .before .before .put-answer .ensures);
     }
 

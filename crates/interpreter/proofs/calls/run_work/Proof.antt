@@ -1,5 +1,5 @@
 use mathlib.Core.Path.{_≡_, sym, ap, _∙_}
-use Rattle.line.specs.TextLaws.{wrote-as}
+use Rattle.text.specs.TextLaws.{wrote-as}
 use Rattle.interpreter.specs.Script.{workText, runCommand}
 use Rattle.interpreter.specs.RunsLaws.{part-size, stands-made}
 use borrow.Author.Needs.{needs}
@@ -34,7 +34,8 @@ returns c =
     let s = p .before .before .before .before in
     let a = s .args in
     record {
-      store = stands-made (a .store .now) _ (p .work .last .0) (s .pre .few) (p .work .kept .0 ∙ part-size (s .pre)) (p .work .ensures .1);
+      store = stands-made (a .store .now) _ (p .work .last .0) (s .pre .few) (p .work .kept .0 ∙ part-size (s .pre))
+          (p .work .ensures .1);
       text = wrote-as (ap (workText (a .line)) (p .work .ensures .0)) (c .before .before .put-worked .ensures);
     }
 

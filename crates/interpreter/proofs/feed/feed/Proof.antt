@@ -8,7 +8,8 @@ use Rattle.interpreter.proofs.feed.feed.Statement.{statement}
 use Rattle.interpreter.proofs.feed.feed.Tie as tie
 
 -- the state and the slices serve
-fit : (c : tie.Else1) → let a = c .before .before .before .before .before .before .before .args in ready (a .state) (a .store .now) (a .output .now) ≡ true
+fit : (c : tie.Else1) → let a = c .before .before .before .before .before .before .before .args in
+    ready (a .state) (a .store .now) (a .output .now) ≡ true
 fit c = sym (c .before .is-ready .ensures) ∙ not-false _ (c .if1 .left)
 
 is-ready-requires : tie.Need-is-ready-requires
@@ -42,7 +43,8 @@ returns-2 c =
     let g = p .gather in
     let room = feed-room (a .state) (a .store .now) (a .input .now) (a .output .now) (g .result) (g .ensures .0)
     (g .ensures .1 .0) (g .ensures .1 .1) (fit (p .before)) in (
-      feed-open (a .state) (a .store .now) (a .input .now) (a .output .now) (g .result) (g .ensures .0) (g .ensures .1 .0)
+      feed-open (a .state) (a .store .now) (a .input .now) (a .output .now) (g .result) (g .ensures .0)
+          (g .ensures .1 .0)
           (g .ensures .1 .1) (fit (p .before)) (not-true _ (c .if2 .taken)),
       sym (room-ready (g .result .state) (a .store .now) (a .output .now) room),
     )
@@ -52,7 +54,8 @@ end-line-requires c κs =
     let p = c .before .before .before .before .before in
     let a = p .before .before .before .before .before .before .before .before .args in
     let g = p .gather in
-    feed-room (a .state) (a .store .now) (a .input .now) (a .output .now) (g .result) (g .ensures .0) (g .ensures .1 .0)
+    feed-room (a .state) (a .store .now) (a .input .now) (a .output .now) (g .result) (g .ensures .0)
+    (g .ensures .1 .0)
     (g .ensures .1 .1) (fit (p .before))
 
 same-length-5 : tie.Need-same-length-5
@@ -68,8 +71,10 @@ returns-3 c =
     let a = p .before .before .before .before .before .before .before .before .args in
     let g = p .gather in
     let n = q .end-line in (
-      feed-ended (a .state) (a .store .now) (a .input .now) (a .output .now) (g .result) (g .ensures .0) (g .ensures .1 .0)
-          (g .ensures .1 .1) (fit (p .before)) (n .result .state) (n .last .1 .0) (n .last .1 .1 .0) (n .result .written)
+      feed-ended (a .state) (a .store .now) (a .input .now) (a .output .now) (g .result) (g .ensures .0)
+          (g .ensures .1 .0)
+          (g .ensures .1 .1) (fit (p .before)) (n .result .state) (n .last .1 .0) (n .last .1 .1 .0)
+          (n .result .written)
           (not-false _ (q .before .before .before .if2 .left)) (n .ensures),
       ready-next (a .state) (a .store .now) (a .output .now) (n .result .state) (n .last .1 .0) (n .last .1 .1 .0)
           (n .result .written) (fit (p .before)) (n .ensures) (n .kept .1 .0) (n .kept .1 .1 .0),

@@ -12,7 +12,8 @@ whole : (c : tie.Start) → length (c .args .state .line) ≡ 80
 whole c = search needs
 
 -- the state and the slices serve
-fit : (c : tie.Else1) → let a = c .before .before .before .before .before .before .args in ready (a .state) (a .store .now) (a .output .now) ≡ true
+fit : (c : tie.Else1) → let a = c .before .before .before .before .before .before .args in
+    ready (a .state) (a .store .now) (a .output .now) ≡ true
 fit c = sym (c .before .is-ready .ensures) ∙ not-false _ (c .if1 .left)
 
 is-ready-requires : tie.Need-is-ready-requires
@@ -38,12 +39,16 @@ same-length-4 c = search needs
 
 returns-2 : tie.Need-returns-2
 returns-2 c =
-    let a = c .before .before .before .before .before .before .before .before .args in
-    (finish-still (a .state) (a .store .now) (a .output .now) (fit (c .before .before)) (c .if2 .taken), sym (fit (c .before .before)))
+    let a = c .before .before .before .before .before .before .before .before .args in (
+      finish-still (a .state) (a .store .now) (a .output .now) (fit (c .before .before)) (c .if2 .taken),
+      sym
+          (fit (c .before .before)),
+    )
 
 end-line-requires : tie.Need-end-line-requires
 end-line-requires c κs =
-    let a = c .before .before .before .before .before .before .before .before .before .before .args in ready-room (a .state) (a .store .now) (a .output .now) (fit (c .before .before .before .before))
+    let a = c .before .before .before .before .before .before .before .before .before .before .args in
+    ready-room (a .state) (a .store .now) (a .output .now) (fit (c .before .before .before .before))
 
 same-length-5 : tie.Need-same-length-5
 same-length-5 c = search needs
@@ -57,8 +62,10 @@ returns-3 c =
     let t = q .before .before .before in
     let a = t .before .before .before .before .before .before .before .before .args in
     let n = q .end-line in (
-      finish-ended (a .state) (a .store .now) (a .output .now) (fit (t .before .before)) (n .result .state) (n .last .1 .0)
-          (n .last .1 .1 .0) (n .result .written) (whole (t .before .before .before .before .before .before .before .before)) (t .if2 .left) (n .ensures),
+      finish-ended (a .state) (a .store .now) (a .output .now) (fit (t .before .before)) (n .result .state)
+          (n .last .1 .0)
+          (n .last .1 .1 .0) (n .result .written)
+          (whole (t .before .before .before .before .before .before .before .before)) (t .if2 .left) (n .ensures),
       ready-next (a .state) (a .store .now) (a .output .now) (n .result .state) (n .last .1 .0) (n .last .1 .1 .0)
           (n .result .written) (fit (t .before .before)) (n .ensures) (n .kept .1 .0) (n .kept .1 .1 .0),
     )

@@ -18,7 +18,8 @@ abbrev μ-loop : tie.MeasureT-loop
 μ-loop input held₀ i₀ held i = length input - i
 
 loop-holds : tie.Need-loop-holds Inv-loop μ-loop
-loop-holds c = (omega arith, after-none (gatherIn (pendingIn (c .before .args .state)) (c .before .args .input .now)), refl, refl)
+loop-holds c =
+    (omega arith, after-none (gatherIn (pendingIn (c .before .args .state)) (c .before .args .input .now)), refl, refl)
 
 shared-slice-read-byte : tie.Need-shared-slice-read-byte Inv-loop μ-loop
 shared-slice-read-byte c = omega arith
@@ -30,7 +31,8 @@ returns : tie.Need-returns Inv-loop μ-loop
 returns c =
     let l = c .before .before .before in
     let input = l .before .before .args .input .now in
-    let hit = gather-hit (pendingIn (l .loop .held)) input (l .loop .i) (c .before .before .loop-test .taken) (c .if1 .taken) in
+    let hit = gather-hit (pendingIn (l .loop .held)) input (l .loop .i) (c .before .before .loop-test .taken)
+    (c .if1 .taken) in
     (sym (l .loop .inv .1 ∙ ap (after (l .loop .i)) hit), (l .loop .inv .2, l .loop .inv .3))
 
 keep-byte-requires : tie.Need-keep-byte-requires Inv-loop μ-loop
@@ -48,7 +50,8 @@ loop-again c =
     let l = e .before .before .before in
     let input = l .before .before .args .input .now in
     let k = c .keep-byte .ensures in
-    let miss = gather-miss (pendingIn (l .loop .held)) input (l .loop .i) (e .before .before .loop-test .taken) (e .if1 .left) in (
+    let miss = gather-miss (pendingIn (l .loop .held)) input (l .loop .i) (e .before .before .loop-test .taken)
+    (e .if1 .left) in (
       omega arith,
       l .loop .inv .1 ∙ ap (after (l .loop .i)) miss ∙ after-more (l .loop .i) _
           ∙ ap (λ (p : Pending). after (l .loop .i + 1) (gatherIn p (drop (l .loop .i + 1) input))) (sym (k .pending)),

@@ -49,7 +49,14 @@ returns-6 : tie.Need-returns-6
 returns-6 c =
     let k = c .before .args .kind in
     let r = c .match .rest in
-    rw (ne-eqb k 102 (r .0 .0 .0 .0 .1), ne-eqb k 43 (r .0 .0 .0 .1), ne-eqb k 45 (r .0 .0 .1), ne-eqb k 63 (r .0 .1), ne-eqb k 119 (r .1))
+    rw (
+      ne-eqb k 102 (r .0 .0 .0 .0 .1),
+      ne-eqb k 43 (r .0 .0 .0 .1),
+      ne-eqb k 45 (r .0 .0 .1),
+      ne-eqb k 63
+          (r .0 .1),
+      ne-eqb k 119 (r .1),
+    )
 
 pub command-of-spec : {M : Type 1} → statement M
 command-of-spec =

@@ -24,7 +24,8 @@ shared-slice-read-if3 c = omega arith
 returns-3 : tie.Need-returns-3
 returns-3 c =
     let s = c .before .before in
-    sym (line-no-space (s .before .before .before .args .line .now) (s .before .if1 .left) (s .if2 .left) (c .if3 .taken))
+    sym (line-no-space (s .before .before .before .args .line .now) (s .before .if1 .left) (s .if2 .left)
+    (c .if3 .taken))
 
 shared-slice-read-command-of : tie.Need-shared-slice-read-command-of
 shared-slice-read-command-of c = omega arith

@@ -50,7 +50,8 @@ enum-told c = search needs
 read : (c : tie.After-read-number Inv-loop μ-loop)
     → let e = c .before .before in
     let at = e .before .loop .at in
-    c .read-number .result ≡ numberOf (take (e .word-end .result - at) (drop at (e .before .before .before .args .line .now)))
+    c .read-number .result ≡ numberOf (take (e .word-end .result - at)
+    (drop at (e .before .before .before .args .line .now)))
 read c = c .read-number .ensures
 
 returns : tie.Need-returns Inv-loop μ-loop
@@ -91,7 +92,8 @@ within c =
     omega (arith, ends e .upto, c .if1 .left)
 
 add-at : tie.Need-add-at Inv-loop μ-loop
-add-at c = omega (arith, within c, c .before .before .before .before .before .before .before .before .before .before .good)
+add-at c =
+    omega (arith, within c, c .before .before .before .before .before .before .before .before .before .before .good)
 
 loop-less : tie.Need-loop-less Inv-loop μ-loop
 loop-less c = omega (arith, within c, ends (c .before .before .before .before .before .before .before) .from)
@@ -104,7 +106,8 @@ loop-again c =
     let rest = words (drop (e .word-end .result + 1) (l .before .before .args .line .now)) in (
       omega (arith, within c),
       l .loop .inv .1 ∙ fields-more (ends e) (l .loop .fields) (within c)
-          ∙ ap (λ (f : Fields). fieldsFrom f rest) (ap (addNumber (l .loop .fields)) (sym (read n)) ∙ more (c .before)),
+          ∙ ap (λ (f : Fields). fieldsFrom f rest)
+          (ap (addNumber (l .loop .fields)) (sym (read n)) ∙ more (c .before)),
     )
 
 pub read-fields-spec : {M : Type 1} → statement M

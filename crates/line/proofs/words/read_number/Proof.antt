@@ -24,7 +24,8 @@ read-value-requires-2 : tie.Need-read-value-requires-2
 read-value-requires-2 c κs = tt
 
 returns-4 : tie.Need-returns-4
-returns-4 c = c .read-value2 .ensures ∙ sym (number-more _ (c .before .before .before .if2 .left) (c .before .if3 .left))
+returns-4 c =
+    c .read-value2 .ensures ∙ sym (number-more _ (c .before .before .before .if2 .left) (c .before .if3 .left))
 
 pub read-number-spec : {M : Type 1} → statement M
 read-number-spec =

@@ -34,12 +34,14 @@ shared-slice-read-byte c = omega arith
 returns : tie.Need-returns Inv-loop μ-loop
 returns c =
     let l = c .before .before .before in
-    sym (l .loop .inv .2 ∙ value-low (l .loop .value) (l .before .args .word .now) (l .loop .i) (omega arith) (c .if1 .taken))
+    sym (l .loop .inv .2 ∙ value-low (l .loop .value) (l .before .args .word .now) (l .loop .i) (omega arith)
+    (c .if1 .taken))
 
 returns-2 : tie.Need-returns-2 Inv-loop μ-loop
 returns-2 c =
     let l = c .before .before .before .before in
-    sym (l .loop .inv .2 ∙ value-high (l .loop .value) (l .before .args .word .now) (l .loop .i) (omega arith) (c .if2 .taken))
+    sym (l .loop .inv .2 ∙ value-high (l .loop .value) (l .before .args .word .now) (l .loop .i) (omega arith)
+    (c .if2 .taken))
 
 mul-value : tie.Need-mul-value Inv-loop μ-loop
 mul-value c = omega arith
@@ -73,7 +75,8 @@ cast-number c = omega arith
 returns-4 : tie.Need-returns-4 Inv-loop μ-loop
 returns-4 c =
     let l = c .before in
-    sym (l .loop .inv .2 ∙ value-end (l .loop .value) (l .before .args .word .now) (l .loop .i) (c .loop-test .left) (l .loop .inv .1))
+    sym (l .loop .inv .2 ∙ value-end (l .loop .value) (l .before .args .word .now) (l .loop .i) (c .loop-test .left)
+    (l .loop .inv .1))
 
 pub read-value-spec : {M : Type 1} → statement M
 read-value-spec =

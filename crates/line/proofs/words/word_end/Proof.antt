@@ -22,7 +22,11 @@ shared-slice-read-if1 c = omega arith
 returns : tie.Need-returns Inv-loop μ-loop
 returns c =
     let l = c .before .before .before in
-    omega (arith, span-hit 32 (l .before .args .line .now) (l .loop .end) (c .before .before .loop-test .taken) (c .if1 .taken))
+    omega (
+      arith,
+      span-hit 32 (l .before .args .line .now) (l .loop .end) (c .before .before .loop-test .taken)
+          (c .if1 .taken),
+    )
 
 add-end : tie.Need-add-end Inv-loop μ-loop
 add-end c = omega arith
@@ -33,7 +37,8 @@ loop-less c = omega arith
 loop-again : tie.Need-loop-again Inv-loop μ-loop
 loop-again c =
     let l = c .before .before .before in
-    let miss = span-miss 32 (l .before .args .line .now) (l .loop .end) (c .before .before .loop-test .taken) (c .if1 .left) in
+    let miss = span-miss 32 (l .before .args .line .now) (l .loop .end) (c .before .before .loop-test .taken)
+    (c .if1 .left) in
     (omega arith, omega arith)
 
 returns-2 : tie.Need-returns-2 Inv-loop μ-loop

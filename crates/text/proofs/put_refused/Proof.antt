@@ -1,9 +1,9 @@
 use native.Mathlib.Omega.{arith}
-use Rattle.line.specs.Text.{refusedText}
-use Rattle.line.specs.TextLaws.{then-wrote, digits-32, digits-64}
+use Rattle.text.specs.Text.{refusedText}
+use Rattle.text.specs.TextLaws.{then-wrote, digits-32, digits-64}
 use borrow.Author.Needs.{needs}
-use Rattle.line.proofs.text.put_refused.Statement.{statement}
-use Rattle.line.proofs.text.put_refused.Tie as tie
+use Rattle.text.proofs.put_refused.Statement.{statement}
+use Rattle.text.proofs.put_refused.Tie as tie
 
 slice-aggregate-put-bytes : tie.Need-slice-aggregate-put-bytes
 slice-aggregate-put-bytes c = search needs
@@ -26,7 +26,8 @@ put-bytes-requires-2 c κs =
 
 put-number-requires-2 : tie.Need-put-number-requires-2
 put-number-requires-2 c κs =
-    let s = c .before .before .before .before .before .before .before .before .before .before .before .before .before .before .before .before in
+    let s = c .before .before .before .before .before .before .before .before .before .before .before .before .before
+    .before .before .before in
     omega (arith, digits-64 (s .args .line) (s .fits .line .fits), digits-32 (s .args .number) (s .fits .number .fits))
 
 slice-aggregate-put-bytes-3 : tie.Need-slice-aggregate-put-bytes-3
@@ -34,7 +35,8 @@ slice-aggregate-put-bytes-3 c = search needs
 
 put-bytes-requires-3 : tie.Need-put-bytes-requires-3
 put-bytes-requires-3 c κs =
-    let s = c .before .before .before .before .before .before .before .before .before .before .before .before .before .before .before .before .before .before .before .before .before in
+    let s = c .before .before .before .before .before .before .before .before .before .before .before .before .before
+    .before .before .before .before .before .before .before .before in
     omega (arith, digits-64 (s .args .line) (s .fits .line .fits), digits-32 (s .args .number) (s .fits .number .fits))
 
 same-length : tie.Need-same-length
@@ -48,7 +50,8 @@ returns c =
     let p3 = p4 .before .before .before .before in
     let p2 = p3 .before .before .before .before .before in
     let p1 = p2 .before .before .before .before in
-    then-wrote (then-wrote (then-wrote (then-wrote (p1 .put-bytes .ensures) (p2 .put-number .ensures)) (p3 .put-bytes2 .ensures))
+    then-wrote (then-wrote (then-wrote (then-wrote (p1 .put-bytes .ensures) (p2 .put-number .ensures))
+    (p3 .put-bytes2 .ensures))
     (p4 .put-number2 .ensures)) (p5 .put-bytes3 .ensures)
 
 pub put-refused-spec : {M : Type 1} → statement M

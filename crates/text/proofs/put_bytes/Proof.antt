@@ -1,9 +1,9 @@
 use mathlib.Core.Path.{refl}
 use native.Mathlib.Omega.{arith}
-use Rattle.line.proofs.Parts.{put-part}
+use Rattle.text.proofs.Parts.{put-part}
 use borrow.Author.Needs.{needs}
-use Rattle.line.proofs.text.put_bytes.Statement.{statement}
-use Rattle.line.proofs.text.put_bytes.Tie as tie
+use Rattle.text.proofs.put_bytes.Statement.{statement}
+use Rattle.text.proofs.put_bytes.Tie as tie
 
 add-end : tie.Need-add-end
 add-end c = search needs

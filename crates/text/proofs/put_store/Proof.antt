@@ -1,9 +1,9 @@
 use native.Mathlib.Omega.{arith}
-use Rattle.line.specs.Text.{stepsText}
-use Rattle.line.specs.TextLaws.{then-wrote, digits-32}
+use Rattle.text.specs.Text.{storeText}
+use Rattle.text.specs.TextLaws.{then-wrote, digits-32}
 use borrow.Author.Needs.{needs}
-use Rattle.line.proofs.text.put_steps.Statement.{statement}
-use Rattle.line.proofs.text.put_steps.Tie as tie
+use Rattle.text.proofs.put_store.Statement.{statement}
+use Rattle.text.proofs.put_store.Tie as tie
 
 slice-aggregate-put-bytes : tie.Need-slice-aggregate-put-bytes
 slice-aggregate-put-bytes c = search needs
@@ -14,7 +14,7 @@ put-bytes-requires c κs = search needs
 put-number-requires : tie.Need-put-number-requires
 put-number-requires c κs =
     let s = c .before .before .before .before .before .before .before in
-    omega (arith, digits-32 (s .args .steps) (s .fits .steps .fits))
+    omega (arith, digits-32 (s .args .blocks) (s .fits .blocks .fits))
 
 slice-aggregate-put-bytes-2 : tie.Need-slice-aggregate-put-bytes-2
 slice-aggregate-put-bytes-2 c = search needs
@@ -22,37 +22,40 @@ slice-aggregate-put-bytes-2 c = search needs
 put-bytes-requires-2 : tie.Need-put-bytes-requires-2
 put-bytes-requires-2 c κs =
     let s = c .before .before .before .before .before .before .before .before .before .before .before .before in
-    omega (arith, digits-32 (s .args .steps) (s .fits .steps .fits))
+    omega (arith, digits-32 (s .args .blocks) (s .fits .blocks .fits))
 
 put-number-requires-2 : tie.Need-put-number-requires-2
 put-number-requires-2 c κs =
-    let s = c .before .before .before .before .before .before .before .before .before .before .before .before .before .before .before .before in
-    omega (arith, digits-32 (s .args .steps) (s .fits .steps .fits), digits-32 (s .args .stop) (s .fits .stop .fits))
+    let s = c .before .before .before .before .before .before .before .before .before .before .before .before .before
+    .before .before .before in
+    omega (arith, digits-32 (s .args .blocks) (s .fits .blocks .fits), digits-32 (s .args .fill) (s .fits .fill .fits))
 
 slice-aggregate-put-bytes-3 : tie.Need-slice-aggregate-put-bytes-3
 slice-aggregate-put-bytes-3 c = search needs
 
 put-bytes-requires-3 : tie.Need-put-bytes-requires-3
 put-bytes-requires-3 c κs =
-    let s = c .before .before .before .before .before .before .before .before .before .before .before .before .before .before .before .before .before .before .before .before .before in
-    omega (arith, digits-32 (s .args .steps) (s .fits .steps .fits), digits-32 (s .args .stop) (s .fits .stop .fits))
+    let s = c .before .before .before .before .before .before .before .before .before .before .before .before .before
+    .before .before .before .before .before .before .before .before in
+    omega (arith, digits-32 (s .args .blocks) (s .fits .blocks .fits), digits-32 (s .args .fill) (s .fits .fill .fits))
 
 same-length : tie.Need-same-length
 same-length c = search needs
 
 returns : tie.Need-returns
-unfolding stepsText
+unfolding storeText
 returns c =
     let p5 = c .before .before in
     let p4 = p5 .before .before .before .before .before in
     let p3 = p4 .before .before .before .before in
     let p2 = p3 .before .before .before .before .before in
     let p1 = p2 .before .before .before .before in
-    then-wrote (then-wrote (then-wrote (then-wrote (p1 .put-bytes .ensures) (p2 .put-number .ensures)) (p3 .put-bytes2 .ensures))
+    then-wrote (then-wrote (then-wrote (then-wrote (p1 .put-bytes .ensures) (p2 .put-number .ensures))
+    (p3 .put-bytes2 .ensures))
     (p4 .put-number2 .ensures)) (p5 .put-bytes3 .ensures)
 
-pub put-steps-spec : {M : Type 1} → statement M
-put-steps-spec =
+pub put-store-spec : {M : Type 1} → statement M
+put-store-spec =
     tie.close
     (tie.spec
     slice-aggregate-put-bytes

@@ -1,10 +1,10 @@
 use native.Mathlib.Omega.{arith}
-use Rattle.line.specs.DigitsLaws.{digits-few}
-use Rattle.line.specs.Text.{foundText}
-use Rattle.line.specs.TextLaws.{then-wrote}
+use Rattle.text.specs.DigitsLaws.{digits-few}
+use Rattle.text.specs.Text.{foundText}
+use Rattle.text.specs.TextLaws.{then-wrote}
 use borrow.Author.Needs.{needs}
-use Rattle.line.proofs.text.put_found.Statement.{statement}
-use Rattle.line.proofs.text.put_found.Tie as tie
+use Rattle.text.proofs.put_found.Statement.{statement}
+use Rattle.text.proofs.put_found.Tie as tie
 
 put-number-requires : tie.Need-put-number-requires
 put-number-requires c κs =
@@ -29,7 +29,8 @@ slice-aggregate-put-bytes-2 c = search needs
 
 put-bytes-requires-2 : tie.Need-put-bytes-requires-2
 put-bytes-requires-2 c κs =
-    let s = c .before .before .before .before .before .before .before .before .before .before .before .before .before .before .before .before .before in
+    let s = c .before .before .before .before .before .before .before .before .before .before .before .before .before
+    .before .before .before .before in
     omega (arith, digits-few 3 (s .args .count) (omega arith), s .pre .1, s .pre .2)
 
 same-length : tie.Need-same-length
@@ -42,7 +43,8 @@ returns c =
     let p3 = p4 .before .before .before .before .before in
     let p2 = p3 .before .before .before .before in
     let p1 = p2 .before .before .before .before .before in
-    then-wrote (then-wrote (then-wrote (p1 .put-number .ensures) (p2 .put-bytes .ensures)) (p3 .put-places .ensures .0))
+    then-wrote (then-wrote (then-wrote (p1 .put-number .ensures) (p2 .put-bytes .ensures))
+    (p3 .put-places .ensures .0))
     (p4 .put-bytes2 .ensures)
 
 pub put-found-spec : {M : Type 1} → statement M

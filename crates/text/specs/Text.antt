@@ -6,12 +6,17 @@ use lib.ListN.{length}
 use lib.Seq.{sets}
 use Rattle.lists.specs.Lists.{bind, upFrom}
 use Rattle.endian.specs.Endian.{u16At, u32At}
-use Rattle.line.specs.Digits.{digits}
+use Rattle.text.specs.Digits.{digits}
+
+-- the bytes that one line can need: 5,000 matches of 17 bytes, their number, a colon and LF
+abbrev pub lineOutput : ℕ
+lineOutput = 85006
 
 -- `store N fill F`
 unfoldable pub storeText : (blocks fill : ℕ) → List ℕ
 storeText n fill =
-    (115 ∷ 116 ∷ 111 ∷ 114 ∷ 101 ∷ 32 ∷ []) ++ digits n ++ (32 ∷ 102 ∷ 105 ∷ 108 ∷ 108 ∷ 32 ∷ []) ++ digits fill ++ (10 ∷ [])
+    (115 ∷ 116 ∷ 111 ∷ 114 ∷ 101 ∷ 32 ∷ []) ++ digits n ++ (32 ∷ 102 ∷ 105 ∷ 108 ∷ 108 ∷ 32 ∷ []) ++ digits fill ++
+    (10 ∷ [])
 
 -- `ok`
 unfoldable pub okText : List ℕ
@@ -26,7 +31,8 @@ refusedText line number =
 -- `steps S stop T`
 unfoldable pub stepsText : (steps stop : ℕ) → List ℕ
 stepsText steps stop =
-    (115 ∷ 116 ∷ 101 ∷ 112 ∷ 115 ∷ 32 ∷ []) ++ digits steps ++ (32 ∷ 115 ∷ 116 ∷ 111 ∷ 112 ∷ 32 ∷ []) ++ digits stop ++ (10 ∷ [])
+    (115 ∷ 116 ∷ 101 ∷ 112 ∷ 115 ∷ 32 ∷ []) ++ digits steps ++
+    (32 ∷ 115 ∷ 116 ∷ 111 ∷ 112 ∷ 32 ∷ []) ++ digits stop ++ (10 ∷ [])
 
 -- ` b/o`, the i-th match of a lookup's output
 unfoldable pub placeText : (output : List ℕ) (i : ℕ) → List ℕ

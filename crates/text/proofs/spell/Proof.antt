@@ -3,15 +3,16 @@ use mathlib.Core.List.{List, [], _++_, append-nil}
 use Prim.Native.Nat.{ℕ, _≤_}
 use native.Mathlib.Omega.{arith}
 use lib.ListN.{length, drop, length-set, drop-of-length-le}
-use Rattle.line.specs.Digits.{digits}
-use Rattle.line.specs.DigitsLaws.{digits-some, spell-last, spell-more, spell-fewer}
-use Rattle.line.specs.TextLaws.{digits-64}
-use Rattle.line.proofs.text.spell.Statement.{statement}
-use Rattle.line.proofs.text.spell.Tie as tie
+use Rattle.text.specs.Digits.{digits}
+use Rattle.text.specs.DigitsLaws.{digits-some, spell-last, spell-more, spell-fewer}
+use Rattle.text.specs.TextLaws.{digits-64}
+use Rattle.text.proofs.spell.Statement.{statement}
+use Rattle.text.proofs.spell.Tie as tie
 
 abbrev Inv-loop : tie.InvT-loop
 Inv-loop n space₀ rest₀ at₀ space rest at =
-    (length (digits rest) ≤ at) × (at ≤ 20) × (length space ≡ 20) × (rest ≤ n) × (digits n ≡ digits rest ++ drop at space)
+    (length (digits rest) ≤ at) × (at ≤ 20) × (length space ≡ 20) × (rest ≤ n)
+    × (digits n ≡ digits rest ++ drop at space)
 
 abbrev μ-loop : tie.MeasureT-loop
 μ-loop n space₀ rest₀ at₀ space rest at = at
@@ -47,8 +48,11 @@ same-length c = simp length-set (omega arith)
 
 returns : tie.Need-returns Inv-loop μ-loop
 returns c =
-    let l = c .before in
-    (omega arith, spell-last (l .before .args .n) (l .loop .rest) (l .loop .at) (l .loop .space) (room l) (omega arith) (l .loop .inv .4) (c .if1 .taken))
+    let l = c .before in (
+      omega arith,
+      spell-last (l .before .args .n) (l .loop .rest) (l .loop .at) (l .loop .space) (room l)
+          (omega arith) (l .loop .inv .4) (c .if1 .taken),
+    )
 
 loop-less : tie.Need-loop-less Inv-loop μ-loop
 loop-less c = omega (arith, room (c .before))
@@ -57,8 +61,10 @@ loop-again : tie.Need-loop-again Inv-loop μ-loop
 loop-again c =
     let l = c .before in
     let i = l .loop .inv in
-    let fewer = spell-fewer (l .before .args .n) (l .loop .rest) (l .loop .at) (l .loop .space) (room l) (omega arith) (i .4) (c .if1 .left) (i .0) in
-    let more = spell-more (l .before .args .n) (l .loop .rest) (l .loop .at) (l .loop .space) (room l) (omega arith) (i .4) (c .if1 .left) in
+    let fewer = spell-fewer (l .before .args .n) (l .loop .rest) (l .loop .at) (l .loop .space) (room l) (omega arith)
+    (i .4) (c .if1 .left) (i .0) in
+    let more = spell-more (l .before .args .n) (l .loop .rest) (l .loop .at) (l .loop .space) (room l) (omega arith)
+    (i .4) (c .if1 .left) in
     (fewer, omega arith, simp length-set (i .2), omega arith, more)
 
 pub spell-spec : {M : Type 1} → statement M

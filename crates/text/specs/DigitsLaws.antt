@@ -10,7 +10,7 @@ use borrow.Author.Tests.{lt-ltb, le-ltb, ltb-true, ltb-false}
 use lib.Dec.{ltb}
 use lib.ListN.{length, drop, set, length-append, length-set}
 use lib.Seq.{drop-cons, getD-set-same, drop-set-lt}
-use Rattle.line.specs.Digits.{digitsIn, digits}
+use Rattle.text.specs.Digits.{digitsIn, digits}
 
 -- more fuel changes nothing
 fuel : (k m n : ℕ) → n < k → n < m → digitsIn k n ≡ digitsIn m n
@@ -40,7 +40,8 @@ pub digits-some : (n : ℕ) → 1 ≤ length (digits n)
 unfolding digits
 digits-some n = go (ltb n 10)
   where
-    go : (t : Bool) → 1 ≤ length {A = ℕ} (elim t [ true ↦ (48 + n) ∷ [] | false ↦ digitsIn n (n / 10) ++ ((48 + n % 10) ∷ []) ])
+    go : (t : Bool) → 1 ≤ length {A = ℕ} (elim t
+        [ true ↦ (48 + n) ∷ [] | false ↦ digitsIn n (n / 10) ++ ((48 + n % 10) ∷ []) ])
     go true = omega arith
     go false = simp length-append (omega arith)
 
@@ -49,7 +50,8 @@ pub digits-few : (k n : ℕ) → n < 10 ^ suc k → length (digits n) ≤ suc k
 digits-few zero n h = rw (digits-one n (omega arith)) (omega arith)
 digits-few (suc k) n h = go (ltb n 10) refl (digits-few k (n / 10))
   where
-    go : (t : Bool) → ltb n 10 ≡ t → (n / 10 < 10 ^ suc k → length (digits (n / 10)) ≤ suc k) → length (digits n) ≤ suc (suc k)
+    go : (t : Bool) → ltb n 10 ≡ t → (n / 10 < 10 ^ suc k → length (digits (n / 10)) ≤ suc k)
+        → length (digits n) ≤ suc (suc k)
     go true e ih = rw (digits-one n (ltb-true n 10 e)) (omega arith)
     go false e ih =
         rw (digits-more n (ltb-false n 10 e))
@@ -62,9 +64,16 @@ before : (s : List ℕ) (at v : ℕ) → 1 ≤ at → at ≤ length s → drop (
 before s zero v h g = absurd (omega arith)
 before s (suc j) v h g =
     let l : j < length (set s j v) = rw length-set (omega arith) in
-    rw (sub-one (suc j), drop-cons (set s j v) j 0 l, getD-set-same s j v 0 (omega arith), drop-set-lt (suc j) s j v (omega arith))
+    rw (
+      sub-one (suc j),
+      drop-cons (set s j v) j 0 l,
+      getD-set-same s j v 0 (omega arith),
+      drop-set-lt (suc j) s j v
+          (omega arith),
+    )
 
-module _ (n rest at : ℕ) (space : List ℕ) (big : 1 ≤ at) (fits : at ≤ length space) (e : digits n ≡ digits rest ++ drop at space) where
+module _ (n rest at : ℕ) (space : List ℕ) (big : 1 ≤ at) (fits : at ≤ length space)
+    (e : digits n ≡ digits rest ++ drop at space) where
   pub spell-last : rest / 10 ≡ 0 → drop (at - 1) (set space (at - 1) (48 + rest % 10)) ≡ digits n
   spell-last h =
       let small : rest < 10 = omega arith in

@@ -3,10 +3,10 @@ use Prim.Native.Nat.{_-_}
 use native.Mathlib.Omega.{arith}
 use lib.ListN.{take, drop, length-drop}
 use lib.Seq.{take-all}
-use Rattle.line.specs.Digits.{digits}
+use Rattle.text.specs.Digits.{digits}
 use borrow.Author.Needs.{needs}
-use Rattle.line.proofs.text.put_number.Statement.{statement}
-use Rattle.line.proofs.text.put_number.Tie as tie
+use Rattle.text.proofs.put_number.Statement.{statement}
+use Rattle.text.proofs.put_number.Tie as tie
 
 -- the bytes that are lent are the digits
 spelled : (c : tie.After-spell)
@@ -14,7 +14,8 @@ spelled : (c : tie.After-spell)
     take (20 - p .result) (drop (p .result) (p .last .1 .0)) ≡ digits (c .before .before .before .args .n)
 spelled c =
     let p = c .spell in
-    take-all (20 - p .result) (drop (p .result) (p .last .1 .0)) (omega (arith, length-drop (p .result) (p .last .1 .0), p .kept .1 .0))
+    take-all (20 - p .result) (drop (p .result) (p .last .1 .0))
+    (omega (arith, length-drop (p .result) (p .last .1 .0), p .kept .1 .0))
     ∙ p .ensures .1
 
 slice-aggregate-spell : tie.Need-slice-aggregate-spell
@@ -33,13 +34,15 @@ part-put-bytes-end : tie.Need-part-put-bytes-end
 part-put-bytes-end c = search needs
 
 put-bytes-requires : tie.Need-put-bytes-requires
-put-bytes-requires c κs = rw (spelled (c .before .before .before .before)) (c .before .before .before .before .before .before .before .pre)
+put-bytes-requires c κs =
+    rw (spelled (c .before .before .before .before)) (c .before .before .before .before .before .before .before .pre)
 
 same-length : tie.Need-same-length
 same-length c = search needs
 
 returns : tie.Need-returns
-returns c = let p = c .before .before in rw (spelled (p .before .before .before .before .before)) at (p .put-bytes .ensures)
+returns c =
+    let p = c .before .before in rw (spelled (p .before .before .before .before .before)) at (p .put-bytes .ensures)
 
 pub put-number-spec : {M : Type 1} → statement M
 put-number-spec =

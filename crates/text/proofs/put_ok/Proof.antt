@@ -1,7 +1,7 @@
-use Rattle.line.specs.Text.{okText}
+use Rattle.text.specs.Text.{okText}
 use borrow.Author.Needs.{needs}
-use Rattle.line.proofs.text.put_ok.Statement.{statement}
-use Rattle.line.proofs.text.put_ok.Tie as tie
+use Rattle.text.proofs.put_ok.Statement.{statement}
+use Rattle.text.proofs.put_ok.Tie as tie
 
 slice-aggregate-put-bytes : tie.Need-slice-aggregate-put-bytes
 slice-aggregate-put-bytes c = search needs

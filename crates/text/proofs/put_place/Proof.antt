@@ -1,10 +1,10 @@
 use mathlib.Core.Path.{_≡_}
 use native.Mathlib.Omega.{arith}
-use Rattle.line.specs.Text.{placeText}
-use Rattle.line.specs.TextLaws.{then-wrote, digits-16, digits-32}
+use Rattle.text.specs.Text.{placeText}
+use Rattle.text.specs.TextLaws.{then-wrote, digits-16, digits-32}
 use borrow.Author.Needs.{needs}
-use Rattle.line.proofs.text.put_place.Statement.{statement}
-use Rattle.line.proofs.text.put_place.Tie as tie
+use Rattle.text.proofs.put_place.Statement.{statement}
+use Rattle.text.proofs.put_place.Tie as tie
 
 mul-from : tie.Need-mul-from
 mul-from c = search needs
@@ -45,7 +45,8 @@ cast-put-number-2 c = search needs
 
 put-number-requires-2 : tie.Need-put-number-requires-2
 put-number-requires-2 c κs =
-    let g = c .before .before .before .before .before .before .before .before .before .before .before .before .before .before .before in
+    let g = c .before .before .before .before .before .before .before .before .before .before .before .before .before
+    .before .before in
     omega (arith, digits-32 (g .before .get-u32 .result) (omega arith), digits-16 (g .get-u16 .result) (omega arith))
 
 same-length : tie.Need-same-length
@@ -59,7 +60,8 @@ returns c =
     let p2 = p3 .before .before .before .before .before in
     let p1 = p2 .before .before .before .before in
     let g = p1 .before .before .before in
-    let all = then-wrote (then-wrote (then-wrote (p1 .put-bytes .ensures) (p2 .put-number .ensures)) (p3 .put-bytes2 .ensures))
+    let all = then-wrote (then-wrote (then-wrote (p1 .put-bytes .ensures) (p2 .put-number .ensures))
+    (p3 .put-bytes2 .ensures))
     (p4 .put-number2 .ensures) in (
       rw (g .before .get-u32 .ensures, g .get-u16 .ensures) at all,
       omega (

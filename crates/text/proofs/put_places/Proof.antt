@@ -4,10 +4,10 @@ use Prim.Native.Nat.{ℕ, _+_, _-_, _*_, _≤_}
 use native.Mathlib.Omega.{arith}
 use lib.ListN.{length}
 use Rattle.lists.specs.Lists.{bind, upFrom}
-use Rattle.line.specs.Text.{Wrote, placeText}
-use Rattle.line.specs.TextLaws.{then-wrote, wrote-length, bind-more}
-use Rattle.line.proofs.text.put_places.Statement.{statement}
-use Rattle.line.proofs.text.put_places.Tie as tie
+use Rattle.text.specs.Text.{Wrote, placeText}
+use Rattle.text.specs.TextLaws.{then-wrote, wrote-length, bind-more}
+use Rattle.text.proofs.put_places.Statement.{statement}
+use Rattle.text.proofs.put_places.Tie as tie
 
 abbrev Inv-loop : tie.InvT-loop
 Inv-loop output₀ at places count end₀ i₀ output end i =
@@ -36,8 +36,12 @@ loop-again c =
     let p = c .before .before in
     let l = p .before .before .before in
     let s = l .before .before .before in
-    let both = then-wrote (l .loop .inv .2) (p .put-place .ensures .0) in
-    (omega arith, omega (arith, p .put-place .ensures .1, l .loop .inv .1), rw (← bind-more (placeText (s .args .places .now)) (l .loop .i)) at both)
+    let both = then-wrote (l .loop .inv .2) (p .put-place .ensures .0) in (
+      omega arith,
+      omega (arith, p .put-place .ensures .1, l .loop .inv .1),
+      rw
+          (← bind-more (placeText (s .args .places .now)) (l .loop .i)) at both,
+    )
 
 same-length : tie.Need-same-length Inv-loop μ-loop
 same-length c = wrote-length (c .before .loop .inv .2)

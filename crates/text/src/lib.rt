@@ -1,4 +1,5 @@
-// Numbers and lines of output as text. Each function writes from `at` or from the output's start on, and answers where it ended.
+// Numbers and lines of output as text. Each function writes from `at` or from the output's start on, and answers where
+// it ended.
 use endian::get_u16;
 use endian::get_u32;
 use store::copy_over;
@@ -6,8 +7,8 @@ ghost use mathlib.Core.Path.{_≡_};
 ghost use Prim.Native.Nat.{_+_, _*_, _≤_, _<_};
 ghost use lib.ListN.{length, drop};
 ghost use Rattle.lists.specs.Lists.{bind, upFrom};
-ghost use Rattle.line.specs.Digits.{digits};
-ghost use Rattle.line.specs.Text.{Wrote, storeText, okText, refusedText, stepsText, placeText, foundText};
+ghost use Rattle.text.specs.Digits.{digits};
+ghost use Rattle.text.specs.Text.{Wrote, lineOutput, storeText, okText, refusedText, stepsText, placeText, foundText};
 
 // The bytes that one line of output can need: 5,000 matches of 17 bytes, their number, a colon and LF.
 pub const LINE_OUTPUT: usize = 85006;
@@ -49,7 +50,7 @@ fn put_number(output: &mut [u8], at: usize, n: u64) -> usize
 
 // The answer to a format that is accepted.
 pub fn put_store(output: &mut [u8], blocks: u32, fill: u32) -> usize
-    requires { ⌜ 85006 ≤ length (now output) ⌝ }
+    requires { ⌜ lineOutput ≤ length (now output) ⌝ }
     ensures { λ r. ⌜ Wrote (now (output .entry)) 0 (storeText blocks fill) (now (output .exit)) r ⌝ }
 {
     let a = put_bytes(output, 0, b"store ");
@@ -61,7 +62,7 @@ pub fn put_store(output: &mut [u8], blocks: u32, fill: u32) -> usize
 
 // The answer to an insert or a removal that is accepted.
 pub fn put_ok(output: &mut [u8]) -> usize
-    requires { ⌜ 85006 ≤ length (now output) ⌝ }
+    requires { ⌜ lineOutput ≤ length (now output) ⌝ }
     ensures { λ r. ⌜ Wrote (now (output .entry)) 0 okText (now (output .exit)) r ⌝ }
 {
     put_bytes(output, 0, b"ok\n")
@@ -69,7 +70,7 @@ pub fn put_ok(output: &mut [u8]) -> usize
 
 // A refusal, by its number.
 pub fn put_refused(output: &mut [u8], line: u64, number: u32) -> usize
-    requires { ⌜ 85006 ≤ length (now output) ⌝ }
+    requires { ⌜ lineOutput ≤ length (now output) ⌝ }
     ensures { λ r. ⌜ Wrote (now (output .entry)) 0 (refusedText line number) (now (output .exit)) r ⌝ }
 {
     let a = put_bytes(output, 0, b"line ");
@@ -81,7 +82,7 @@ pub fn put_refused(output: &mut [u8], line: u64, number: u32) -> usize
 
 // The answer to a work call that is accepted.
 pub fn put_steps(output: &mut [u8], steps: u32, stop: u32) -> usize
-    requires { ⌜ 85006 ≤ length (now output) ⌝ }
+    requires { ⌜ lineOutput ≤ length (now output) ⌝ }
     ensures { λ r. ⌜ Wrote (now (output .entry)) 0 (stepsText steps stop) (now (output .exit)) r ⌝ }
 {
     let a = put_bytes(output, 0, b"steps ");
@@ -109,7 +110,8 @@ fn put_place(output: &mut [u8], at: usize, places: &[u8], i: usize) -> usize
 // The first `count` matches.
 fn put_places(output: &mut [u8], at: usize, places: &[u8], count: usize) -> usize
     requires { ⌜ (6 * count ≤ length (now places)) × (at + 17 * count ≤ length (now output)) ⌝ }
-    ensures { λ r. ⌜ Wrote (now (output .entry)) at (bind (upFrom 0 count) (placeText (now (places .entry)))) (now (output .exit)) r ⌝ }
+    ensures { λ r. ⌜ Wrote (now (output .entry)) at (bind (upFrom 0 count) (placeText (now (places .entry))))
+        (now (output .exit)) r ⌝ }
     ensures { λ r. ⌜ r ≤ at + 17 * count ⌝ }
 {
     let mut end = at;
@@ -123,7 +125,7 @@ fn put_places(output: &mut [u8], at: usize, places: &[u8], count: usize) -> usiz
 
 // The answer to a lookup with `count` matches.
 pub fn put_found(output: &mut [u8], places: &[u8], count: u32) -> usize
-    requires { ⌜ (6 * count ≤ length (now places)) × (count ≤ 5000) × (85006 ≤ length (now output)) ⌝ }
+    requires { ⌜ (6 * count ≤ length (now places)) × (count ≤ 5000) × (lineOutput ≤ length (now output)) ⌝ }
     ensures { λ r. ⌜ Wrote (now (output .entry)) 0 (foundText count (now (places .entry))) (now (output .exit)) r ⌝ }
 {
     let a = put_number(output, 0, count as u64);

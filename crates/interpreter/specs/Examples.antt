@@ -1,0 +1,47 @@
+-- Small scripts, run by the definition. In the comments ↵ is LF.
+use mathlib.Core.Path.{_≡_, refl}
+use mathlib.Core.List.{List, [], _∷_, _++_, map}
+use Prim.Native.Nat.{ℕ}
+use Rattle.lists.specs.Block.{blocks}
+use Rattle.line.specs.Words.{numberOf}
+use Rattle.line.specs.Command.{readLine}
+use Rattle.text.specs.Digits.{digits}
+use Rattle.text.specs.Text.{storeText, refusedText}
+use Rattle.image.specs.Outcomes.{lengthOk, tested, formatOutcome, insertOutcome, lookupOutcome, workOutcome}
+use Rattle.interpreter.specs.Script.{runCommand, scriptOutput}
+
+-- A script and what it writes.
+record Row : Type 0 where
+  script : List ℕ
+  output : List ℕ
+
+row : List ℕ → List ℕ → Row
+row s o = record { script = s; output = o }
+
+table : List Row
+table =
+    -- `? 5↵↵w 1`
+    row (63 ∷ 32 ∷ 53 ∷ 10 ∷ 10 ∷ 119 ∷ 32 ∷ 49 ∷ [])
+    (refusedText 1 1 ++ refusedText 2 10 ++ refusedText 3 1) ∷
+    -- `f 3 10↵f 4 41↵f 129 0↵`
+    row (102 ∷ 32 ∷ 51 ∷ 32 ∷ 49 ∷ 48 ∷ 10 ∷ 102 ∷ 32 ∷ 52 ∷ 32 ∷
+    52 ∷ 49 ∷ 10 ∷ 102 ∷ 32 ∷ 49 ∷ 50 ∷ 57 ∷ 32 ∷ 48 ∷ 10 ∷ [])
+    (refusedText 1 1 ++ refusedText 2 2 ++ refusedText 3 1) ∷
+    -- `f 4 40↵f 5 0↵`
+    row (102 ∷ 32 ∷ 52 ∷ 32 ∷ 52 ∷ 48 ∷ 10 ∷ 102 ∷ 32 ∷ 53 ∷ 32 ∷ 48 ∷ 10 ∷ [])
+    (storeText 4 40 ++ refusedText 2 2) ∷
+    -- `+ 0,5 7 1↵+ 1 2 0`
+    row (43 ∷ 32 ∷ 48 ∷ 44 ∷ 53 ∷ 32 ∷ 55 ∷ 32 ∷ 49 ∷ 10 ∷ 43 ∷ 32 ∷ 49 ∷ 32 ∷ 50 ∷ 32 ∷ 48 ∷ [])
+    (refusedText 1 10 ++ refusedText 2 1) ∷
+    -- `↵`
+    row (10 ∷ [])
+    (refusedText 1 10) ∷
+    -- ``
+    row ([])
+    ([]) ∷
+    []
+
+scripts-run : map (λ (r : Row). scriptOutput (r .script)) table ≡ map (λ (r : Row). r .output) table
+unfolding row table blocks numberOf readLine digits storeText refusedText lengthOk tested formatOutcome insertOutcome
+    lookupOutcome workOutcome runCommand scriptOutput
+scripts-run = refl

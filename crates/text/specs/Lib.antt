@@ -1,0 +1,5 @@
+pub mod Digits
+pub mod DigitsLaws
+pub mod Text
+pub mod TextLaws
+pub mod Examples
