@@ -1,6 +1,7 @@
 pub mod Script
 pub mod Machine
 pub mod MachineLaws
+pub mod Pieces
 pub mod Feed
 pub mod Runs
 pub mod RunsLaws

@@ -1,4 +1,4 @@
--- Feeding a script in pieces of any size, and then ending it, writes what the script writes.
+-- The machine in pieces, and against the lines of a script.
 use mathlib.Core.Path.{_≡_, refl, sym, ap, _∙_}
 use mathlib.Core.Bool.{Bool, true, false, cond}
 use mathlib.Core.List.{List, [], _∷_, _++_, append-assoc, append-nil}
@@ -12,8 +12,8 @@ use Rattle.line.specs.declared.Command.{Command}
 use Rattle.line.specs.Words.{partsFrom}
 use Rattle.line.specs.Command.{maxLine, readLine}
 use Rattle.line.specs.CommandLaws.{line-long}
-use Rattle.interpreter.specs.Script.{Turn, runCommand, ended, nextLine, runLines, scriptOutput}
-use Rattle.interpreter.specs.Machine.{Pending, short, long, grow, commandAt, State, begin, Ran, endLine}
+use Rattle.interpreter.specs.Script.{Turn, runCommand, ended, nextLine, runLines}
+use Rattle.interpreter.specs.Machine.{Pending, short, long, grow, commandAt, State, Ran, endLine}
 use Rattle.interpreter.specs.Machine.{keepByte, onByte, onBytes, endIn, atEnd, onPieces}
 
 -- ---- pieces
@@ -126,8 +126,3 @@ rest-lines n s acc (b ∷ bs) =
         ∙ ap (runLines n s) (sym (ended-more acc [] bs))
     go false new old =
         ap (λ (p : Pending). rest (record { pending = p; line = n; store = s }) bs) (pending-grow acc b) ∙ old
-
--- A script fed in pieces of any size, and then ended, writes what the script writes.
-pub script-in-pieces : (ps : List (List ℕ)) → onPieces begin ps ≡ scriptOutput (bind ps (λ p. p))
-unfolding scriptOutput
-script-in-pieces ps = onPieces-joined begin ps ∙ rest-lines 0 [] [] (bind ps (λ p. p))
