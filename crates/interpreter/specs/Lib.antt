@@ -10,4 +10,6 @@ pub mod HeldLaws
 pub mod FeedLaws
 pub mod FedLaws
 pub mod CommaLaws
+pub mod MatchesLaws
+pub mod ShortLaws
 pub mod Examples

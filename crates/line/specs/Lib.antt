@@ -3,4 +3,5 @@ pub mod WordsLaws
 pub mod Command
 pub mod CommandLaws
 pub mod CommaLaws
+pub mod FitsLaws
 pub mod Examples
