@@ -1,4 +1,5 @@
--- Document 01, "Where things stand": buckets of hash codes and blocks of buckets and overflow bits, by max bucket m, spares sp and overflow point s.
+-- docs/RULES.md 4, "Where things stand": buckets of hash codes, and blocks of buckets and overflow bits, by max bucket
+-- m, spares sp and overflow point s.
 use mathlib.Core.Bool.{Bool, true, false, cond, _&&_, _||_}
 use mathlib.Core.List.{List}
 use Prim.Native.Nat.{ℕ, zero, suc, pred, _+_, _-_, _*_, _/_, _%_, _^_}

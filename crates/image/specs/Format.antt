@@ -1,4 +1,4 @@
--- The blocks of a formatted store, spelt out. Document 01: "meta, buckets 0 and 1 in blocks 1 and 2, bitmap in
+-- The blocks of a formatted store, spelt out. docs/RULES.md 6.1: "meta, buckets 0 and 1 in blocks 1 and 2, bitmap in
 -- block 3, spares[1] = 1, first free 1, bits all 1, no entries."
 use mathlib.Core.List.{List, _++_}
 use Prim.Native.Nat.{ℕ, zero, suc}

@@ -1,4 +1,4 @@
--- The bytes of an index: document 01, "Blocks" and "Where things stand".
+-- The bytes of an index: docs/RULES.md 3, "Blocks", and 4, "Where things stand".
 use mathlib.Core.Bool.{Bool, true, false, cond, not, _&&_}
 use mathlib.Core.List.{List, [], _∷_, _++_, map}
 use mathlib.Core.Option.{Option, none, some}

@@ -1,4 +1,4 @@
--- "After every accepted call and every step the store is sound", and as long as it was.
+-- "After every accepted call and every step the store is sound" (docs/RULES.md 6.11), and as long as it was.
 use mathlib.Core.Path.{_≡_, refl, sym, ap, ap₂, _∙_, subst}
 use mathlib.Core.Logic.{_≢_}
 use mathlib.Core.Bool.{Bool, true, false}

@@ -1,5 +1,5 @@
--- What each call does to a store: from bytes, numbers and output to answer, store and output. "The order is 1, 2, 3, 4, 8, 5 or 6, 7.
--- Format tests 1 and 2 only. Every refusal leaves store and output untouched."
+-- What each call does to a store: from bytes, numbers and output to answer, store and output. docs/RULES.md 2.2: "The
+-- order is 1, 2, 3, 4, 8, 5 or 6, 7. Format tests 1 and 2 only. Every refusal leaves store and output untouched."
 use mathlib.Core.Bool.{Bool, true, false, cond, _&&_}
 use mathlib.Core.List.{List}
 use Prim.Native.Nat.{ℕ, _%_}

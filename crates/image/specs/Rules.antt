@@ -1,4 +1,5 @@
--- The sound-store rules of document 01 as tests of a store's bytes, and the verdict. Each rule is tested when those before it hold.
+-- The sound-store rules (docs/RULES.md 5; rule n is 5.n) as tests of a store's bytes, and the verdict. Each rule is
+-- tested when those before it hold.
 use mathlib.Core.Bool.{Bool, true, false, cond, not, _&&_, _||_, Bool·beq}
 use mathlib.Core.List.{List, [], _∷_, _++_}
 use mathlib.Core.Option.{Option, none, some, Option·getD}

@@ -1,4 +1,4 @@
--- Document 01's numbers of the answers, and what each case gives besides (0 where nothing).
+-- The numbers of the answers (docs/RULES.md 2.1), and what each case gives besides (0 where nothing).
 use Prim.Native.Nat.{ℕ}
 use lib.IntN.{ℤ, pos}
 use Rattle.model.specs.declared.Refusal.{Refusal}

@@ -1,4 +1,5 @@
--- The hash index of document 01 as a value, without its bytes and with nothing in it that follows from something else.
+-- The hash index as a value, without its bytes and with nothing in it that follows from something else (docs/RULES.md
+-- 1, 3 and 4).
 use mathlib.Core.Bool.{Bool, cond}
 use mathlib.Core.List.{List, [], _∷_, _++_}
 use Prim.Native.Nat.{ℕ, suc}

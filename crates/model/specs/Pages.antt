@@ -1,4 +1,4 @@
--- An entry into a chain and out of it; the page that an insert takes.
+-- An entry into a chain and out of it; the page that an insert takes (docs/RULES.md 6.3 and 6.4).
 use mathlib.Core.Bool.{Bool, true, false, cond, not, _||_}
 use mathlib.Core.List.{List, [], _∷_, _++_, map}
 use mathlib.Core.Option.{Option, none, some, Option·getD}

@@ -1,4 +1,4 @@
--- The steps of a split, and work: "A step, by phase".
+-- The steps of a split, and work (docs/RULES.md 6.7 to 6.10): "A step, by phase".
 use mathlib.Core.Bool.{Bool, true, false, not, _&&_}
 use mathlib.Core.List.{List, [], _∷_, _++_}
 use mathlib.Core.Option.{Option, none, some}

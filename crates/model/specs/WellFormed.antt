@@ -1,5 +1,5 @@
--- The well-formed indexes: document 01's sound-store rules, said of the index as a value. What the rules say of links,
--- flags, checks and derived fields has no counterpart here, since nothing of that is in the value.
+-- The well-formed indexes: the sound-store rules (docs/RULES.md 5; rule n is 5.n), said of the index as a value. What
+-- they say of links, flags, checks and derived fields has no counterpart here, since nothing of that is in the value.
 use mathlib.Core.Path.{_≡_}
 use mathlib.Core.Logic.{_≢_}
 use mathlib.Core.Bool.{true, false, not, _&&_}

@@ -1,5 +1,5 @@
--- The entries of a page as bytes. Document 01: "number of entries (u16) at 0, up to 40 entries of 12 bytes from 4:
--- hash, reading block, offset, entry flags (0, or 0x2000 for "moved by split")."
+-- The entries of a page as bytes. docs/RULES.md 3.5: "number of entries (u16) at 0, up to 40 entries of 12 bytes
+-- from 4: hash, reading block, offset, entry flags (0, or 0x2000 for "moved by split")."
 use mathlib.Core.Bool.{Bool, true, false, cond}
 use mathlib.Core.List.{List, [], _∷_, _++_}
 use Prim.Native.Nat.{ℕ, zero, suc, _+_, _-_, _*_}

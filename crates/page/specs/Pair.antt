@@ -1,5 +1,5 @@
--- Pairs and their order. Document 01: "An entry is a pair: a 32-bit hash code and a reading's place (block number,
--- 32 bits; offset, 16 bits)."
+-- Pairs and their order. docs/RULES.md 1.2: "An entry is a pair: a 32-bit hash code and a reading's place (block
+-- number, 32 bits; offset, 16 bits)."
 use mathlib.Core.Bool.{Bool, true, cond, _&&_, _||_}
 use mathlib.Core.List.{List, [], _∷_}
 use Prim.Native.Nat.{_^_, _<_}

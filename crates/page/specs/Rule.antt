@@ -1,5 +1,5 @@
--- The page rule, as a test on any 512 bytes. Document 01: "up to 40 entries .. Strictly ascending by hash, then block,
--- then offset. No entry has offset 0 or reading block 4294967295. Unused bytes zero."
+-- The page rule, as a test on any 512 bytes. docs/RULES.md 3.5: "up to 40 entries .. strictly ascending by hash, then
+-- block, then offset. No entry has offset 0 or reading block 4294967295. Unused bytes zero."
 use mathlib.Core.Path.{_≡_}
 use mathlib.Core.Bool.{Bool, true, not, _&&_, _||_}
 use mathlib.Core.List.{List}
