@@ -9,12 +9,12 @@
  * - Any bytes and any numbers may be handed in. Each call ends, and answers one 64-bit word (below).
  * - Only the bytes of the arrays that are handed in are read, and only those of arrays that are not const are
  *   written. Nothing is allocated, and no state is kept from call to call: the store's bytes are all there is. The
- *   library needs memcpy and memset of the host, and nothing else.
+ *   library needs memcpy, memmove and memset of the host, and nothing else.
  * - An array is a pointer and its length in bytes. It needs no alignment. With length 0 the pointer may be NULL and
  *   is not followed. With any other length it points to that many bytes, all of them initialised.
  * - Two arrays of one call must not overlap. While a call runs, nobody else writes to its arrays, and nobody else
  *   reads those that are not const. Calls on different arrays may run at the same time.
- * - A refused call leaves the store and the output as they were.
+ * - A refused call writes nothing: the store, the output and the result stay as they were.
  *
  * Each call's answer and the bytes afterwards are proved equal to what a definition gives, for all inputs:
  * crates/capi/src/lib.rt. That this header fits those functions is not proved.
@@ -27,6 +27,31 @@
 
 #ifdef __cplusplus
 extern "C" {
+#endif
+
+/* The version of this header, and of the archive made from the same sources. 1.0.0 is document 01, whole. The first
+ * number goes up when a program that was right may have to change: a call's arguments, the answer to a call that was
+ * accepted, the bytes of a store. The second goes up when calls are added, the third when neither is so. */
+#define AMIQSOVIK_VERSION_MAJOR 1
+#define AMIQSOVIK_VERSION_MINOR 0
+#define AMIQSOVIK_VERSION_PATCH 0
+#define AMIQSOVIK_VERSION (AMIQSOVIK_VERSION_MAJOR * 10000 + AMIQSOVIK_VERSION_MINOR * 100 + AMIQSOVIK_VERSION_PATCH)
+#define AMIQSOVIK_VERSION_TEXT "1.0.0"
+
+/* A word that nobody looks at may be a refusal: compilers that can do so warn. */
+#if defined(__GNUC__)
+#define AMIQSOVIK_MUST_USE __attribute__((warn_unused_result))
+#else
+#define AMIQSOVIK_MUST_USE
+#endif
+
+/* Two arrays of one call must not overlap. */
+#if !defined(__cplusplus)
+#define AMIQSOVIK_RESTRICT restrict
+#elif defined(__GNUC__) || defined(_MSC_VER)
+#define AMIQSOVIK_RESTRICT __restrict
+#else
+#define AMIQSOVIK_RESTRICT
 #endif
 
 #define AMIQSOVIK_BLOCK_BYTES 512
@@ -44,45 +69,49 @@ static inline uint32_t amiqsovik_steps(uint64_t word) { return (uint32_t)(word >
 static inline uint32_t amiqsovik_gives(uint64_t word) { return (uint32_t)(word >> 32); }
 
 /* The numbers of the answers, 0 to 8 as in document 01's table. What a number gives besides is 0 where nothing is
- * said of it. Where several fit, the call answers the first of 11, 1, 2, 3, 4, 8, 5 or 6, 7. */
+ * said of it. Where several fit, the call answers the first of 255, 1, 2, 3, 4, 8, 5 or 6, 7. Later versions may have
+ * further numbers: whatever is not DONE is a refusal. */
 #define AMIQSOVIK_DONE 0
-#define AMIQSOVIK_LENGTH 1        /* the store is not a multiple of 512 bytes, or N is outside 4..128 */
-#define AMIQSOVIK_NUMBER 2        /* an argument is outside its range: see the calls */
-#define AMIQSOVIK_DAMAGED 3       /* a block's check is wrong; gives the lowest such block */
-#define AMIQSOVIK_NOT_AN_INDEX 4  /* checks right, a rule of sound stores broken; gives the lowest such rule, 1..8 */
-#define AMIQSOVIK_HELD_ALREADY 5  /* insert: the pair is held */
-#define AMIQSOVIK_NOT_HELD 6      /* remove: the pair is not held */
-#define AMIQSOVIK_NO_ROOM 7       /* insert: the bucket's pages are full, and there is no free page and no new one */
-#define AMIQSOVIK_OUTPUT_SHORT 8  /* lookup: output_length / 6 is below the number of matches; gives that number */
-#define AMIQSOVIK_RESULT_SHORT 11 /* standing: result_length is below 28; gives 28. Not in document 01's table */
+#define AMIQSOVIK_LENGTH 1         /* the store is not a multiple of 512 bytes, or N is outside 4..128 */
+#define AMIQSOVIK_NUMBER 2         /* an argument is outside its range: see the calls */
+#define AMIQSOVIK_DAMAGED 3        /* a block's check is wrong; gives the lowest such block */
+#define AMIQSOVIK_NOT_AN_INDEX 4   /* checks right, a rule of sound stores broken; gives the lowest such rule, 1..8 */
+#define AMIQSOVIK_HELD_ALREADY 5   /* insert: the pair is held */
+#define AMIQSOVIK_NOT_HELD 6       /* remove: the pair is not held */
+#define AMIQSOVIK_NO_ROOM 7        /* insert: the bucket's pages are full, and there is no free page and no new one */
+#define AMIQSOVIK_OUTPUT_SHORT 8   /* lookup: output_length / 6 is below the number of matches; gives that number */
+#define AMIQSOVIK_RESULT_SHORT 255 /* standing: result_length is below 28; gives 28. Not in document 01's table */
 
 /* ---- The calls */
 
 /* Tests a store. DONE (it is sound), LENGTH, DAMAGED or NOT_AN_INDEX. */
-uint64_t amiqsovik_verify(const uint8_t *store, size_t store_length);
+AMIQSOVIK_MUST_USE uint64_t amiqsovik_verify(const uint8_t *store, size_t store_length);
 
 /* Makes a store new, whatever its bytes are: two buckets, no pairs. `fill`, 1..40, is how many pairs a bucket is to
  * hold on average: with more, a split is wanted. DONE, LENGTH or NUMBER. */
-uint64_t amiqsovik_format(uint8_t *store, size_t store_length, uint32_t fill);
+AMIQSOVIK_MUST_USE uint64_t amiqsovik_format(uint8_t *store, size_t store_length, uint32_t fill);
 
 /* Puts a pair in. `offset` is 1..65535 and `block` is not 4294967295, else NUMBER. DONE, LENGTH, NUMBER, DAMAGED,
  * NOT_AN_INDEX, HELD_ALREADY or NO_ROOM. */
-uint64_t amiqsovik_insert(uint8_t *store, size_t store_length, uint32_t hash, uint32_t block, uint32_t offset);
+AMIQSOVIK_MUST_USE uint64_t amiqsovik_insert(uint8_t *store, size_t store_length, uint32_t hash, uint32_t block,
+                                             uint32_t offset);
 
 /* Takes a pair out. The numbers are tested as insert tests them. DONE, LENGTH, NUMBER, DAMAGED, NOT_AN_INDEX or
  * NOT_HELD. */
-uint64_t amiqsovik_remove(uint8_t *store, size_t store_length, uint32_t hash, uint32_t block, uint32_t offset);
+AMIQSOVIK_MUST_USE uint64_t amiqsovik_remove(uint8_t *store, size_t store_length, uint32_t hash, uint32_t block,
+                                             uint32_t offset);
 
 /* Lists the places of the pairs held under a hash code, ascending by block, then offset: six bytes each, the block
  * and then the offset, little-endian (amiqsovik_match_block and amiqsovik_match_offset read them). Later output
  * bytes stay. DONE, which gives the number of matches, LENGTH, DAMAGED, NOT_AN_INDEX or OUTPUT_SHORT. */
-uint64_t amiqsovik_lookup(const uint8_t *store, size_t store_length, uint32_t hash, uint8_t *output,
-                          size_t output_length);
+AMIQSOVIK_MUST_USE uint64_t amiqsovik_lookup(const uint8_t *AMIQSOVIK_RESTRICT store, size_t store_length,
+                                             uint32_t hash, uint8_t *AMIQSOVIK_RESTRICT output,
+                                             size_t output_length);
 
 /* Does steps of splits, at most `budget`, 0..65535, else NUMBER. After each step the store is sound and every lookup
  * finds what it found before. DONE, with the number of steps done and why they stopped, LENGTH, NUMBER, DAMAGED or
  * NOT_AN_INDEX. A stop with no room is no refusal: the steps done before it stay. */
-uint64_t amiqsovik_work(uint8_t *store, size_t store_length, uint32_t budget);
+AMIQSOVIK_MUST_USE uint64_t amiqsovik_work(uint8_t *store, size_t store_length, uint32_t budget);
 
 #define AMIQSOVIK_STOP_SPENT 0   /* the budget is spent */
 #define AMIQSOVIK_STOP_NO_ROOM 7 /* the next step finds no room; it changed nothing */
@@ -90,15 +119,37 @@ uint64_t amiqsovik_work(uint8_t *store, size_t store_length, uint32_t budget);
 
 /* Writes 28 bytes to `result`, little-endian (amiqsovik_stands reads them): count of held pairs, buckets, phase, old
  * bucket, new bucket, 32 bits each, and then the slack, fill * buckets - count, in 64 bits, two's complement. A slack
- * below zero means that a split is wanted. Later bytes of `result` stay. DONE, RESULT_SHORT, LENGTH, DAMAGED or
- * NOT_AN_INDEX. RESULT_SHORT is tested first and writes nothing; the other refusals write 28 zeros. */
-uint64_t amiqsovik_standing(const uint8_t *store, size_t store_length, uint8_t *result, size_t result_length);
+ * below zero means that a split is wanted. Later bytes of `result` stay. DONE, RESULT_SHORT, which is tested first,
+ * LENGTH, DAMAGED or NOT_AN_INDEX. */
+AMIQSOVIK_MUST_USE uint64_t amiqsovik_standing(const uint8_t *AMIQSOVIK_RESTRICT store, size_t store_length,
+                                               uint8_t *AMIQSOVIK_RESTRICT result, size_t result_length);
 
 #define AMIQSOVIK_PHASE_NONE 0 /* no job; both bucket numbers are 0 */
 #define AMIQSOVIK_PHASE_COPYING 1
 #define AMIQSOVIK_PHASE_CLEARING 2
 
-/* ---- Readers of what the calls write */
+/* ---- Readers of what the calls answer and write */
+
+/* The name of an answer by its number: as in document 01's table (9 is a stop of work's, 10 is for a script's lines
+ * alone), "result short" for 255, and "unknown" for any other. */
+static inline const char *amiqsovik_name(uint32_t number)
+{
+    switch (number) {
+    case AMIQSOVIK_DONE: return "done";
+    case AMIQSOVIK_LENGTH: return "length";
+    case AMIQSOVIK_NUMBER: return "number";
+    case AMIQSOVIK_DAMAGED: return "damaged";
+    case AMIQSOVIK_NOT_AN_INDEX: return "not an index";
+    case AMIQSOVIK_HELD_ALREADY: return "held already";
+    case AMIQSOVIK_NOT_HELD: return "not held";
+    case AMIQSOVIK_NO_ROOM: return "no room";
+    case AMIQSOVIK_OUTPUT_SHORT: return "output short";
+    case AMIQSOVIK_STOP_IDLE: return "idle";
+    case 10: return "unreadable";
+    case AMIQSOVIK_RESULT_SHORT: return "result short";
+    default: return "unknown";
+    }
+}
 
 static inline uint32_t amiqsovik_u32(const uint8_t *p)
 {
@@ -139,6 +190,9 @@ static inline struct amiqsovik_standing_values amiqsovik_stands(const uint8_t *r
     s.slack = bits >> 63 ? -(int64_t)~bits - 1 : (int64_t)bits;
     return s;
 }
+
+#undef AMIQSOVIK_MUST_USE
+#undef AMIQSOVIK_RESTRICT
 
 #ifdef __cplusplus
 }

@@ -19,8 +19,8 @@ static int done(const char *call, uint64_t word)
 {
     if (amiqsovik_number(word) == AMIQSOVIK_DONE)
         return 1;
-    printf("%s: refused with %" PRIu32 ", which gives %" PRIu32 "\n", call, amiqsovik_number(word),
-           amiqsovik_gives(word));
+    printf("%s: refused with %" PRIu32 ", %s, which gives %" PRIu32 "\n", call, amiqsovik_number(word),
+           amiqsovik_name(amiqsovik_number(word)), amiqsovik_gives(word));
     return 0;
 }
 
@@ -71,7 +71,8 @@ int main(void)
     word = amiqsovik_work(store, sizeof store, 1000);
     if (!done("work", word))
         return 1;
-    printf("%" PRIu32 " steps, stop %" PRIu32 "\n", amiqsovik_steps(word), amiqsovik_stop(word));
+    printf("%" PRIu32 " steps, stop %" PRIu32 ", %s\n", amiqsovik_steps(word), amiqsovik_stop(word),
+           amiqsovik_name(amiqsovik_stop(word)));
     if (!done("remove", amiqsovik_remove(store, sizeof store, 4, 104, 2)))
         return 1;
     show_standing();

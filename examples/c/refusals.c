@@ -1,0 +1,153 @@
+/* Tests what the header says of refusals, of standing's result, of names and of the version. It is C and C++; `try`
+ * builds and runs it. It exits with 0 if all of it holds.
+ */
+#include <stdio.h>
+#include <string.h>
+
+#include "../../include/amiqsovik.h"
+
+enum { BLOCKS = 5, BYTES = BLOCKS * AMIQSOVIK_BLOCK_BYTES, ROOM = 64, MARK = 0x5A };
+
+static int wrong = 0;
+
+/* Says so where a number is not the wanted one. */
+static void same(const char *what, uint64_t is, uint64_t wanted)
+{
+    if (is != wanted) {
+        printf("%s: %#llx, and not %#llx\n", what, (unsigned long long)is, (unsigned long long)wanted);
+        wrong = 1;
+    }
+}
+
+static uint64_t word(uint64_t number, uint64_t gives) { return number | gives << 32; }
+
+static void names(void)
+{
+    static const char *const table[] = {"done",         "length",   "number",  "damaged",      "not an index",
+                                        "held already", "not held", "no room", "output short", "idle",
+                                        "unreadable"};
+    uint32_t number;
+
+    for (number = 0; number < 300; number++) {
+        const char *name = number < 11 ? table[number] : number == 255 ? "result short" : "unknown";
+        same(name, strcmp(amiqsovik_name(number), name) == 0, 1);
+    }
+    same("the name of 4294967295", strcmp(amiqsovik_name(UINT32_MAX), "unknown") == 0, 1);
+}
+
+static void version(void)
+{
+    char text[32];
+
+    snprintf(text, sizeof text, "%d.%d.%d", AMIQSOVIK_VERSION / 10000, AMIQSOVIK_VERSION / 100 % 100,
+             AMIQSOVIK_VERSION % 100);
+    same("the version's text", strcmp(text, AMIQSOVIK_VERSION_TEXT) == 0, 1);
+    same("the version's first number", AMIQSOVIK_VERSION / 10000, AMIQSOVIK_VERSION_MAJOR);
+}
+
+/* Three pairs at fill 1: the slack is -1. */
+static void make(uint8_t *store)
+{
+    uint32_t hash;
+
+    same("format", amiqsovik_format(store, BYTES, 1), word(AMIQSOVIK_DONE, 0));
+    for (hash = 0; hash < 3; hash++)
+        same("insert", amiqsovik_insert(store, BYTES, hash, 7, 1), word(AMIQSOVIK_DONE, 0));
+}
+
+/* What the bytes of a standing say of the store that `make` makes. */
+static void standing_values(const uint8_t *result)
+{
+    struct amiqsovik_standing_values now = amiqsovik_stands(result);
+
+    same("count", now.count, 3);
+    same("buckets", now.buckets, 2);
+    same("phase", now.phase, AMIQSOVIK_PHASE_NONE);
+    same("buckets of a job", now.old_bucket | now.new_bucket, 0);
+    same("slack", (uint64_t)now.slack, UINT64_MAX);
+}
+
+/* Standing with results of several lengths: what it answers where the result is long enough, and what it leaves. */
+static void standing(const char *what, const uint8_t *store, size_t length, uint64_t answer)
+{
+    static const size_t lengths[] = {0, 1, 27, 28, 30, ROOM};
+    uint8_t result[ROOM], blank[ROOM];
+    size_t i, written;
+
+    memset(blank, MARK, ROOM);
+    for (i = 0; i < sizeof lengths / sizeof lengths[0]; i++) {
+        int is_short = lengths[i] < AMIQSOVIK_RESULT_BYTES;
+
+        memset(result, MARK, ROOM);
+        same(what, amiqsovik_standing(store, length, result, lengths[i]),
+             is_short ? word(AMIQSOVIK_RESULT_SHORT, 28) : answer);
+        written = !is_short && answer == AMIQSOVIK_DONE ? 28 : 0;
+        if (written > 0)
+            standing_values(result);
+        same(what, memcmp(result + written, blank, ROOM - written) == 0, 1);
+    }
+    same(what, amiqsovik_standing(store, length, NULL, 0), word(AMIQSOVIK_RESULT_SHORT, 28));
+}
+
+/* Standing of a sound store and of stores that it refuses. */
+static void standings(const uint8_t *sound)
+{
+    uint8_t store[BYTES];
+
+    same("255", AMIQSOVIK_RESULT_SHORT, 255);
+    standing("a sound store", sound, BYTES, word(AMIQSOVIK_DONE, 0));
+    standing("no store", NULL, 0, word(AMIQSOVIK_LENGTH, 0));
+    standing("seven bytes", sound, 7, word(AMIQSOVIK_LENGTH, 0));
+    memcpy(store, sound, BYTES);
+    store[2 * AMIQSOVIK_BLOCK_BYTES + 9] ^= 1;
+    standing("block 2 damaged", store, BYTES, word(AMIQSOVIK_DAMAGED, 2));
+    /* All checks are right, but the meta block says that there are five blocks. */
+    standing("four of five blocks", sound, BYTES - AMIQSOVIK_BLOCK_BYTES, word(AMIQSOVIK_NOT_AN_INDEX, 1));
+}
+
+/* Each other refusal, with the store and the output as they were. */
+static void refusals(const uint8_t *sound)
+{
+    uint8_t store[BYTES], output[ROOM], blank[ROOM];
+
+    memcpy(store, sound, BYTES);
+    memset(output, MARK, ROOM);
+    memset(blank, MARK, ROOM);
+    same("verify", amiqsovik_verify(store, 7), word(AMIQSOVIK_LENGTH, 0));
+    same("format", amiqsovik_format(store, BYTES, 41), word(AMIQSOVIK_NUMBER, 0));
+    same("insert", amiqsovik_insert(store, BYTES, 0, 7, 65536), word(AMIQSOVIK_NUMBER, 0));
+    same("insert", amiqsovik_insert(store, BYTES, 0, 7, 1), word(AMIQSOVIK_HELD_ALREADY, 0));
+    same("remove", amiqsovik_remove(store, BYTES, 0, 7, 2), word(AMIQSOVIK_NOT_HELD, 0));
+    same("work", amiqsovik_work(store, BYTES, 65536), word(AMIQSOVIK_NUMBER, 0));
+    same("lookup", amiqsovik_lookup(store, BYTES, 0, output, 5), word(AMIQSOVIK_OUTPUT_SHORT, 1));
+    same("lookup", amiqsovik_lookup(store, BYTES, 0, NULL, 0), word(AMIQSOVIK_OUTPUT_SHORT, 1));
+    same("the output", memcmp(output, blank, ROOM) == 0, 1);
+    same("the store", memcmp(store, sound, BYTES) == 0, 1);
+}
+
+/* A store of four blocks has no room for a 41st pair of one code. */
+static void no_room(void)
+{
+    uint8_t store[4 * AMIQSOVIK_BLOCK_BYTES], before[sizeof store];
+    uint32_t reading;
+
+    same("format", amiqsovik_format(store, sizeof store, 40), word(AMIQSOVIK_DONE, 0));
+    for (reading = 0; reading < 40; reading++)
+        same("insert", amiqsovik_insert(store, sizeof store, 2, reading, 1), word(AMIQSOVIK_DONE, 0));
+    memcpy(before, store, sizeof store);
+    same("insert", amiqsovik_insert(store, sizeof store, 2, 40, 1), word(AMIQSOVIK_NO_ROOM, 0));
+    same("the full store", memcmp(store, before, sizeof store) == 0, 1);
+}
+
+int main(void)
+{
+    uint8_t sound[BYTES];
+
+    make(sound);
+    names();
+    version();
+    standings(sound);
+    refusals(sound);
+    no_room();
+    return wrong;
+}
