@@ -1,14 +1,16 @@
 //! What the calls answer.
 
-use std::error::Error;
-use std::fmt;
+use core::error::Error;
+use core::fmt;
 
-/// Why a call was refused. A refused call changed neither the store nor the output.
+/// Why a call was refused. A refused call wrote nothing: the store and the output are as they were.
 #[derive(Debug, Clone, Copy, PartialEq, Eq, Hash)]
+#[non_exhaustive]
 pub enum Refusal {
     /// 1: the store is not 4 to 128 blocks of 512 bytes.
     Length,
-    /// 2: an offset of 0 or above 65535, a reading block of 4294967295, a fill outside 1..=40, or a budget above 65535.
+    /// 2: an offset of 0 or above 65535, a reading block of 4294967295, a fill outside 1..=40, or a budget above
+    /// 65535.
     Number,
     /// 3: a block's check is wrong.
     Damaged {
@@ -31,15 +33,24 @@ pub enum Refusal {
         /// The number of matches; each takes 6 bytes.
         matches: u32,
     },
+    /// Any other number. An archive of this package's version never answers it; `include/amiqsovik.h` beside the
+    /// archive says what it means.
+    Unknown {
+        /// The number.
+        number: u8,
+        /// What it gives besides.
+        gives: u32,
+    },
 }
 
 impl Refusal {
-    /// The number of the refusal, 1 to 8.
+    /// The number of the refusal.
     ///
     /// ```
     /// assert_eq!(amiqsovik::Refusal::NoRoom.number(), 7);
     /// ```
-    pub fn number(self) -> u8 {
+    #[must_use]
+    pub const fn number(self) -> u8 {
         match self {
             Refusal::Length => 1,
             Refusal::Number => 2,
@@ -49,6 +60,43 @@ impl Refusal {
             Refusal::NotHeld => 6,
             Refusal::NoRoom => 7,
             Refusal::OutputShort { .. } => 8,
+            Refusal::Unknown { number, .. } => number,
+        }
+    }
+
+    /// What the refusal gives besides its number: a block, a rule or a number of matches, else 0.
+    ///
+    /// ```
+    /// assert_eq!(amiqsovik::Refusal::Damaged { block: 3 }.gives(), 3);
+    /// ```
+    #[must_use]
+    pub const fn gives(self) -> u32 {
+        match self {
+            Refusal::Damaged { block: gives }
+            | Refusal::NotAnIndex { rule: gives }
+            | Refusal::OutputShort { matches: gives }
+            | Refusal::Unknown { gives, .. } => gives,
+            Refusal::Length | Refusal::Number | Refusal::HeldAlready | Refusal::NotHeld | Refusal::NoRoom => 0,
+        }
+    }
+
+    /// The name of the refusal, as in document 01's table; `Display` has a sentence.
+    ///
+    /// ```
+    /// assert_eq!(amiqsovik::Refusal::HeldAlready.name(), "held already");
+    /// ```
+    #[must_use]
+    pub const fn name(self) -> &'static str {
+        match self {
+            Refusal::Length => "length",
+            Refusal::Number => "number",
+            Refusal::Damaged { .. } => "damaged",
+            Refusal::NotAnIndex { .. } => "not an index",
+            Refusal::HeldAlready => "held already",
+            Refusal::NotHeld => "not held",
+            Refusal::NoRoom => "no room",
+            Refusal::OutputShort { .. } => "output short",
+            Refusal::Unknown { .. } => "unknown",
         }
     }
 }
@@ -64,6 +112,7 @@ impl fmt::Display for Refusal {
             Refusal::NotHeld => f.write_str("the pair is not held"),
             Refusal::NoRoom => f.write_str("the store has no room"),
             Refusal::OutputShort { matches } => write!(f, "the output is too short for {matches} matches"),
+            Refusal::Unknown { number, gives } => write!(f, "refused with {number}, an unknown number, and {gives}"),
         }
     }
 }
@@ -91,6 +140,15 @@ pub enum Phase {
         /// The bucket that was populated.
         new: u32,
     },
+    /// Any other phase. An archive of this package's version never answers it.
+    Unknown {
+        /// The phase's number.
+        number: u32,
+        /// The first bucket that came with it.
+        old: u32,
+        /// The second.
+        new: u32,
+    },
 }
 
 /// How an index stands.
@@ -108,6 +166,7 @@ pub struct Standing {
 
 /// Why [`work`](crate::work) stopped.
 #[derive(Debug, Clone, Copy, PartialEq, Eq, Hash)]
+#[non_exhaustive]
 pub enum Stop {
     /// 0: the budget is spent.
     Spent,
@@ -115,15 +174,22 @@ pub enum Stop {
     NoRoom,
     /// 9: there is no job, and no split is wanted.
     Idle,
+    /// Any other number. An archive of this package's version never answers it.
+    Unknown {
+        /// The number.
+        number: u8,
+    },
 }
 
 impl Stop {
-    /// The number of the stop: 0, 7 or 9.
-    pub fn number(self) -> u8 {
+    /// The number of the stop.
+    #[must_use]
+    pub const fn number(self) -> u8 {
         match self {
             Stop::Spent => 0,
             Stop::NoRoom => 7,
             Stop::Idle => 9,
+            Stop::Unknown { number } => number,
         }
     }
 }

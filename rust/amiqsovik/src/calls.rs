@@ -1,11 +1,17 @@
 //! The seven calls, over plain slices and plain numbers.
 
-use crate::answer::{Phase, Refusal, Standing, Worked};
+use crate::answer::{Refusal, Standing, Worked};
 use crate::foreign;
 use crate::matches::Matches;
-use crate::word::Word;
+use crate::word::{self, Word};
 
 /// Judges a store: done if it is a sound index.
+///
+/// # Errors
+///
+/// [`Length`](Refusal::Length), [`Damaged`](Refusal::Damaged) or [`NotAnIndex`](Refusal::NotAnIndex).
+///
+/// # Examples
 ///
 /// ```
 /// use amiqsovik::{verify, Refusal};
@@ -19,6 +25,12 @@ pub fn verify(store: &[u8]) -> Result<(), Refusal> {
 /// Makes a store of any bytes an empty index. `fill`, 1 to 40, is the number of pairs a bucket above which buckets
 /// split.
 ///
+/// # Errors
+///
+/// [`Length`](Refusal::Length) or [`Number`](Refusal::Number).
+///
+/// # Examples
+///
 /// ```
 /// let mut store = [0; 8 * 512];
 /// amiqsovik::format(&mut store, 30)?;
@@ -30,6 +42,14 @@ pub fn format(store: &mut [u8], fill: u32) -> Result<(), Refusal> {
 }
 
 /// Puts in the pair of a hash code and a reading's place. An offset that does not fit 16 bits is refused, as 0 is.
+///
+/// # Errors
+///
+/// [`Length`](Refusal::Length), [`Number`](Refusal::Number), [`Damaged`](Refusal::Damaged),
+/// [`NotAnIndex`](Refusal::NotAnIndex), [`HeldAlready`](Refusal::HeldAlready) or [`NoRoom`](Refusal::NoRoom): the
+/// first that fits.
+///
+/// # Examples
 ///
 /// ```
 /// # let mut store = [0; 8 * 512];
@@ -46,6 +66,13 @@ pub fn insert(store: &mut [u8], hash: u32, block: u32, offset: u32) -> Result<()
 
 /// Takes a pair out.
 ///
+/// # Errors
+///
+/// [`Length`](Refusal::Length), [`Number`](Refusal::Number), [`Damaged`](Refusal::Damaged),
+/// [`NotAnIndex`](Refusal::NotAnIndex) or [`NotHeld`](Refusal::NotHeld): the first that fits.
+///
+/// # Examples
+///
 /// ```
 /// # let mut store = [0; 8 * 512];
 /// # amiqsovik::format(&mut store, 30)?;
@@ -59,6 +86,13 @@ pub fn remove(store: &mut [u8], hash: u32, block: u32, offset: u32) -> Result<()
 
 /// Writes the readings held under a hash code to the output, 6 bytes each, and gives them. Later bytes of the output
 /// stay as they are.
+///
+/// # Errors
+///
+/// [`Length`](Refusal::Length), [`Damaged`](Refusal::Damaged), [`NotAnIndex`](Refusal::NotAnIndex) or
+/// [`OutputShort`](Refusal::OutputShort): the first that fits.
+///
+/// # Examples
 ///
 /// ```
 /// # let mut store = [0; 8 * 512];
@@ -81,6 +115,14 @@ pub fn lookup<'o>(store: &[u8], hash: u32, output: &'o mut [u8]) -> Result<Match
 /// Makes up to `budget` steps, at most 65535, of the splits that are wanted. The store is a sound index after each
 /// step.
 ///
+/// # Errors
+///
+/// [`Length`](Refusal::Length), [`Number`](Refusal::Number), [`Damaged`](Refusal::Damaged) or
+/// [`NotAnIndex`](Refusal::NotAnIndex): the first that fits. No room for a step is no refusal, but a
+/// [`Stop`](crate::Stop): the steps made before it stay.
+///
+/// # Examples
+///
 /// ```
 /// # let mut store = [0; 8 * 512];
 /// use amiqsovik::{format, insert, work, Stop, Worked};
@@ -99,6 +141,12 @@ pub fn work(store: &mut [u8], budget: u32) -> Result<Worked, Refusal> {
 
 /// How the index stands.
 ///
+/// # Errors
+///
+/// [`Length`](Refusal::Length), [`Damaged`](Refusal::Damaged) or [`NotAnIndex`](Refusal::NotAnIndex).
+///
+/// # Examples
+///
 /// ```
 /// # let mut store = [0; 8 * 512];
 /// use amiqsovik::{format, standing, Phase, Standing};
@@ -108,16 +156,7 @@ pub fn work(store: &mut [u8], budget: u32) -> Result<Worked, Refusal> {
 /// # Ok::<(), amiqsovik::Refusal>(())
 /// ```
 pub fn standing(store: &[u8]) -> Result<Standing, Refusal> {
-    let mut result = [0; 28];
+    let mut result = [0; word::RESULT_SIZE];
     Word(foreign::standing(store, &mut result)).done()?;
-    let (numbers, slack) = result.split_at(20);
-    let number = |i: usize| u32::from_le_bytes(std::array::from_fn(|k| numbers[4 * i + k]));
-    let phase = match number(2) {
-        0 => Phase::None,
-        1 => Phase::Copying { old: number(3), new: number(4) },
-        2 => Phase::Clearing { old: number(3), new: number(4) },
-        other => panic!("the archive answered with phase {other}"),
-    };
-    let slack = i64::from_le_bytes(std::array::from_fn(|k| slack[k]));
-    Ok(Standing { count: number(0), buckets: number(1), phase, slack })
+    Ok(word::standing(&result))
 }

@@ -1,5 +1,7 @@
 //! The archive's functions, and the only unsafe code: each call lends slices for as long as it runs.
 
+use crate::word::RESULT_SIZE;
+
 mod c {
     #![allow(clippy::missing_safety_doc)]
 
@@ -49,32 +51,7 @@ pub fn work(store: &mut [u8], budget: u32) -> u64 {
     unsafe { c::amiqsovik_work(store.as_mut_ptr(), store.len(), budget) }
 }
 
-pub fn standing(store: &[u8], result: &mut [u8; 28]) -> u64 {
+pub fn standing(store: &[u8], result: &mut [u8; RESULT_SIZE]) -> u64 {
     // SAFETY: the store is lent to be read, the result to be changed, and they do not overlap.
     unsafe { c::amiqsovik_standing(store.as_ptr(), store.len(), result.as_mut_ptr(), result.len()) }
-}
-
-#[cfg(test)]
-mod tests {
-    use super::c;
-
-    /// The one answer that the wrapper never gets, since it always lends 28 bytes.
-    #[test]
-    fn a_short_result_is_refused_first() {
-        for len in [0, 1, 27] {
-            let mut result = [0x5A; 28];
-            // SAFETY: both pointers are those of arrays, with at most their lengths, and the arrays do not overlap.
-            let word = unsafe { c::amiqsovik_standing([0; 7].as_ptr(), 7, result.as_mut_ptr(), len) };
-            assert_eq!((word, result), (28 << 32 | 11, [0x5A; 28]));
-        }
-    }
-
-    /// What standing leaves in the result: zeros on a refusal, and nothing past 28 bytes.
-    #[test]
-    fn a_refused_standing_gives_zeros() {
-        let mut result = [0x5A; 30];
-        // SAFETY: as above.
-        let word = unsafe { c::amiqsovik_standing([0; 7].as_ptr(), 7, result.as_mut_ptr(), result.len()) };
-        assert_eq!((word, result[..28].to_vec(), result[28..].to_vec()), (1, vec![0; 28], vec![0x5A; 2]));
-    }
 }

@@ -2,8 +2,8 @@
 //!
 //! A store is a byte slice of 4 to 128 blocks of 512 bytes that you own and lend. The index keeps pairs in it: a
 //! 32-bit hash code and the place of a [`Reading`]. The code behind the calls is machine-checked: whatever bytes and
-//! numbers it is given, each call ends, and either is done or gives a [`Refusal`] and changes nothing. It allocates
-//! nothing.
+//! numbers it is given, each call ends, and either is done or gives a [`Refusal`] and writes nothing. It allocates
+//! nothing, and needs no `std`.
 //!
 //! The seven calls are functions over slices; [`Store`] has them as methods.
 //!
@@ -21,7 +21,8 @@
 //! Splits of buckets go step by step, when you say so: call [`work`] when [`standing`]'s slack is below zero. Lookups
 //! find the same readings before, between and after the steps.
 
-#![warn(missing_docs)]
+#![no_std]
+#![warn(missing_docs, clippy::missing_errors_doc, clippy::missing_panics_doc)]
 #![deny(unsafe_code)]
 
 mod answer;

@@ -1,8 +1,9 @@
 //! A lent slice with the calls as methods.
 
 use crate::answer::{Refusal, Standing, Worked};
-use crate::calls;
 use crate::matches::{Matches, Reading};
+use crate::{calls, BLOCK_SIZE};
+use core::fmt;
 
 /// A store: a lent slice, with the calls as methods. It holds no state but the bytes, and every call judges them anew.
 ///
@@ -19,19 +20,28 @@ use crate::matches::{Matches, Reading};
 /// }
 /// # Ok::<(), amiqsovik::Refusal>(())
 /// ```
-#[derive(Debug)]
 pub struct Store<'a> {
     bytes: &'a mut [u8],
 }
 
 impl<'a> Store<'a> {
     /// Formats the bytes; see [`format`](crate::format).
+    ///
+    /// # Errors
+    ///
+    /// As [`format`](crate::format) has them.
     pub fn formatted(bytes: &'a mut [u8], fill: u32) -> Result<Self, Refusal> {
         calls::format(bytes, fill)?;
         Ok(Store { bytes })
     }
 
     /// Opens bytes that are a sound index; see [`verify`](crate::verify).
+    ///
+    /// # Errors
+    ///
+    /// As [`verify`](crate::verify) has them.
+    ///
+    /// # Examples
     ///
     /// ```
     /// use amiqsovik::{Refusal, Store};
@@ -43,32 +53,88 @@ impl<'a> Store<'a> {
     }
 
     /// The bytes.
+    #[must_use]
     pub fn as_bytes(&self) -> &[u8] {
         self.bytes
     }
 
     /// Puts in a pair; see [`insert`](crate::insert).
+    ///
+    /// # Errors
+    ///
+    /// As [`insert`](crate::insert) has them.
     pub fn insert(&mut self, hash: u32, reading: Reading) -> Result<(), Refusal> {
         calls::insert(self.bytes, hash, reading.block, reading.offset.into())
     }
 
     /// Takes out a pair; see [`remove`](crate::remove).
+    ///
+    /// # Errors
+    ///
+    /// As [`remove`](crate::remove) has them.
     pub fn remove(&mut self, hash: u32, reading: Reading) -> Result<(), Refusal> {
         calls::remove(self.bytes, hash, reading.block, reading.offset.into())
     }
 
     /// The readings held under a hash code; see [`lookup`](crate::lookup).
+    ///
+    /// # Errors
+    ///
+    /// As [`lookup`](crate::lookup) has them.
     pub fn lookup<'o>(&self, hash: u32, output: &'o mut [u8]) -> Result<Matches<'o>, Refusal> {
         calls::lookup(self.bytes, hash, output)
     }
 
     /// Makes steps of splits; see [`work`](crate::work).
+    ///
+    /// # Errors
+    ///
+    /// As [`work`](crate::work) has them.
     pub fn work(&mut self, budget: u32) -> Result<Worked, Refusal> {
         calls::work(self.bytes, budget)
     }
 
     /// How the index stands; see [`standing`](crate::standing).
+    ///
+    /// # Errors
+    ///
+    /// As [`standing`](crate::standing) has them.
     pub fn standing(&self) -> Result<Standing, Refusal> {
         calls::standing(self.bytes)
+    }
+}
+
+/// The number of blocks, and how the store stands or why not, judged anew; not its bytes.
+///
+/// ```
+/// let mut bytes = [0; 16 * 512];
+/// let store = amiqsovik::Store::formatted(&mut bytes, 10)?;
+/// let shown = "Store { blocks: 16, standing: Standing { count: 0, buckets: 2, phase: None, slack: 20 }, .. }";
+/// assert_eq!(format!("{store:?}"), shown);
+/// # Ok::<(), amiqsovik::Refusal>(())
+/// ```
+impl fmt::Debug for Store<'_> {
+    fn fmt(&self, f: &mut fmt::Formatter<'_>) -> fmt::Result {
+        let mut shown = f.debug_struct("Store");
+        shown.field("blocks", &(self.bytes.len() / BLOCK_SIZE));
+        match self.standing() {
+            Ok(standing) => shown.field("standing", &standing),
+            Err(refusal) => shown.field("refusal", &refusal),
+        };
+        shown.finish_non_exhaustive()
+    }
+}
+
+#[cfg(test)]
+mod tests {
+    extern crate std;
+
+    use super::*;
+    use std::format;
+
+    #[test]
+    fn shown_where_it_is_refused() {
+        let shown = "Store { blocks: 128, refusal: Damaged { block: 0 }, .. }";
+        assert_eq!(format!("{:?}", Store { bytes: &mut [0; 128 * BLOCK_SIZE] }), shown);
     }
 }

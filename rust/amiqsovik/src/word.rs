@@ -1,8 +1,11 @@
-//! The one word that each call of the archive answers.
+//! What the archive answers, taken apart: the word of each call, and the bytes that standing writes.
 
-use crate::answer::{Refusal, Stop};
+use crate::answer::{Phase, Refusal, Standing, Stop};
 
-/// A word, taken apart.
+/// The bytes that standing writes.
+pub const RESULT_SIZE: usize = 28;
+
+/// The word that a call answers.
 #[derive(Clone, Copy)]
 pub struct Word(pub u64);
 
@@ -19,27 +22,87 @@ impl Word {
 
     /// Bits 8..15: work's stop.
     pub fn stop(self) -> Stop {
-        match self.0 >> 8 & 0xFF {
+        match (self.0 >> 8) as u8 {
             0 => Stop::Spent,
             7 => Stop::NoRoom,
             9 => Stop::Idle,
-            other => panic!("the archive answered with stop {other}"),
+            number => Stop::Unknown { number },
         }
     }
 
     /// Bits 0..7: done, or the refusal.
     pub fn done(self) -> Result<Self, Refusal> {
-        match self.0 & 0xFF {
-            0 => Ok(self),
-            1 => Err(Refusal::Length),
-            2 => Err(Refusal::Number),
-            3 => Err(Refusal::Damaged { block: self.gives() }),
-            4 => Err(Refusal::NotAnIndex { rule: self.gives() }),
-            5 => Err(Refusal::HeldAlready),
-            6 => Err(Refusal::NotHeld),
-            7 => Err(Refusal::NoRoom),
-            8 => Err(Refusal::OutputShort { matches: self.gives() }),
-            other => panic!("the archive answered with number {other}"),
+        let gives = self.gives();
+        Err(match self.0 as u8 {
+            0 => return Ok(self),
+            1 => Refusal::Length,
+            2 => Refusal::Number,
+            3 => Refusal::Damaged { block: gives },
+            4 => Refusal::NotAnIndex { rule: gives },
+            5 => Refusal::HeldAlready,
+            6 => Refusal::NotHeld,
+            7 => Refusal::NoRoom,
+            8 => Refusal::OutputShort { matches: gives },
+            number => Refusal::Unknown { number, gives },
+        })
+    }
+}
+
+/// The bytes of a standing: count, buckets, phase, old and new bucket, 32 bits each, and the slack, 64 bits.
+pub fn standing(result: &[u8; RESULT_SIZE]) -> Standing {
+    let (numbers, slack) = result.split_at(20);
+    let number = |i: usize| u32::from_le_bytes(core::array::from_fn(|k| numbers[4 * i + k]));
+    let (old, new) = (number(3), number(4));
+    let phase = match number(2) {
+        0 => Phase::None,
+        1 => Phase::Copying { old, new },
+        2 => Phase::Clearing { old, new },
+        number => Phase::Unknown { number, old, new },
+    };
+    let slack = i64::from_le_bytes(core::array::from_fn(|k| slack[k]));
+    Standing { count: number(0), buckets: number(1), phase, slack }
+}
+
+#[cfg(test)]
+mod tests {
+    use super::*;
+
+    /// Document 01's table, and what a word with each number becomes. 11 to 14 and 255 are none of the wrapper's.
+    #[test]
+    fn refusals_by_number() {
+        let names =
+            ["length", "number", "damaged", "not an index", "held already", "not held", "no room", "output short"];
+        for number in 1..=255u8 {
+            let refusal = Word(77 << 32 | u64::from(number)).done().err().expect("a refusal");
+            let name = names.get(usize::from(number) - 1).unwrap_or(&"unknown");
+            let gives = if [1, 2, 5, 6, 7].contains(&number) { 0 } else { 77 };
+            assert_eq!((refusal.number(), refusal.gives(), refusal.name()), (number, gives, *name));
+        }
+        assert_eq!(Word(11).done().err(), Some(Refusal::Unknown { number: 11, gives: 0 }));
+        assert_eq!(Word(77 << 32).done().map(Word::gives), Ok(77));
+    }
+
+    #[test]
+    fn stops_by_number() {
+        for number in 0..=255u8 {
+            let word = Word(0x1234 << 16 | u64::from(number) << 8);
+            assert_eq!((word.stop().number(), word.steps()), (number, 0x1234));
+            assert_eq!(matches!(word.stop(), Stop::Unknown { .. }), ![0, 7, 9].contains(&number));
+        }
+    }
+
+    #[test]
+    fn phases_by_number() {
+        let mut result = [0; RESULT_SIZE];
+        (result[0], result[5], result[12], result[16]) = (9, 1, 4, 12);
+        result[20..].copy_from_slice(&(-6i64).to_le_bytes());
+        let (old, new) = (4, 12);
+        let phases = [Phase::None, Phase::Copying { old, new }, Phase::Clearing { old, new }];
+        for number in 0..=255u8 {
+            result[8] = number;
+            let unknown = Phase::Unknown { number: number.into(), old, new };
+            let phase = *phases.get(usize::from(number)).unwrap_or(&unknown);
+            assert_eq!(standing(&result), Standing { count: 9, buckets: 256, phase, slack: -6 });
         }
     }
 }

@@ -1,7 +1,7 @@
 //! The two implementations behind one interface, their answers in document 01's numbers.
 
-/// An answer: the number of the refusal or 0, what it gives besides, and work's steps and stop. A done lookup gives its
-/// number of matches.
+/// An answer: the number of the refusal or 0, what it gives besides, and work's steps and stop. A done lookup gives
+/// its number of matches.
 #[derive(Debug, Clone, Copy, PartialEq, Eq, Default)]
 pub struct Reply {
     pub number: u8,
@@ -87,6 +87,7 @@ impl Side for Proved {
                     Phase::None => (0, 0, 0),
                     Phase::Copying { old, new } => (1, old, new),
                     Phase::Clearing { old, new } => (2, old, new),
+                    Phase::Unknown { number, old, new } => (number, old, new),
                 };
                 let state = State { count: now.count, buckets: now.buckets, phase, old, new, slack: now.slack };
                 (Reply::default(), state)
@@ -97,16 +98,9 @@ impl Side for Proved {
 }
 
 fn proved(answer: Result<(), amiqsovik::Refusal>) -> Reply {
-    use amiqsovik::Refusal::{Damaged, NotAnIndex, OutputShort};
     match answer {
         Ok(()) => Reply::default(),
-        Err(refusal) => {
-            let gives = match refusal {
-                Damaged { block: n } | NotAnIndex { rule: n } | OutputShort { matches: n } => n,
-                _ => 0,
-            };
-            Reply::refused(refusal.number(), gives)
-        }
+        Err(refusal) => Reply::refused(refusal.number(), refusal.gives()),
     }
 }
 

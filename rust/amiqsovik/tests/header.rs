@@ -1,0 +1,49 @@
+//! The package and include/amiqsovik.h say the same of the version, the sizes and the names.
+
+use amiqsovik::{Refusal, Stop, BLOCK_SIZE, MATCH_SIZE};
+
+const HEADER: &str = include_str!("../../../include/amiqsovik.h");
+
+/// What the header defines a name as.
+fn defined(name: &str) -> &'static str {
+    let rest = HEADER.lines().find_map(|line| line.strip_prefix("#define AMIQSOVIK_")?.strip_prefix(name));
+    let value = rest.and_then(|rest| rest.strip_prefix(' ')).expect(name);
+    value.split("/*").next().unwrap_or_default().trim()
+}
+
+#[test]
+fn version() {
+    assert_eq!(defined("VERSION_TEXT"), format!("{:?}", env!("CARGO_PKG_VERSION")));
+    assert_eq!(defined("VERSION_MAJOR"), env!("CARGO_PKG_VERSION_MAJOR"));
+    assert_eq!(defined("VERSION_MINOR"), env!("CARGO_PKG_VERSION_MINOR"));
+    assert_eq!(defined("VERSION_PATCH"), env!("CARGO_PKG_VERSION_PATCH"));
+}
+
+#[test]
+fn sizes() {
+    assert_eq!(defined("BLOCK_BYTES"), BLOCK_SIZE.to_string());
+    assert_eq!(defined("MATCH_BYTES"), MATCH_SIZE.to_string());
+    assert_eq!((defined("RESULT_BYTES"), defined("RESULT_SHORT")), ("28", "255"));
+}
+
+#[test]
+fn numbers_and_names() {
+    let refusals = [
+        ("LENGTH", Refusal::Length),
+        ("NUMBER", Refusal::Number),
+        ("DAMAGED", Refusal::Damaged { block: 1 }),
+        ("NOT_AN_INDEX", Refusal::NotAnIndex { rule: 1 }),
+        ("HELD_ALREADY", Refusal::HeldAlready),
+        ("NOT_HELD", Refusal::NotHeld),
+        ("NO_ROOM", Refusal::NoRoom),
+        ("OUTPUT_SHORT", Refusal::OutputShort { matches: 1 }),
+    ];
+    for (name, refusal) in refusals {
+        assert_eq!(defined(name), refusal.number().to_string(), "{name}");
+        let case = format!("case AMIQSOVIK_{name}: return {:?};", refusal.name());
+        assert!(HEADER.contains(&case), "the header lacks `{case}`");
+    }
+    for (name, stop) in [("STOP_SPENT", Stop::Spent), ("STOP_NO_ROOM", Stop::NoRoom), ("STOP_IDLE", Stop::Idle)] {
+        assert_eq!(defined(name), stop.number().to_string(), "{name}");
+    }
+}
