@@ -1,15 +1,15 @@
 // The public calls of the index.
 pub mod format; // format.rt: a store made new
 pub mod read; // read.rt: lookup and standing
-pub mod tests; // tests.rt: the tests before a call
-pub mod sound; // sound.rt: changes of a store that passed the tests
+mod tests; // tests.rt: the tests before a call
+mod sound; // sound.rt: changes of a store that passed the tests
 pub mod change; // change.rt: insert and remove
 pub mod work; // work.rt: the steps of splits
 
 use model::Refusal;
 
 // What the tests before a call find: a sound store, or the refusal.
-pub enum Test {
+enum Test {
     Passed,
     Failed(Refusal),
 }

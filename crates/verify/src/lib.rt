@@ -75,7 +75,7 @@ fn judge_rules(store: &[u8]) -> Verdict
 }
 
 // What a store of legal length is: damaged at its lowest such block, not an index by its lowest broken rule, or sound.
-pub fn judge(store: &[u8]) -> Verdict
+fn judge(store: &[u8]) -> Verdict
     requires { ⌜ lengthOk (now store) ≡ true ⌝ }
     ensures { λ r. ⌜ r ≡ verdictOf (verdict (now (store .entry))) ⌝ }
 {
