@@ -1,29 +1,27 @@
--- The bytes that standing writes, one number after the other.
+-- The bytes that standing writes, one number after the other; a refused standing writes none.
 use mathlib.Core.Path.{_≡_, refl, _∙_}
+use mathlib.Core.Logic.{_≢_}
+use mathlib.Core.Bool.{Bool, true, false}
 use mathlib.Core.List.{List, _++_}
 use Prim.Native.Nat.{ℕ, _/_, _%_, _≤_}
+use lib.Dec.{ltb}
 use lib.IntN.{ℤ, pos, negsuc}
-use lib.ListN.{length, drop, replicate}
+use lib.ListN.{length, drop}
 use lib.Seq.{sets, sets-eq}
 use mir.Syntax.{w64}
 use mir.Val.{ofZ}
 use Rattle.lists.specs.BytesLaws.{sets-append}
 use Rattle.endian.specs.Endian.{le32}
 use Rattle.model.specs.declared.Standing.{Standing}
-use Rattle.model.specs.declared.Refusal.{Refusal}
 use Rattle.model.specs.declared.StandingAnswer.{StandingAnswer}
-use Rattle.model.specs.Answers.{phaseNo, phaseOld, phaseNew, standingOf}
-use Rattle.capi.specs.Result.{twosComplement, slackBytes, standingBytes}
+use Rattle.model.specs.Answers.{phaseNo, phaseOld, phaseNew}
+use Rattle.image.specs.Outcomes.{standingOutcome}
+use Rattle.capi.specs.Result.{twosComplement, slackBytes, standingBytes, toldIn, standingTold}
 
 -- the machine's bits of an i64
 pub twosComplement-bits : (z : ℤ) → twosComplement z ≡ ofZ w64 z
 twosComplement-bits (pos n) = refl
 twosComplement-bits (negsuc n) = refl
-
--- "Whatever else its answer has room for is 0, phase none"
-pub refused-bytes : (r : Refusal) → standingBytes (standingOf (StandingAnswer.Refused r)) ≡ replicate 28 0
-unfolding standingBytes slackBytes le32
-refused-bytes r = refl
 
 -- the slack's two halves; l₁ and l₂ are the lists after each store
 pub slack-stores : (l : List ℕ) (z : ℤ) {n : ℕ} {l₁ l₂ : List ℕ} → n ≡ twosComplement z
@@ -46,3 +44,13 @@ module _ (l : List ℕ) (s : Standing) (room : 28 ≤ length l) where
       → old ≡ phaseOld (s .phase) → l₄ ≡ sets l₃ 12 (le32 old) → new ≡ phaseNew (s .phase) → l₅ ≡ sets l₄ 16 (le32 new)
       → z ≡ s .slack → l₆ ≡ sets l₅ 20 (slackBytes z) → l₆ ≡ standingBytes s ++ drop 28 l
   standing-stores e₁ e₂ n e₃ old e₄ new e₅ z e₆ = e₆ ∙ rw (z, e₅, new, e₄, old, e₃, n, e₂, e₁) sets-standing
+
+-- "Every refusal leaves store and output untouched": a word with another number than 0 is a refusal
+pub standing-output : (s out : List ℕ) → standingTold s out .word % 256 ≢ 0 → standingTold s out .result ≡ out
+unfolding standingTold
+standing-output s out refused = go (ltb (length out) 28) (standingOutcome s) refused
+  where
+    go : (short : Bool) (a : StandingAnswer) → toldIn short a out .word % 256 ≢ 0 → toldIn short a out .result ≡ out
+    go true a n = refl
+    go false (StandingAnswer.Stands x) n = absurd (n refl)
+    go false (StandingAnswer.Refused r) n = refl

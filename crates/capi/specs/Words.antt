@@ -32,6 +32,13 @@ workWord a = packed (workNo a) (workStop a) (workSteps a) (workGives a)
 abbrev pub standingWord : StandingAnswer → ℕ
 standingWord a = packed (standingNo a) 0 0 (standingGives a)
 
+-- standing's result has less than 28 bytes: a number outside of every paper's table, and 28 besides
+abbrev pub resultShort : ℕ
+resultShort = 255
+
+abbrev pub shortWord : ℕ
+shortWord = packed resultShort 0 0 28
+
 -- a verdict as the answer of a call that tests the store and does nothing
 abbrev pub verdictAnswer : Verdict → Answer
 verdictAnswer Verdict.BadLength = Answer.Refused Refusal.Length

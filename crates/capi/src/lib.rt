@@ -8,8 +8,7 @@ use index::format::format;
 use index::read::lookup;
 use index::read::standing;
 use index::work::work;
-use result::put_standing;
-use result::standing_in;
+use result::show;
 use verify::verify;
 use words::answer_word;
 use words::lookup_word;
@@ -47,17 +46,20 @@ pub extern "C" fn amiqsovik_lookup(store: &[u8], hash: u32, output: &mut [u8]) -
     lookup_word(lookup(store, hash, output))
 }
 
-// Writes what stands, 28 bytes, to `result`; a shorter `result` is tested first.
+// The number of a `result` of standing that is too short, outside of every paper's table.
+const RESULT_SHORT: u32 = 255;
+
+// Writes what stands, 28 bytes, to `result`; a shorter `result` is tested first. A refusal writes nothing.
 #[no_mangle]
 pub extern "C" fn amiqsovik_standing(store: &[u8], result: &mut [u8]) -> u64
     ensures { λ r. ⌜ r ≡ standingTold (now (store .entry)) (now (result .entry)) .word ⌝ }
     ensures { λ _. ⌜ now (result .exit) ≡ standingTold (now (store .entry)) (now (result .entry)) .result ⌝ }
 {
     if result.len() < 28 {
-        return pack(11, 28);
+        return pack(RESULT_SHORT, 28);
     }
     let answer = standing(store);
-    put_standing(result, standing_in(answer));
+    show(result, answer);
     standing_word(answer)
 }
 

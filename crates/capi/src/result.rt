@@ -8,23 +8,8 @@ ghost use mathlib.Core.List.{_++_};
 ghost use Prim.Native.Nat.{_≤_};
 ghost use lib.ListN.{length, drop};
 ghost use lib.Seq.{sets};
-ghost use Rattle.model.specs.Answers.{phaseNo, phaseOld, phaseNew, standingOf};
-ghost use Rattle.capi.specs.Result.{twosComplement, slackBytes, standingBytes};
-
-// What stands, and zeros of a refusal.
-pub fn standing_in(answer: StandingAnswer) -> Standing
-    ensures { λ r. ⌜ r ≡ standingOf answer ⌝ }
-{
-    match answer {
-        StandingAnswer::Stands(standing) => standing,
-        StandingAnswer::Refused(_) => Standing {
-            count: 0,
-            buckets: 0,
-            phase: Phase::None,
-            slack: 0,
-        },
-    }
-}
+ghost use Rattle.model.specs.Answers.{phaseNo, phaseOld, phaseNew};
+ghost use Rattle.capi.specs.Result.{twosComplement, slackBytes, standingBytes, shown};
 
 fn phase_no(phase: Phase) -> u32
     ensures { λ r. ⌜ r ≡ phaseNo phase ⌝ }
@@ -75,7 +60,7 @@ fn put_slack(result: &mut [u8], slack: i64)
     put_u32(result, 24, (bits / 4294967296) as u32);
 }
 
-pub fn put_standing(result: &mut [u8], standing: Standing)
+fn put_standing(result: &mut [u8], standing: Standing)
     requires { ⌜ 28 ≤ length (now result) ⌝ }
     ensures { λ _. ⌜ now (result .exit) ≡ standingBytes standing ++ drop 28 (now (result .entry)) ⌝ }
 {
@@ -87,4 +72,15 @@ pub fn put_standing(result: &mut [u8], standing: Standing)
     put_u32(result, 16, phase_new(phase));
     let slack = standing.slack;
     put_slack(result, slack);
+}
+
+// Writes what stands; a refusal leaves the slice as it was.
+pub fn show(result: &mut [u8], answer: StandingAnswer)
+    requires { ⌜ 28 ≤ length (now result) ⌝ }
+    ensures { λ _. ⌜ now (result .exit) ≡ shown answer (now (result .entry)) ⌝ }
+{
+    let StandingAnswer::Stands(standing) = answer else {
+        return;
+    };
+    put_standing(result, standing);
 }

@@ -63,7 +63,7 @@ pub fn standing_word(answer: StandingAnswer) -> u64
 }
 
 fn stop_no(stop: Stop) -> u64
-    ensures { λ r. ⌜ (r ≡ stopNo stop) × (r ≤ 9) ⌝ }
+    ensures { λ r. ⌜ (r ≡ stopNo stop) × (r ≤ 255) ⌝ }
 {
     match stop {
         Stop::Spent => 0,

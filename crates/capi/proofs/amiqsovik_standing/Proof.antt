@@ -1,11 +1,9 @@
 use mathlib.Core.Path.{refl, ap, _∙_}
-use mathlib.Core.List.{_++_}
 use borrow.Author.Tests.{lt-ltb, le-ltb}
-use lib.ListN.{length, drop}
-use Rattle.model.specs.declared.Standing.{Standing}
-use Rattle.model.specs.Answers.{standingOf}
+use lib.ListN.{length}
+use Rattle.model.specs.declared.StandingAnswer.{StandingAnswer}
 use Rattle.capi.specs.Words.{standingWord}
-use Rattle.capi.specs.Result.{standingBytes, standingTold}
+use Rattle.capi.specs.Result.{shown, standingTold}
 use borrow.Author.Needs.{needs}
 use Rattle.capi.proofs.amiqsovik_standing.Statement.{statement}
 use Rattle.capi.proofs.amiqsovik_standing.Tie as tie
@@ -22,11 +20,8 @@ returns c =
 standing-requires : tie.Need-standing-requires
 standing-requires c κs = search needs
 
-standing-in-requires : tie.Need-standing-in-requires
-standing-in-requires c κs = search needs
-
-put-standing-requires : tie.Need-put-standing-requires
-put-standing-requires c κs = search needs
+show-requires : tie.Need-show-requires
+show-requires c κs = search needs
 
 standing-word-requires : tie.Need-standing-word-requires
 standing-word-requires c κs = search needs
@@ -38,13 +33,11 @@ returns-2 : tie.Need-returns-2
 unfolding standingTold
 returns-2 c =
     let put = c .before .before .before in
-    let found = put .before .before .before in
+    let found = put .before .before in
     let s = found .before .before .before .before in
     rw (le-ltb (length (s .args .result .now)) 28 (found .before .if1 .left)) (
       c .standing-word .ensures ∙ ap standingWord (found .standing .ensures),
-      put .put-standing .ensures
-          ∙ ap (λ (x : Standing). standingBytes x ++ drop 28 (s .args .result .now))
-          (put .before .standing-in .ensures ∙ ap standingOf (found .standing .ensures)),
+      put .show .ensures ∙ ap (λ (a : StandingAnswer). shown a (s .args .result .now)) (found .standing .ensures),
     )
 
 pub amiqsovik-standing-spec : {M : Type 1} → statement M
@@ -54,8 +47,7 @@ amiqsovik-standing-spec =
     pack-requires
     returns
     standing-requires
-    standing-in-requires
-    put-standing-requires
+    show-requires
     standing-word-requires
     same-length
     returns-2)
