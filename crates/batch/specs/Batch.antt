@@ -1,36 +1,78 @@
 -- A list of calls as numbers, and what running them one after the other leaves.
 use mathlib.Core.Path.{_≡_}
 use mathlib.Core.Bool.{cond}
-use mathlib.Core.List.{List, [], _∷_}
-use Prim.Native.Nat.{ℕ, zero, suc, _+_, _*_}
+use mathlib.Core.List.{List, [], _∷_, _++_}
+use mathlib.Core.Option.{Option, none, some}
+use Prim.Native.Nat.{ℕ, zero, suc, _+_, _*_, _^_, _<_}
 use lib.Dec.{eqb, ltb}
-use lib.ListN.{length, getD, set}
+use lib.ListN.{length, getD, set, take, drop}
 use Rattle.model.specs.Machine.{Call, formatting, inserting, removing, looking, working, asking, Reply, plain, looked}
 use Rattle.model.specs.Machine.{worked, stands}
-use Rattle.image.specs.Outcomes.{runStore}
-use Rattle.capi.specs.Words.{answerWord, lookupWord, workWord}
-use Rattle.capi.specs.Result.{Told, toldIn}
+use Rattle.model.specs.History.{Moment, history, lastOf}
+use Rattle.image.specs.Outcomes.{runStore, onStore}
+use Rattle.capi.specs.Words.{answerWord, lookupWord, workWord, standingWord, shortWord}
+use Rattle.capi.specs.Result.{shown}
 
--- four numbers a call: 0 format (fill), 1 insert (hash, block, offset), 2 remove (hash, block, offset), 3 lookup (hash), which
--- lends the output, 4 work (budget), any other number standing
-unfoldable pub callOf : (kind a b c : ℕ) → (output : List ℕ) → Call
+-- ---- one call
+
+-- Four numbers a call, the kind first: 0 format (fill), 1 insert (hash, block, offset), 2 remove (hash, block, offset),
+-- 3 lookup (hash, bytes), 4 work (budget), any other number standing (unused, bytes). A lookup and a standing are lent
+-- so many bytes from the start of the output, or all of it. A standing that is lent less than 28 bytes is refused
+-- before anything is looked at; it is no call of document 01, so there is none.
+unfoldable pub callOf : (kind a b c : ℕ) → (output : List ℕ) → Option Call
 callOf kind a b c out =
-    cond (eqb kind 0) (formatting a) (cond (eqb kind 1) (inserting (record { hash = a; block = b; offset = c }))
-    (cond (eqb kind 2) (removing (record { hash = a; block = b; offset = c })) (cond (eqb kind 3) (looking a out)
-    (cond (eqb kind 4) (working a) asking))))
+    cond (eqb kind 0) (some (formatting a))
+    (cond (eqb kind 1) (some (inserting (record { hash = a; block = b; offset = c })))
+    (cond (eqb kind 2) (some (removing (record { hash = a; block = b; offset = c })))
+    (cond (eqb kind 3) (some (looking a (take b out)))
+    (cond (eqb kind 4) (some (working a)) (cond (ltb (length (take b out)) 28) none (some asking))))))
 
--- a reply's word, and the output afterwards: a lookup's matches, the 28 bytes of standing
-abbrev pub told : Reply → (output : List ℕ) → Told
-told (plain a) out = record { word = answerWord a; result = out }
-told (looked l) out = record { word = lookupWord (l .answer); result = l .output }
-told (worked a) out = record { word = workWord a; result = out }
-told (stands a) out = toldIn (ltb (length out) 28) a out
+abbrev pub replyWord : Reply → ℕ
+replyWord (plain a) = answerWord a
+replyWord (looked l) = lookupWord (l .answer)
+replyWord (worked a) = workWord a
+replyWord (stands a) = standingWord a
 
--- a call on the store s that lent the output `out`: its word, and the store and the output afterwards
-pub record Ran (s : List ℕ) (c : Call) (out : List ℕ) (w : ℕ) (s′ out′ : List ℕ) : Type 0 where
-  pub word : w ≡ told (runStore c s .reply) out .word
-  pub store : s′ ≡ runStore c s .state
-  pub output : out′ ≡ told (runStore c s .reply) out .result
+-- the output after a reply, where its first n bytes were lent: a lookup's matches, the 28 bytes of standing
+abbrev pub replyOutput : Reply → (lent : ℕ) → (output : List ℕ) → List ℕ
+replyOutput (plain a) n out = out
+replyOutput (looked l) n out = l .output ++ drop n out
+replyOutput (worked a) n out = out
+replyOutput (stands a) n out = shown a (take n out) ++ drop n out
+
+-- A call's word on a store, and the store and the output afterwards. Where there is none, the word is that of a
+-- short result, and nothing changes.
+abbrev pub wordOf : Option Call → (store : List ℕ) → ℕ
+wordOf none s = shortWord
+wordOf (some c) s = replyWord (runStore c s .reply)
+
+abbrev pub storeAfter : Option Call → (store : List ℕ) → List ℕ
+storeAfter none s = s
+storeAfter (some c) s = runStore c s .state
+
+abbrev pub outputAfter : Option Call → (lent : ℕ) → (store output : List ℕ) → List ℕ
+outputAfter none n s out = out
+outputAfter (some c) n s out = replyOutput (runStore c s .reply) n out
+
+-- a call was run: w is its word, s′ and out′ what it left
+pub record Ran (c : Option Call) (lent : ℕ) (s out : List ℕ) (w : ℕ) (s′ out′ : List ℕ) : Type 0 where
+  pub word : w ≡ wordOf c s
+  pub store : s′ ≡ storeAfter c s
+  pub output : out′ ≡ outputAfter c lent s out
+
+-- ---- a list of calls
+
+-- the numbers come as u32
+abbrev pub Small : List ℕ → Type 0
+Small ws = (i : ℕ) → getD ws i 0 < 2 ^ 32
+
+-- call i of the list, where the output is `out`, and how many bytes it is lent
+abbrev pub callAt : (calls : List ℕ) → (i : ℕ) → (output : List ℕ) → Option Call
+callAt ws i out =
+    callOf (getD ws (4 * i) 0) (getD ws (4 * i + 1) 0) (getD ws (4 * i + 2) 0) (getD ws (4 * i + 3) 0) out
+
+abbrev pub lentAt : (calls : List ℕ) → (i : ℕ) → ℕ
+lentAt ws i = getD ws (4 * i + 2) 0
 
 -- What a batch leaves: the store, the lent output, and a word for each call.
 pub record Kept : Type 0 where
@@ -38,22 +80,34 @@ pub record Kept : Type 0 where
   pub output : List ℕ
   pub words : List ℕ
 
-abbrev pub callAt : (calls : List ℕ) → (i : ℕ) → (output : List ℕ) → Call
-callAt ws i out = callOf (getD ws (4 * i) 0) (getD ws (4 * i + 1) 0) (getD ws (4 * i + 2) 0) (getD ws (4 * i + 3) 0) out
-
 -- call i is run
 unfoldable pub ranAt : (calls : List ℕ) → (i : ℕ) → Kept → Kept
 ranAt ws i k =
-    let r = runStore (callAt ws i (k .output)) (k .store) in
-    let t = told (r .reply) (k .output) in
-    record { store = r .state; output = t .result; words = set (k .words) i (t .word) }
+    let c = callAt ws i (k .output) in
+    record {
+      store = storeAfter c (k .store);
+      output = outputAfter c (lentAt ws i) (k .store) (k .output);
+      words = set (k .words) i (wordOf c (k .store));
+    }
 
 -- n calls are run, from call i on
 abbrev pub runs : (calls : List ℕ) → (n i : ℕ) → Kept → Kept
 runs ws zero i k = k
 runs ws (suc n) i k = runs ws n (suc i) (ranAt ws i k)
 
--- those calls, each with the output that it lends
+-- a call, if there is one, and those after it
+abbrev pub also : Option Call → List Call → List Call
+also none cs = cs
+also (some c) cs = c ∷ cs
+
+-- the calls of document 01 among them, each with what it is lent
 abbrev pub callsIn : (calls : List ℕ) → (n i : ℕ) → Kept → List Call
 callsIn ws zero i k = []
-callsIn ws (suc n) i k = callAt ws i (k .output) ∷ callsIn ws n (suc i) (ranAt ws i k)
+callsIn ws (suc n) i k = also (callAt ws i (k .output)) (callsIn ws n (suc i) (ranAt ws i k))
+
+-- the moments of these calls, on from t, and the last of them
+abbrev pub momentsIn : (calls : List ℕ) → (n i : ℕ) → Kept → Moment onStore → List (Moment onStore)
+momentsIn ws n i k t = history onStore (callsIn ws n i k) t
+
+abbrev pub momentAfter : (calls : List ℕ) → (n i : ℕ) → Kept → Moment onStore → Moment onStore
+momentAfter ws n i k t = lastOf onStore t (momentsIn ws n i k t)

@@ -1,56 +1,104 @@
--- A batch is a list of calls: its numbers fit, and the store that it leaves is that of the list's last moment.
-use mathlib.Core.Path.{_≡_, refl, sym, ap, _∙_, subst}
-use mathlib.Core.Logic.{_≢_}
-use mathlib.Core.Bool.{Bool, true, false, cond}
-use mathlib.Core.List.{List, [], _∷_, _++_}
-use Prim.Native.Nat.{ℕ, zero, suc, _+_, _*_, _-_, _^_, _≤_, _<_}
-use native.Mathlib.Numerals.{add-one}
+-- A list of calls splits anywhere: the rest goes on from what its first calls leave, and its moments likewise. The
+-- store of a moment is the one that the calls before it leave, and each word stays as its call left it.
+use mathlib.Core.Path.{_≡_, refl, sym, ap, _∙_}
+use mathlib.Core.Bool.{Bool, true, false}
+use mathlib.Core.List.{List, [], _∷_, _++_, append-assoc}
+use mathlib.Core.Option.{Option, none, some}
+use Prim.Native.Nat.{ℕ, zero, suc, _+_, _*_, _≤_, _<_}
 use native.Mathlib.Omega.{arith}
-use borrow.Author.Tests.{ne-eqb}
-use lib.Dec.{eqb}
-use lib.ListN.{length, getD, set, length-set}
+use lib.ListN.{length, getD, length-set}
+use lib.Seq.{getD-set-same, getD-set-other}
 use Rattle.lists.specs.Lists.{Each}
-use Rattle.page.specs.declared.Pair.{Pair}
-use Rattle.model.specs.Machine.{Call, formatting, inserting, removing, looking, working, asking, CallFits, accepted}
+use Rattle.model.specs.Machine.{Call, CallFits, accepted}
 use Rattle.model.specs.Book.{effect}
 use Rattle.model.specs.History.{Moment, marked, within, after, history, lastOf}
-use Rattle.image.specs.Outcomes.{formatOutcome, insertOutcome, removeOutcome, lookupOutcome, workOutcome, runStore, onStore}
-use Rattle.capi.specs.Words.{answerWord, lookupWord, workWord}
-use Rattle.capi.specs.Result.{standingTold}
-use Rattle.batch.specs.Batch.{callOf, callAt, Ran, Kept, ranAt, runs, callsIn}
+use Rattle.image.specs.Outcomes.{runStore, onStore}
+use Rattle.batch.specs.Batch.{wordOf, storeAfter, Small, callAt, Kept, ranAt, runs, also, callsIn}
+use Rattle.batch.specs.Batch.{momentsIn, momentAfter}
+use Rattle.batch.specs.CallLaws.{MayFit, fits-call}
 
 -- ---- the numbers fit
 
--- 32-bit numbers
-abbrev pub Small : List ℕ → Type 0
-Small ws = (i : ℕ) → getD ws i 0 < 2 ^ 32
+fits-also : (c : Option Call) (cs : List Call) → MayFit c → Each CallFits cs → Each CallFits (also c cs)
+fits-also none cs f g = g
+fits-also (some c) cs f g = (f, g)
 
-fits-call : (kind a b c : ℕ) (out : List ℕ) → a < 2 ^ 32 → b < 2 ^ 32 → c < 2 ^ 32 → CallFits (callOf kind a b c out)
-unfolding callOf
-fits-call kind a b c out ha hb hc = go (eqb kind 0) (eqb kind 1) (eqb kind 2) (eqb kind 3) (eqb kind 4)
-  where
-    go : (p q r s t : Bool)
-        → CallFits (cond p (formatting a) (cond q (inserting (record { hash = a; block = b; offset = c }))
-        (cond r (removing (record { hash = a; block = b; offset = c })) (cond s (looking a out)
-        (cond t (working a) asking)))))
-    go true q r s t = ha
-    go false true r s t = (ha, hb, hc)
-    go false false true s t = (ha, hb, hc)
-    go false false false true t = ha
-    go false false false false true = ha
-    go false false false false false = tt
+module _ (ws : List ℕ) where
+  pub fits-calls : Small ws → (n i : ℕ) (k : Kept) → Each CallFits (callsIn ws n i k)
+  fits-calls h zero i k = tt
+  fits-calls h (suc n) i k =
+      fits-also (callAt ws i (k .output)) (callsIn ws n (suc i) (ranAt ws i k))
+      (fits-call _ _ _ _ (k .output) (h (4 * i + 1)) (h (4 * i + 2)) (h (4 * i + 3)))
+      (fits-calls h n (suc i) (ranAt ws i k))
 
-pub fits-calls : (ws : List ℕ) → Small ws → (n i : ℕ) (k : Kept) → Each CallFits (callsIn ws n i k)
-fits-calls ws h zero i k = tt
-fits-calls ws h (suc n) i k =
-    (fits-call _ _ _ _ (k .output) (h (4 * i + 1)) (h (4 * i + 2)) (h (4 * i + 3)), fits-calls ws h n (suc i) (ranAt ws i k))
+  -- ---- the calls split
 
--- ---- the moments
+  pub runs-split : (m n i : ℕ) (k : Kept) → runs ws (m + n) i k ≡ runs ws n (i + m) (runs ws m i k)
+  runs-split zero n i k =
+      let e : 0 + n ≡ n = omega arith in
+      let f : i ≡ i + 0 = omega arith in
+      (λ j. runs ws (e j) (f j) k)
+  runs-split (suc m) n i k =
+      let e : suc m + n ≡ suc (m + n) = omega arith in
+      let f : suc i + m ≡ i + suc m = omega arith in
+      ap (λ (j : ℕ). runs ws j i k) e ∙ runs-split m n (suc i) (ranAt ws i k)
+      ∙ ap (λ (j : ℕ). runs ws n j (runs ws (suc m) i k)) f
+
+  -- the call after n calls
+  pub runs-next : (n i : ℕ) (k : Kept) → runs ws (suc n) i k ≡ ranAt ws (i + n) (runs ws n i k)
+  runs-next n i k = let e : suc n ≡ n + 1 = omega arith in ap (λ (j : ℕ). runs ws j i k) e ∙ runs-split n 1 i k
+
+  also-append : (c : Option Call) (cs ds : List Call) → also c (cs ++ ds) ≡ also c cs ++ ds
+  also-append none cs ds = refl
+  also-append (some c) cs ds = refl
+
+  pub calls-split : (m n i : ℕ) (k : Kept)
+      → callsIn ws (m + n) i k ≡ callsIn ws m i k ++ callsIn ws n (i + m) (runs ws m i k)
+  calls-split zero n i k =
+      let e : 0 + n ≡ n = omega arith in
+      let f : i ≡ i + 0 = omega arith in
+      (λ j. callsIn ws (e j) (f j) k)
+  calls-split (suc m) n i k =
+      let e : suc m + n ≡ suc (m + n) = omega arith in
+      let f : suc i + m ≡ i + suc m = omega arith in
+      let c : Option Call = callAt ws i (k .output) in
+      ap (λ (j : ℕ). callsIn ws j i k) e ∙ ap (also c) (calls-split m n (suc i) (ranAt ws i k))
+      ∙ also-append c (callsIn ws m (suc i) (ranAt ws i k)) _
+      ∙ ap (λ (j : ℕ). callsIn ws (suc m) i k ++ callsIn ws n j (runs ws (suc m) i k)) f
+
+-- ---- the moments split
 
 last-append : (t : Moment onStore) (us : List (Moment onStore)) (v : Moment onStore) (vs : List (Moment onStore))
     → lastOf onStore t (us ++ v ∷ vs) ≡ lastOf onStore v vs
 last-append t [] v vs = refl
 last-append t (u ∷ us) v vs = last-append u us v vs
+
+history-append : (cs ds : List Call) (t : Moment onStore)
+    → history onStore (cs ++ ds) t
+    ≡ history onStore cs t ++ history onStore ds (lastOf onStore t (history onStore cs t))
+history-append [] ds t = refl
+history-append (c ∷ cs) ds t =
+    let u : Moment onStore = after onStore c t in
+    let us : List (Moment onStore) = within onStore (accepted (runStore c (t .state) .reply)) (effect c) t in
+    ap (λ (vs : List (Moment onStore)). us ++ u ∷ vs) (history-append cs ds u)
+    ∙ sym (append-assoc us (u ∷ history onStore cs u) _)
+    ∙ ap (λ (v : Moment onStore). (us ++ u ∷ history onStore cs u) ++ history onStore ds v)
+    (sym (last-append t us u (history onStore cs u)))
+
+pub moments-split : (ws : List ℕ) (m n i : ℕ) (k : Kept) (t : Moment onStore)
+    → momentsIn ws (m + n) i k t
+    ≡ momentsIn ws m i k t ++ momentsIn ws n (i + m) (runs ws m i k) (momentAfter ws m i k t)
+moments-split ws m n i k t =
+    ap (λ (cs : List Call). history onStore cs t) (calls-split ws m n i k)
+    ∙ history-append (callsIn ws m i k) (callsIn ws n (i + m) (runs ws m i k)) t
+
+-- what holds of all moments holds of the last
+pub last-each : (P : Moment onStore → Type 0) (t : Moment onStore) (us : List (Moment onStore)) → Each P (t ∷ us)
+    → P (lastOf onStore t us)
+last-each P t [] h = h .0
+last-each P t (u ∷ us) h = last-each P u us (h .1)
+
+-- ---- the stores of the moments
 
 -- the state after a call
 after-state : (c : Call) (t : Moment onStore) → after onStore c t .state ≡ runStore c (t .state) .state
@@ -62,114 +110,55 @@ after-state c t =
     go true u s = refl
     go false u s = refl
 
-ran-state : (ws : List ℕ) (i : ℕ) (k : Kept) → runStore (callAt ws i (k .output)) (k .store) .state ≡ ranAt ws i k .store
+ran-store : (ws : List ℕ) (i : ℕ) (k : Kept) → storeAfter (callAt ws i (k .output)) (k .store) ≡ ranAt ws i k .store
 unfolding ranAt
-ran-state ws i k = refl
+ran-store ws i k = refl
 
-pub last-store : (ws : List ℕ) (n i : ℕ) (k : Kept) (t : Moment onStore) → t .state ≡ k .store
-    → lastOf onStore t (history onStore (callsIn ws n i k) t) .state ≡ runs ws n i k .store
-last-store ws zero i k t e = e
-last-store ws (suc n) i k t e =
-    let c : Call = callAt ws i (k .output) in
-    ap (λ (u : Moment onStore). u .state)
-    (last-append t (within onStore (accepted (runStore c (t .state) .reply)) (effect c) t) (after onStore c t)
-    (history onStore (callsIn ws n (suc i) (ranAt ws i k)) (after onStore c t)))
-    ∙ last-store ws n (suc i) (ranAt ws i k) (after onStore c t)
-    (after-state c t ∙ ap (λ (s : List ℕ). runStore c s .state) e ∙ ran-state ws i k)
+pub moment-store : (ws : List ℕ) (n i : ℕ) (k : Kept) (t : Moment onStore) → t .state ≡ k .store
+    → momentAfter ws n i k t .state ≡ runs ws n i k .store
+moment-store ws zero i k t e = e
+moment-store ws (suc n) i k t e =
+    go (callAt ws i (k .output)) (ran-store ws i k) (moment-store ws n (suc i) (ranAt ws i k))
+  where
+    go : (c : Option Call) → storeAfter c (k .store) ≡ ranAt ws i k .store
+        → ((u : Moment onStore) → u .state ≡ ranAt ws i k .store
+        → momentAfter ws n (suc i) (ranAt ws i k) u .state ≡ runs ws n (suc i) (ranAt ws i k) .store)
+        → lastOf onStore t (history onStore (also c (callsIn ws n (suc i) (ranAt ws i k))) t) .state
+        ≡ runs ws n (suc i) (ranAt ws i k) .store
+    go none f ih = ih t (e ∙ f)
+    go (some c) f ih =
+        ap (λ (u : Moment onStore). u .state)
+        (last-append t (within onStore (accepted (runStore c (t .state) .reply)) (effect c) t) (after onStore c t) _)
+        ∙ ih (after onStore c t) (after-state c t ∙ ap (λ (s : List ℕ). runStore c s .state) e ∙ f)
 
--- ---- one call, by its kind
+-- ---- the words
 
-module _ (s : List ℕ) (kind a b c : ℕ) (out : List ℕ) where
-  abbrev pair : Pair
-  pair = record { hash = a; block = b; offset = c }
-
-  abbrev call : Call
-  call = callOf kind a b c out
-
-  -- the call's reply and state, where it is d
-  of : (d : Call) → callOf kind a b c out ≡ d → {w : ℕ} {s′ out′ : List ℕ} → Ran s d out w s′ out′
-      → Ran s (callOf kind a b c out) out w s′ out′
-  of d e {w} {s′} {out′} r = subst (λ (d : Call). Ran s d out w s′ out′) (sym e) r
-
-  pub ran-format : {w : ℕ} {s′ : List ℕ} → kind ≡ 0 → w ≡ answerWord (formatOutcome s a .answer)
-      → s′ ≡ formatOutcome s a .store → Ran s (callOf kind a b c out) out w s′ out
-  unfolding callOf runStore
-  ran-format k e f =
-      of (formatting a) (ap (λ (n : ℕ). callOf n a b c out) k) (record { word = e; store = f; output = refl })
-
-  pub ran-insert : {w : ℕ} {s′ : List ℕ} → kind ≡ 1
-      → w ≡ answerWord (insertOutcome s (record { hash = a; block = b; offset = c }) .answer)
-      → s′ ≡ insertOutcome s (record { hash = a; block = b; offset = c }) .store
-      → Ran s (callOf kind a b c out) out w s′ out
-  unfolding callOf runStore
-  ran-insert k e f =
-      of (inserting pair) (ap (λ (n : ℕ). callOf n a b c out) k) (record { word = e; store = f; output = refl })
-
-  pub ran-remove : {w : ℕ} {s′ : List ℕ} → kind ≡ 2
-      → w ≡ answerWord (removeOutcome s (record { hash = a; block = b; offset = c }) .answer)
-      → s′ ≡ removeOutcome s (record { hash = a; block = b; offset = c }) .store
-      → Ran s (callOf kind a b c out) out w s′ out
-  unfolding callOf runStore
-  ran-remove k e f =
-      of (removing pair) (ap (λ (n : ℕ). callOf n a b c out) k) (record { word = e; store = f; output = refl })
-
-  pub ran-lookup : {w : ℕ} {out′ : List ℕ} → kind ≡ 3 → w ≡ lookupWord (lookupOutcome s a out .answer)
-      → out′ ≡ lookupOutcome s a out .output → Ran s (callOf kind a b c out) out w s out′
-  unfolding callOf runStore
-  ran-lookup k e f =
-      of (looking a out) (ap (λ (n : ℕ). callOf n a b c out) k) (record { word = e; store = refl; output = f })
-
-  pub ran-work : {w : ℕ} {s′ : List ℕ} → kind ≡ 4 → w ≡ workWord (workOutcome s a .answer)
-      → s′ ≡ workOutcome s a .store → Ran s (callOf kind a b c out) out w s′ out
-  unfolding callOf runStore
-  ran-work k e f =
-      of (working a) (ap (λ (n : ℕ). callOf n a b c out) k) (record { word = e; store = f; output = refl })
-
-  pub ran-standing : {w : ℕ} {out′ : List ℕ} → kind ≢ 0 → kind ≢ 1 → kind ≢ 2 → kind ≢ 3 → kind ≢ 4
-      → w ≡ standingTold s out .word → out′ ≡ standingTold s out .result → Ran s (callOf kind a b c out) out w s out′
-  unfolding callOf runStore standingTold
-  ran-standing k0 k1 k2 k3 k4 e f =
-      of asking (rw (ne-eqb kind 0 k0, ne-eqb kind 1 k1, ne-eqb kind 2 k2, ne-eqb kind 3 k3, ne-eqb kind 4 k4))
-      (record { word = e; store = refl; output = f })
-
--- ---- a batch, call by call
-
--- after i of n calls: what is left to run leaves what was asked, and no slice has another length
-pub record Running (ws : List ℕ) (n : ℕ) (k₀ k : Kept) (i : ℕ) : Type 0 where
-  pub within : i ≤ n
-  pub rest : runs ws (n - i) i k ≡ runs ws n 0 k₀
-  pub store : length (k .store) ≡ length (k₀ .store)
-  pub output : length (k .output) ≡ length (k₀ .output)
-  pub words : length (k .words) ≡ length (k₀ .words)
-
-pub running-none : (ws : List ℕ) (n : ℕ) (k : Kept) → Running ws n k k 0
-running-none ws n k =
-    let z : n - 0 ≡ n = omega arith in
-    record {
-      within = omega arith;
-      rest = ap (λ (j : ℕ). runs ws j 0 k) z;
-      store = refl;
-      output = refl;
-      words = refl;
-    }
-
-module _ {ws : List ℕ} {n : ℕ} {k₀ k : Kept} {i : ℕ} (g : Running ws n k₀ k i) where
-  pub running-next : i < n → {w : ℕ} {s out : List ℕ} → Ran (k .store) (callAt ws i (k .output)) (k .output) w s out
-      → length s ≡ length (k .store) → length out ≡ length (k .output)
-      → Running ws n k₀ (record { store = s; output = out; words = set (k .words) i w }) (i + 1)
+module _ (ws : List ℕ) where
+  ran-length : (i : ℕ) (k : Kept) → length (ranAt ws i k .words) ≡ length (k .words)
   unfolding ranAt
-  running-next h {w} {s} {out} r ls lo =
-      let m : n - i ≡ suc (n - (i + 1)) = omega arith in
-      let e : record { store = s; output = out; words = set (k .words) i w } ≡ ranAt ws i k =
-      (λ j. record { store = r .store j; output = r .output j; words = set (k .words) i (r .word j) }) in
-      record {
-        within = omega arith;
-        rest =
-            (λ j. runs ws (n - (i + 1)) (add-one i j) (e j)) ∙ sym (ap (λ (j : ℕ). runs ws j i k) m) ∙ g .rest;
-        store = ls ∙ g .store;
-        output = lo ∙ g .output;
-        words = length-set (k .words) i w ∙ g .words;
-      }
+  ran-length i k = length-set (k .words) i _
 
-  pub running-end : n ≤ i → k ≡ runs ws n 0 k₀
-  running-end h = let z : n - i ≡ 0 = omega arith in sym (ap (λ (j : ℕ). runs ws j i k) z) ∙ g .rest
+  ran-word : (i : ℕ) (k : Kept) → i < length (k .words)
+      → getD (ranAt ws i k .words) i 0 ≡ wordOf (callAt ws i (k .output)) (k .store)
+  unfolding ranAt
+  ran-word i k h = getD-set-same (k .words) i _ 0 h
+
+  ran-other : (i j : ℕ) (k : Kept) → j < i → getD (ranAt ws i k .words) j 0 ≡ getD (k .words) j 0
+  unfolding ranAt
+  ran-other i j k h = getD-set-other (k .words) i j _ 0 (λ e. omega arith)
+
+  -- later calls leave a word alone
+  runs-other : (n i j : ℕ) (k : Kept) → j < i → getD (runs ws n i k .words) j 0 ≡ getD (k .words) j 0
+  runs-other zero i j k h = refl
+  runs-other (suc n) i j k h = runs-other n (suc i) j (ranAt ws i k) (omega arith) ∙ ran-other i j k h
+
+  pub runs-word : (j n i : ℕ) (k : Kept) → j < n → i + n ≤ length (k .words)
+      → getD (runs ws n i k .words) (i + j) 0
+      ≡ wordOf (callAt ws (i + j) (runs ws j i k .output)) (runs ws j i k .store)
+  runs-word j zero i k h f = absurd (omega arith)
+  runs-word zero (suc n) i k h f =
+      let z : i + 0 ≡ i = omega arith in
+      rw z (runs-other n (suc i) i (ranAt ws i k) (omega arith) ∙ ran-word i k (omega arith))
+  runs-word (suc j) (suc n) i k h f =
+      let z : i + suc j ≡ suc i + j = omega arith in
+      rw z (runs-word j n (suc i) (ranAt ws i k) (omega arith) (omega (arith, ran-length i k)))

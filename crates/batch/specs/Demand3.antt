@@ -1,30 +1,69 @@
--- DEMAND 3 holds of every batch that the functions run: the claim is in Demand.antt of crate `model`, its proof for stores
--- in Demand3.antt of crate `image`; `run_batch` leaves exactly what `runs` says.
-use mathlib.Core.Path.{_≡_, refl}
+-- DEMAND 3 holds of every batch that the functions run. `run_batch` leaves exactly what `runs` says (Batch.antt); here
+-- its store, words and output are joined to the moments of the calls. The claim on moments is in Demand.antt of crate
+-- `model`, its proof for stores in Demand3.antt of crate `image`.
+use mathlib.Core.Path.{_≡_, refl, sym, ap, _∙_}
 use mathlib.Core.Bool.{true}
-use mathlib.Core.List.{List, _∷_}
-use Prim.Native.Nat.{ℕ}
+use mathlib.Core.List.{List, _∷_, _++_}
+use mathlib.Core.Option.{Option}
+use Prim.Native.Nat.{ℕ, suc, _+_, _≤_, _<_}
+use lib.ListN.{length, getD}
 use Rattle.lists.specs.Lists.{Each}
-use Rattle.model.specs.Machine.{formatting, accepted}
-use Rattle.model.specs.History.{history, start, lastOf}
+use Rattle.model.specs.Machine.{Call, formatting, accepted}
+use Rattle.model.specs.History.{Moment, start}
 use Rattle.model.specs.Demand.{Faithful}
 use Rattle.image.specs.Outcomes.{runStore, onStore}
 use Rattle.image.specs.Demand3.{demand3-stores}
-use Rattle.batch.specs.Batch.{Kept, runs, callsIn}
-use Rattle.batch.specs.BatchLaws.{Small, fits-calls, last-store}
+use Rattle.batch.specs.Batch.{wordOf, outputAfter, Small, callAt, lentAt, Kept, ranAt, runs, callsIn, momentsIn}
+use Rattle.batch.specs.Batch.{momentAfter}
+use Rattle.batch.specs.BatchLaws.{fits-calls, runs-next, last-each, moments-split, moment-store, runs-word}
 
--- after an accepted format, and any list of calls that follows
+-- after an accepted format, n calls of any list, from call i on
 module _ (s : List ℕ) (fill : ℕ) (ok : accepted (runStore (formatting fill) s .reply) ≡ true)
-    (ws : List ℕ) (small : Small ws) (n : ℕ) (output words : List ℕ) where
+    (ws : List ℕ) (small : Small ws) (i n : ℕ) (output words : List ℕ) where
   abbrev first : Kept
   first = record { store = runStore (formatting fill) s .state; output = output; words = words }
 
-  -- every moment of the list is faithful to the book
-  pub demand3-batch : let t = start onStore (runStore (formatting fill) s .state) fill in
-      Each (Faithful onStore) (t ∷ history onStore (callsIn ws n 0 first) t)
-  demand3-batch = demand3-stores s fill ok (callsIn ws n 0 first) (fits-calls ws small n 0 first)
+  abbrev formatted : Moment onStore
+  formatted = start onStore (runStore (formatting fill) s .state) fill
 
-  -- and the store of its last moment is the one that the batch leaves
-  pub batch-last : let t = start onStore (runStore (formatting fill) s .state) fill in
-      lastOf onStore t (history onStore (callsIn ws n 0 first) t) .state ≡ runs ws n 0 first .store
-  batch-last = last-store ws n 0 first (start onStore (runStore (formatting fill) s .state) fill) refl
+  -- what the first m calls leave, the moment after them, and the call that comes next
+  abbrev left : (m : ℕ) → Kept
+  left m = runs ws m i first
+
+  abbrev reached : (m : ℕ) → Moment onStore
+  reached m = momentAfter ws m i first formatted
+
+  abbrev next : (m : ℕ) → Option Call
+  next m = callAt ws (i + m) (left m .output)
+
+  -- every moment of the calls is faithful to the book
+  pub demand3-batch : Each (Faithful onStore) (formatted ∷ momentsIn ws n i first formatted)
+  demand3-batch = demand3-stores s fill ok (callsIn ws n i first) (fits-calls ws small n i first)
+
+  -- so the moment after the first m calls is
+  pub batch-moment : (m : ℕ) → Faithful onStore (reached m)
+  batch-moment m =
+      last-each (Faithful onStore) formatted (momentsIn ws m i first formatted)
+      (demand3-stores s fill ok (callsIn ws m i first) (fits-calls ws small m i first))
+
+  -- and its store is the one that these calls leave
+  pub batch-store : (m : ℕ) → reached m .state ≡ left m .store
+  batch-store m = moment-store ws m i first formatted refl
+
+  -- each word is the reply of its call at the moment before it
+  pub batch-word : (m : ℕ) → m < n → i + n ≤ length words
+      → getD (left n .words) (i + m) 0 ≡ wordOf (next m) (reached m .state)
+  batch-word m h room = runs-word ws m n i first h room ∙ ap (wordOf (next m)) (sym (batch-store m))
+
+  -- and so is the output after it
+  pub batch-output : (m : ℕ)
+      → left (suc m) .output ≡ outputAfter (next m) (lentAt ws (i + m)) (reached m .state) (left m .output)
+  unfolding ranAt
+  batch-output m =
+      ap (λ (k : Kept). k .output) (runs-next ws m i first)
+      ∙ ap (λ (x : List ℕ). outputAfter (next m) (lentAt ws (i + m)) x (left m .output)) (sym (batch-store m))
+
+  -- a list splits anywhere: its moments are those of the first m calls, and then those of the rest
+  pub batch-splits : (m : ℕ) → momentsIn ws (m + n) i first formatted
+      ≡ momentsIn ws m i first formatted ++ momentsIn ws n (i + m) (left m) (reached m)
+  batch-splits m = moments-split ws m n i first formatted

@@ -1,3 +1,5 @@
 pub mod Batch
+pub mod CallLaws
 pub mod BatchLaws
+pub mod RunningLaws
 pub mod Demand3

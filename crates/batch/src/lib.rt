@@ -1,5 +1,5 @@
-// A list of calls, encoded as numbers, run one after the other through the public functions: what demand 3 says of lists of
-// calls, it says of this function.
+// A list of calls, encoded as numbers, run one after the other through the public functions: what demand 3 says of
+// lists of calls, it says of this function.
 use capi::amiqsovik_format;
 use capi::amiqsovik_insert;
 use capi::amiqsovik_lookup;
@@ -7,30 +7,63 @@ use capi::amiqsovik_remove;
 use capi::amiqsovik_standing;
 use capi::amiqsovik_work;
 ghost use mathlib.Core.Path.{_≡_};
+ghost use mathlib.Core.List.{_++_};
 ghost use Prim.Native.Nat.{_+_, _*_, _/_, _≤_, min};
-ghost use lib.ListN.{length};
-ghost use Rattle.batch.specs.Batch.{callOf, callAt, Ran, runs};
+ghost use lib.ListN.{length, take, drop};
+ghost use Rattle.image.specs.Outcomes.{lookupOutcome};
+ghost use Rattle.capi.specs.Words.{lookupWord};
+ghost use Rattle.capi.specs.Result.{standingTold};
+ghost use Rattle.batch.specs.Batch.{callOf, callAt, lentAt, Ran, runs};
+
+fn smaller(a: usize, b: usize) -> usize
+    ensures { λ r. ⌜ r ≡ min a b ⌝ }
+{
+    if a <= b { a } else { b }
+}
+
+// Looks a hash code up, and lends the first `lent` bytes of the output.
+fn run_lookup(store: &[u8], hash: u32, lent: u32, output: &mut [u8]) -> u64
+    ensures { λ r. ⌜ r ≡ lookupWord
+        (lookupOutcome (now (store .entry)) hash (take lent (now (output .entry))) .answer) ⌝ }
+    ensures { λ _. ⌜ now (output .exit)
+        ≡ lookupOutcome (now (store .entry)) hash (take lent (now (output .entry))) .output
+        ++ drop lent (now (output .entry)) ⌝ }
+{
+    let n = smaller(lent as usize, output.len());
+    amiqsovik_lookup(store, hash, &mut output[..n])
+}
+
+// Asks what stands, and lends the first `lent` bytes of the output.
+fn run_standing(store: &[u8], lent: u32, output: &mut [u8]) -> u64
+    ensures { λ r. ⌜ r ≡ standingTold (now (store .entry)) (take lent (now (output .entry))) .word ⌝ }
+    ensures { λ _. ⌜ now (output .exit)
+        ≡ standingTold (now (store .entry)) (take lent (now (output .entry))) .result
+        ++ drop lent (now (output .entry)) ⌝ }
+{
+    let n = smaller(lent as usize, output.len());
+    amiqsovik_standing(store, &mut output[..n])
+}
 
 // Runs one call, and gives its word.
 fn run_call(store: &mut [u8], kind: u32, a: u32, b: u32, c: u32, output: &mut [u8]) -> u64
-    ensures { λ r. ⌜ Ran (now (store .entry)) (callOf kind a b c (now (output .entry))) (now (output .entry))
+    ensures { λ r. ⌜ Ran (callOf kind a b c (now (output .entry))) b (now (store .entry)) (now (output .entry))
         r (now (store .exit)) (now (output .exit)) ⌝ }
 {
     match kind {
         0 => amiqsovik_format(store, a),
         1 => amiqsovik_insert(store, a, b, c),
         2 => amiqsovik_remove(store, a, b, c),
-        3 => amiqsovik_lookup(store, a, output),
+        3 => run_lookup(store, a, b, output),
         4 => amiqsovik_work(store, a),
-        _ => amiqsovik_standing(store, output),
+        _ => run_standing(store, b, output),
     }
 }
 
 // Runs call `i`.
 fn run_at(store: &mut [u8], calls: &[u32], i: usize, output: &mut [u8]) -> u64
     requires { ⌜ 4 * i + 4 ≤ length (now calls) ⌝ }
-    ensures { λ r. ⌜ Ran (now (store .entry)) (callAt (now (calls .entry)) i (now (output .entry)))
-        (now (output .entry)) r (now (store .exit)) (now (output .exit)) ⌝ }
+    ensures { λ r. ⌜ Ran (callAt (now (calls .entry)) i (now (output .entry))) (lentAt (now (calls .entry)) i)
+        (now (store .entry)) (now (output .entry)) r (now (store .exit)) (now (output .exit)) ⌝ }
 {
     let at = 4 * i;
     run_call(
@@ -41,12 +74,6 @@ fn run_at(store: &mut [u8], calls: &[u32], i: usize, output: &mut [u8]) -> u64
         calls[at + 3],
         output,
     )
-}
-
-fn smaller(a: usize, b: usize) -> usize
-    ensures { λ r. ⌜ r ≡ min a b ⌝ }
-{
-    if a <= b { a } else { b }
 }
 
 // Runs the calls, four numbers each, for which there is a word; gives their number.

@@ -3,7 +3,7 @@ use Prim.Native.Nat.{ℕ, _-_}
 use native.Mathlib.Omega.{arith}
 use borrow.Author.Needs.{needs}
 use Rattle.batch.specs.Batch.{Kept}
-use Rattle.batch.specs.BatchLaws.{Running, running-none, running-next, running-end}
+use Rattle.batch.specs.RunningLaws.{Running, running-none, running-next, running-end}
 use Rattle.batch.proofs.run_batch.Statement.{statement}
 use Rattle.batch.proofs.run_batch.Tie as tie
 

@@ -1,5 +1,5 @@
 use borrow.Author.Needs.{needs}
-use Rattle.batch.specs.BatchLaws.{ran-format, ran-insert, ran-remove, ran-lookup, ran-work, ran-standing}
+use Rattle.batch.specs.CallLaws.{ran-format, ran-insert, ran-remove, ran-lookup, ran-work, ran-standing}
 use Rattle.batch.proofs.run_call.Statement.{statement}
 use Rattle.batch.proofs.run_call.Tie as tie
 
@@ -12,14 +12,14 @@ amiqsovik-insert-requires c κs = search needs
 amiqsovik-remove-requires : tie.Need-amiqsovik-remove-requires
 amiqsovik-remove-requires c κs = search needs
 
-amiqsovik-lookup-requires : tie.Need-amiqsovik-lookup-requires
-amiqsovik-lookup-requires c κs = search needs
+run-lookup-requires : tie.Need-run-lookup-requires
+run-lookup-requires c κs = search needs
 
 amiqsovik-work-requires : tie.Need-amiqsovik-work-requires
 amiqsovik-work-requires c κs = search needs
 
-amiqsovik-standing-requires : tie.Need-amiqsovik-standing-requires
-amiqsovik-standing-requires c κs = search needs
+run-standing-requires : tie.Need-run-standing-requires
+run-standing-requires c κs = search needs
 
 same-length : tie.Need-same-length
 same-length c = search needs
@@ -58,7 +58,7 @@ returns-4 : tie.Need-returns-4
 returns-4 c =
     let f = c .before .before in
     let m = f .before .before .before in
-    ran-lookup _ _ _ _ _ _ (m .match .keys4) (f .amiqsovik-lookup .ensures .0) (f .amiqsovik-lookup .ensures .1)
+    ran-lookup _ _ _ _ _ _ (m .match .keys4) (f .run-lookup .ensures .0) (f .run-lookup .ensures .1)
 
 same-length-6 : tie.Need-same-length-6
 same-length-6 c = search needs
@@ -80,7 +80,8 @@ returns-6 c =
     let f = c .before .before in
     let m = f .before .before .before in
     let r = m .match .rest in
-    ran-standing _ _ _ _ _ _ (r .0 .0 .0 .0 .1) (r .0 .0 .0 .1) (r .0 .0 .1) (r .0 .1) (r .1) (f .amiqsovik-standing .ensures .0) (f .amiqsovik-standing .ensures .1)
+    ran-standing _ _ _ _ _ _ (r .0 .0 .0 .0 .1) (r .0 .0 .0 .1) (r .0 .0 .1) (r .0 .1) (r .1)
+    (f .run-standing .ensures .0) (f .run-standing .ensures .1)
 
 pub run-call-spec : {M : Type 1} → statement M
 run-call-spec =
@@ -89,9 +90,9 @@ run-call-spec =
     amiqsovik-format-requires
     amiqsovik-insert-requires
     amiqsovik-remove-requires
-    amiqsovik-lookup-requires
+    run-lookup-requires
     amiqsovik-work-requires
-    amiqsovik-standing-requires
+    run-standing-requires
     same-length
     returns
     same-length-2

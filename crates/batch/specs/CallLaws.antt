@@ -1,0 +1,123 @@
+-- One call of a batch, by its kind: its numbers fit, and it leaves what its definition says.
+use mathlib.Core.Path.{_≡_, refl, sym, ap, _∙_, subst}
+use mathlib.Core.Logic.{_≢_}
+use mathlib.Core.Bool.{Bool, true, false, cond}
+use mathlib.Core.List.{List, _++_}
+use mathlib.Core.Option.{Option, none, some}
+use Prim.Native.Nat.{ℕ, _^_, _<_, min}
+use native.Mathlib.Omega.{arith, min-cases}
+use borrow.Author.Tests.{ne-eqb}
+use lib.Dec.{eqb, ltb}
+use lib.ListN.{length, take, drop, take-append-drop, drop-of-length-le}
+use lib.Seq.{length-take-le, take-all, take-length, drop-length}
+use Rattle.page.specs.declared.Pair.{Pair}
+use Rattle.model.specs.Machine.{Call, formatting, inserting, removing, looking, working, asking, CallFits}
+use Rattle.image.specs.Outcomes.{formatOutcome, insertOutcome, removeOutcome, lookupOutcome, standingOutcome}
+use Rattle.image.specs.Outcomes.{workOutcome, runStore}
+use Rattle.capi.specs.Words.{answerWord, lookupWord, workWord}
+use Rattle.capi.specs.Result.{toldIn, standingTold}
+use Rattle.batch.specs.Batch.{callOf, Ran}
+
+-- ---- the numbers fit
+
+-- of a call, if there is one
+abbrev pub MayFit : Option Call → Type 0
+MayFit none = Unit {0}
+MayFit (some c) = CallFits c
+
+pub fits-call : (kind a b c : ℕ) (out : List ℕ) → a < 2 ^ 32 → b < 2 ^ 32 → c < 2 ^ 32 → MayFit (callOf kind a b c out)
+unfolding callOf
+fits-call kind a b c out ha hb hc =
+    go (eqb kind 0) (eqb kind 1) (eqb kind 2) (eqb kind 3) (eqb kind 4) (ltb (length (take b out)) 28)
+  where
+    go : (p q r s t u : Bool)
+        → MayFit (cond p (some (formatting a)) (cond q (some (inserting (record { hash = a; block = b; offset = c })))
+        (cond r (some (removing (record { hash = a; block = b; offset = c }))) (cond s (some (looking a (take b out)))
+        (cond t (some (working a)) (cond u none (some asking)))))))
+    go true q r s t u = ha
+    go false true r s t u = (ha, hb, hc)
+    go false false true s t u = (ha, hb, hc)
+    go false false false true t u = ha
+    go false false false false true u = ha
+    go false false false false false true = tt
+    go false false false false false false = tt
+
+-- ---- the part that is lent
+
+-- as many bytes as are asked for, or all of them
+module _ (n : ℕ) (out : List ℕ) {m : ℕ} (e : m ≡ min n (length out)) where
+  pub length-lent : m ≡ length (take m out)
+  length-lent = sym (length-take-le m out (omega arith))
+
+  pub take-lent : take m out ≡ take n out
+  take-lent =
+      ap (λ (j : ℕ). take j out) e ∙ min-cases n (length out) (take (min n (length out)) out ≡ take n out)
+      (λ h f. ap (λ (j : ℕ). take j out) f)
+      (λ h f. ap (λ (j : ℕ). take j out) f ∙ take-length out ∙ sym (take-all n out h))
+
+  pub drop-lent : drop m out ≡ drop n out
+  drop-lent =
+      ap (λ (j : ℕ). drop j out) e ∙ min-cases n (length out) (drop (min n (length out)) out ≡ drop n out)
+      (λ h f. ap (λ (j : ℕ). drop j out) f)
+      (λ h f. ap (λ (j : ℕ). drop j out) f ∙ drop-length out ∙ sym (drop-of-length-le out h))
+
+-- ---- what a call leaves, by its kind
+
+module _ (s : List ℕ) (kind a b c : ℕ) (out : List ℕ) where
+  abbrev pair : Pair
+  pair = record { hash = a; block = b; offset = c }
+
+  -- where the call is d
+  of : (d : Option Call) → callOf kind a b c out ≡ d → {w : ℕ} {s′ out′ : List ℕ} → Ran d b s out w s′ out′
+      → Ran (callOf kind a b c out) b s out w s′ out′
+  of d e {w} {s′} {out′} r = subst (λ (d : Option Call). Ran d b s out w s′ out′) (sym e) r
+
+  pub ran-format : {w : ℕ} {s′ : List ℕ} → kind ≡ 0 → w ≡ answerWord (formatOutcome s a .answer)
+      → s′ ≡ formatOutcome s a .store → Ran (callOf kind a b c out) b s out w s′ out
+  unfolding callOf runStore
+  ran-format k e f =
+      of (some (formatting a)) (ap (λ (n : ℕ). callOf n a b c out) k) (record { word = e; store = f; output = refl })
+
+  pub ran-insert : {w : ℕ} {s′ : List ℕ} → kind ≡ 1
+      → w ≡ answerWord (insertOutcome s (record { hash = a; block = b; offset = c }) .answer)
+      → s′ ≡ insertOutcome s (record { hash = a; block = b; offset = c }) .store
+      → Ran (callOf kind a b c out) b s out w s′ out
+  unfolding callOf runStore
+  ran-insert k e f =
+      of (some (inserting pair)) (ap (λ (n : ℕ). callOf n a b c out) k) (record { word = e; store = f; output = refl })
+
+  pub ran-remove : {w : ℕ} {s′ : List ℕ} → kind ≡ 2
+      → w ≡ answerWord (removeOutcome s (record { hash = a; block = b; offset = c }) .answer)
+      → s′ ≡ removeOutcome s (record { hash = a; block = b; offset = c }) .store
+      → Ran (callOf kind a b c out) b s out w s′ out
+  unfolding callOf runStore
+  ran-remove k e f =
+      of (some (removing pair)) (ap (λ (n : ℕ). callOf n a b c out) k) (record { word = e; store = f; output = refl })
+
+  pub ran-lookup : {w : ℕ} {out′ : List ℕ} → kind ≡ 3 → w ≡ lookupWord (lookupOutcome s a (take b out) .answer)
+      → out′ ≡ lookupOutcome s a (take b out) .output ++ drop b out → Ran (callOf kind a b c out) b s out w s out′
+  unfolding callOf runStore
+  ran-lookup k e f =
+      of (some (looking a (take b out))) (ap (λ (n : ℕ). callOf n a b c out) k)
+      (record { word = e; store = refl; output = f })
+
+  pub ran-work : {w : ℕ} {s′ : List ℕ} → kind ≡ 4 → w ≡ workWord (workOutcome s a .answer)
+      → s′ ≡ workOutcome s a .store → Ran (callOf kind a b c out) b s out w s′ out
+  unfolding callOf runStore
+  ran-work k e f =
+      of (some (working a)) (ap (λ (n : ℕ). callOf n a b c out) k) (record { word = e; store = f; output = refl })
+
+  pub ran-standing : {w : ℕ} {out′ : List ℕ} → kind ≢ 0 → kind ≢ 1 → kind ≢ 2 → kind ≢ 3 → kind ≢ 4
+      → w ≡ standingTold s (take b out) .word → out′ ≡ standingTold s (take b out) .result ++ drop b out
+      → Ran (callOf kind a b c out) b s out w s out′
+  unfolding callOf runStore standingTold
+  ran-standing {w} {out′} k0 k1 k2 k3 k4 e f =
+      of (cond (ltb (length (take b out)) 28) none (some asking))
+      (rw (ne-eqb kind 0 k0, ne-eqb kind 1 k1, ne-eqb kind 2 k2, ne-eqb kind 3 k3, ne-eqb kind 4 k4))
+      (go (ltb (length (take b out)) 28) e f)
+    where
+      go : (short : Bool) → w ≡ toldIn short (standingOutcome s) (take b out) .word
+          → out′ ≡ toldIn short (standingOutcome s) (take b out) .result ++ drop b out
+          → Ran (cond short none (some asking)) b s out w s out′
+      go true e f = record { word = e; store = refl; output = f ∙ take-append-drop b out }
+      go false e f = record { word = e; store = refl; output = f }
