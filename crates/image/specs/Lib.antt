@@ -53,5 +53,6 @@ pub mod OutcomeSoundLaws
 pub mod OutcomeHistoryLaws
 pub mod OutcomeMachineLaws
 pub mod Demand3
-pub mod ExampleCards
+pub mod Cards
+pub mod CardsLaws
 pub mod ExampleStores

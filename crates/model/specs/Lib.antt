@@ -5,7 +5,6 @@ pub mod Held
 pub mod Steps
 pub mod Calls
 pub mod Machine
-pub mod Cards
 pub mod Book
 pub mod History
 pub mod Demand
