@@ -46,6 +46,7 @@ module _ {s : List ℕ} {x : Index} (r : Encodes s x) where
   meta-is : metaAt s ≡ metaOf x
   meta-is = ap metaAt (r .1) ∙ meta-encode x (r .0)
 
+  -- k is the bitmap's block
   map-is : (k : ℕ) → k < x .size → bitBlock (x .spares) (point (x .maxBucket)) 0 ≡ k → mapAt s ≡ encodeBlock x k
   map-is k h e =
       let w = r .0 in
@@ -88,6 +89,7 @@ format-is s n fill e =
 
 -- ---- the cards
 
+-- what holds of a list's first element, and what holds of the others
 infixr 5 _also_
 abbrev _also_ : {A B : Type 0} → A → B → A × B
 a also b = (a, b)
@@ -110,7 +112,7 @@ module _ (fresh : ℕ → List ℕ) (e : (n : ℕ) → length (fresh n) ≡ 512 
     unfolding start runStore
     format-encodes = (format-wf n fill a b, ap (λ (c : Changed). c .store) format-accepted)
 
-    -- and then k inserts, and more
+    -- then k inserts, and more
     module _ (k : ℕ) (h : k < 1000) (more : List Call) (f : Each CallFits more) where
       abbrev cs : List Call
       cs = evens k ++ more
