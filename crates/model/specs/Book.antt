@@ -1,6 +1,6 @@
 -- The book of demand 3: "The book is a set of pairs. It is fed each call's arguments and whether the call was accepted (gave 0), and nothing
 -- from the store." With it, what else the calls tell of a split.
-use mathlib.Core.Bool.{Bool, cond, not}
+use mathlib.Core.Bool.{Bool, true, false, cond, not}
 use mathlib.Core.List.{List, []}
 use Prim.Native.Nat.{ℕ, suc}
 use lib.Dec.{eqb}
@@ -50,20 +50,26 @@ under h bk = keep (λ p. eqb (p .hash) h) bk
 abbrev pub movers : (new : ℕ) → Book → ℕ
 movers n bk = length (keep (λ p. eqb (bucketOf n (p .hash)) n) bk)
 
--- The split that began last, with its m and its steps so far, the begin included; unknown once a format, insert or removal was accepted.
+-- The split that began last since the last accepted format, if any did, with its m and its steps so far, the begin
+-- included. It is calm as long as no insert or removal was accepted since its begin.
 pub data Split : Type 0 where
-  unknown : Split
-  since : (m steps : ℕ) → Split
+  noSplit : Split
+  since : (calm : Bool) → (m steps : ℕ) → Split
 
 abbrev pub oneStep : Split → Split
-oneStep unknown = unknown
-oneStep (since m k) = since m (suc k)
+oneStep noSplit = noSplit
+oneStep (since c m k) = since c m (suc k)
 
--- an accepted call ends the count of a split's steps, unless it leaves the book alone
+-- calm no longer
+abbrev pub stirred : Split → Split
+stirred noSplit = noSplit
+stirred (since c m k) = since false m k
+
+-- an accepted format forgets the splits, an insert or removal stirs the last one, and other calls leave it alone
 abbrev pub counted : Effect → Split → Split
-counted (empties fill) k = unknown
-counted (puts p) k = unknown
-counted (takes p) k = unknown
+counted (empties fill) k = noSplit
+counted (puts p) k = stirred k
+counted (takes p) k = stirred k
 counted leaves k = k
 counted (hasSteps budget) k = k
 

@@ -26,7 +26,7 @@ use Rattle.model.specs.Held.{self}
 use Rattle.model.specs.Steps.{Step, next, stopped}
 use Rattle.model.specs.Calls.{pairOk, placeBytes}
 use Rattle.model.specs.Machine.{Call, formatting, inserting, removing, looking, working, asking, CallFits, plain, looked, worked, stands, accepted, Machine}
-use Rattle.model.specs.Book.{Book, has, under, Split, unknown, since}
+use Rattle.model.specs.Book.{Book, has, under, Split, noSplit, since}
 use Rattle.model.specs.History.{Moment, phaseAt, history, start}
 
 module _ (M : Machine) where
@@ -62,9 +62,12 @@ module _ (M : Machine) where
     pub spent : steps ≡ budget → stop ≡ Stop.Spent
     pub ended : steps ≢ budget → (steps < budget) × (M .step (M .run (working budget) s .state) ≡ stopped stop)
 
+  -- Before the first begin there is no job. A split that stays calm is over after step 2m + 3 and not before, "and
+  -- until then work never stops with 9".
   abbrev pub SplitIs : Split → M .State → Type 0
-  SplitIs unknown s = Unit {0}
-  SplitIs (since m k) s =
+  SplitIs noSplit s = phaseAt M s ≡ Phase.None
+  SplitIs (since false m k) s = Unit {0}
+  SplitIs (since true m k) s =
       (k < 2 * m + 3 → (phaseAt M s ≢ Phase.None) × (M .step s ≢ stopped Stop.Idle))
       × (k ≡ 2 * m + 3 → phaseAt M s ≡ Phase.None)
       × (k ≤ 2 * m + 3)

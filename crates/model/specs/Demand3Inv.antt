@@ -12,7 +12,7 @@ use Rattle.model.specs.Steps.{next, step}
 use Rattle.model.specs.Calls.{sizeOk, fillOk, format, formatIn, formatted, Result, insert, remove, phaseIn}
 use Rattle.model.specs.Machine.{formatting, inserting, removing, CallFits, accepted, settled, runIndex, onIndex}
 use Rattle.model.specs.MachineLaws.{never}
-use Rattle.model.specs.Book.{has, puts, takes, movers, Split, unknown, since, oneStep}
+use Rattle.model.specs.Book.{has, puts, takes, movers, Split, noSplit, since, oneStep, stirred}
 use Rattle.model.specs.BookLaws.{noted-ascending, has-puts, has-takes}
 use Rattle.model.specs.History.{Moment, stepIn, stepped, lastOf, within, marked, after, start}
 use Rattle.model.specs.WellFormed.{WF}
@@ -27,10 +27,11 @@ use Rattle.model.specs.StepsLeftLaws.{step-stepsLeft}
 use Rattle.model.specs.BeginLaws.{begin-stepsLeft, begin-movers}
 use Rattle.model.specs.Demand3Answers.{phase-job}
 
--- The steps that a known split still has to make are those that its count lacks.
+-- Before the first begin there is no job; the steps that a calm split still has to make are those that its count lacks.
 abbrev pub Track : Split → Index → Type 0
-Track unknown x = Unit {0}
-Track (since m k) x = stepsLeft x + k ≡ 2 * m + 3
+Track noSplit x = x .job ≡ idle
+Track (since false m k) x = Unit {0}
+Track (since true m k) x = stepsLeft x + k ≡ 2 * m + 3
 
 pub record Inv (t : Moment onIndex) : Type 0 where
   pub wf : WF (t .state)
@@ -39,6 +40,11 @@ pub record Inv (t : Moment onIndex) : Type 0 where
   pub newest : t .state .maxBucket ≡ suc (t .begins)
   pub fill : t .state .fill ≡ t .fill
   pub track : Track (t .split) (t .state)
+
+-- an insert or removal leaves the job as it was
+stir : (x y : Index) (k : Split) → y .job ≡ x .job → Track k x → Track (stirred k) y
+stir x y noSplit e u = e ∙ u
+stir x y (since c m k) e u = tt
 
 -- ---- a format, an insert, a removal
 
@@ -52,7 +58,7 @@ start-inv x fill s f =
       agree = λ p. sym (format-held (x .size) fill s f p);
       newest = refl;
       fill = refl;
-      track = tt;
+      track = refl;
     }
 
 pub format-inv : (x : Index) (fill : ℕ) → accepted (runIndex (formatting fill) x .reply) ≡ true
@@ -82,7 +88,8 @@ insert-inv q fits t i = go (insert x q) refl (insert-view x q)
     go r e (already k h) = i
     go r e (noRoom k h v) = i
     go r e (inserted {y = y} k h v) =
-        let f = insert-frame x q y e .frame in
+        let g = insert-frame x q y e in
+        let f = g .frame in
         record {
           wf = insert-wf x q y (i .wf) fits e;
           set = noted-ascending (puts q) (t .book) (i .set);
@@ -90,7 +97,7 @@ insert-inv q fits t i = go (insert x q) refl (insert-view x q)
               ∙ sym (insert-held x q y (i .wf) fits e p);
           newest = f .maxBucket ∙ i .newest;
           fill = f .fill ∙ i .fill;
-          track = tt;
+          track = stir x y (t .split) (g .job) (i .track);
         }
 
 pub remove-inv : (q : Pair) → (t : Moment onIndex) → Inv t → Inv (after onIndex (removing q) t)
@@ -106,7 +113,8 @@ remove-inv q t i = go (remove x q) refl (remove-view x q)
     go r e (Removing.wrong k) = i
     go r e (absent k h) = i
     go r e (removed k h) =
-        let f = remove-frame x q _ e .frame in
+        let g = remove-frame x q _ e in
+        let f = g .frame in
         record {
           wf = remove-wf x q _ (i .wf) e;
           set = noted-ascending (takes q) (t .book) (i .set);
@@ -114,7 +122,7 @@ remove-inv q t i = go (remove x q) refl (remove-view x q)
               ∙ sym (remove-held x q _ (i .wf) e p);
           newest = f .maxBucket ∙ i .newest;
           fill = f .fill ∙ i .fill;
-          track = tt;
+          track = stir x _ (t .split) (g .job) (i .track);
         }
 
 -- ---- a step
@@ -129,8 +137,9 @@ step-inv t y i h = rw (phase-job x) (go (x .job) refl)
     agrees p = i .agree p ∙ sym (step-held x y (i .wf) h p)
 
     more : x .job ≢ idle → (k : Split) → Track k x → Track (oneStep k) y
-    more ne unknown u = tt
-    more ne (since m k) u = omega (arith, step-stepsLeft x y (i .wf) ne h)
+    more ne noSplit u = absurd (ne u)
+    more ne (since false m k) u = tt
+    more ne (since true m k) u = omega (arith, step-stepsLeft x y (i .wf) ne h)
 
     inJob : x .job ≢ idle
         → Inv (record { state = y; book = t .book; fill = t .fill; begins = t .begins; split = oneStep (t .split) })

@@ -1,6 +1,7 @@
 -- What the invariant says of the calls' answers: all that demand 3 claims of a moment.
 use mathlib.Core.Path.{_≡_, sym, _∙_}
 use mathlib.Core.Logic.{_≢_}
+use mathlib.Core.Bool.{true, false}
 use Prim.Native.Nat.{_+_}
 use native.Mathlib.Omega.{arith}
 use lib.ListN.{length}
@@ -8,7 +9,7 @@ use Rattle.model.specs.Index.{idle, Index}
 use Rattle.model.specs.Held.{count}
 use Rattle.model.specs.Machine.{onIndex}
 use Rattle.model.specs.MachineLaws.{index-works}
-use Rattle.model.specs.Book.{Split, unknown, since}
+use Rattle.model.specs.Book.{Split, noSplit, since}
 use Rattle.model.specs.History.{Moment}
 use Rattle.model.specs.Demand.{SplitIs, Faithful}
 use Rattle.model.specs.MatchesLaws.{matches-is}
@@ -19,8 +20,9 @@ use Rattle.model.specs.Demand3Inv.{Track, Inv}
 
 -- a split has steps left exactly while there is a job
 split-is : (x : Index) (k : Split) → Track k x → SplitIs onIndex k x
-split-is x unknown u = tt
-split-is x (since m k) u = (
+split-is x noSplit u = phase-none x .1 u
+split-is x (since false m k) u = tt
+split-is x (since true m k) u = (
   λ l. (let ne : x .job ≢ idle = λ e. omega (arith, stepsLeft-at x idle e) in (λ e. ne (phase-none x .0 e), busy x ne)),
   λ e. phase-none x .1 (stepsLeft-idle x (omega arith)),
   omega arith,

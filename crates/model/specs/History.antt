@@ -6,7 +6,7 @@ use Rattle.model.specs.declared.Phase.{Phase}
 use Rattle.model.specs.Answers.{standingOf}
 use Rattle.model.specs.Steps.{Step, next, stopped}
 use Rattle.model.specs.Machine.{Call, asking, Reply, plain, looked, worked, stands, accepted, Ran, Machine}
-use Rattle.model.specs.Book.{Book, Effect, empties, puts, takes, leaves, hasSteps, effect, noted, movers, Split, unknown, since, oneStep, counted, filled, begun}
+use Rattle.model.specs.Book.{Book, Effect, empties, puts, takes, leaves, hasSteps, effect, noted, movers, Split, noSplit, since, oneStep, counted, filled, begun}
 
 module _ (M : Machine) where
   abbrev State : Type 0
@@ -32,7 +32,7 @@ module _ (M : Machine) where
         book = t .book;
         fill = t .fill;
         begins = suc (t .begins);
-        split = since (movers (2 + t .begins) (t .book)) 1;
+        split = since true (movers (2 + t .begins) (t .book)) 1;
       }
   stepIn (Phase.Copying o n) t s =
       record { state = s; book = t .book; fill = t .fill; begins = t .begins; split = oneStep (t .split) }
@@ -84,4 +84,4 @@ module _ (M : Machine) where
       within (accepted (M .run c (t .state) .reply)) (effect c) t ++ (after c t ∷ history cs (after c t))
 
   abbrev pub start : State → (fill : ℕ) → Moment
-  start s fill = record { state = s; book = []; fill = fill; begins = 0; split = unknown }
+  start s fill = record { state = s; book = []; fill = fill; begins = 0; split = noSplit }

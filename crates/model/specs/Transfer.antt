@@ -10,7 +10,7 @@ use Rattle.model.specs.declared.Phase.{Phase}
 use Rattle.model.specs.Steps.{Step, next, stopped, Worked, iterate}
 use Rattle.model.specs.Machine.{Call, formatting, inserting, removing, looking, asking, CallFits, Reply, accepted, Machine}
 use Rattle.model.specs.MachineLaws.{never}
-use Rattle.model.specs.Book.{Effect, empties, puts, takes, leaves, hasSteps, effect, noted, movers, Split, unknown, since, oneStep, counted, filled, begun}
+use Rattle.model.specs.Book.{Effect, empties, puts, takes, leaves, hasSteps, effect, noted, movers, Split, noSplit, since, oneStep, counted, filled, begun}
 use Rattle.model.specs.History.{Moment, phaseAt, stepIn, stepped, trail, lastOf, within, marked, after, history, start}
 use Rattle.model.specs.Demand.{JobIs, WorkIs, SplitIs, Faithful, Demand3}
 
@@ -105,7 +105,7 @@ module _ {M L : Machine} (R : L .State → M .State → Type 0) where
         book = b .book;
         fill = b .fill;
         begins = ap suc (b .begins);
-        split = ap₂ (λ (n : ℕ) bk. since (movers (2 + n) bk) 1) (b .begins) (b .book);
+        split = ap₂ (λ (n : ℕ) bk. since true (movers (2 + n) bk) 1) (b .begins) (b .book);
       }
   stepIn-beside (Phase.Copying o n) t u s x b r =
       record { state = r; book = b .book; fill = b .fill; begins = b .begins; split = ap oneStep (b .split) }
@@ -228,8 +228,9 @@ module _ {M L : Machine} (R : L .State → M .State → Type 0) where
         answers c fits e = (λ k. e .0 (sym (reply c fits) ∙ k), λ k. reply c fits ∙ e .1 k)
 
         splits : (k : Split) → SplitIs M k x → SplitIs L k s
-        splits unknown h = tt
-        splits (since m k) h =
+        splits noSplit h = phase ∙ h
+        splits (since false m k) h = tt
+        splits (since true m k) h =
             rw phase (λ l. (h .0 l .0, λ e. h .0 l .1 (stops .0 e)), h .1, h .2)
 
 -- what M does L does, so what is claimed of M's calls holds of L's
