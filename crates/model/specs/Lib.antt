@@ -40,4 +40,5 @@ pub mod Demand3Inv
 pub mod Demand3Moments
 pub mod Demand3Proof
 pub mod Demand3
+pub mod WrongMachine
 pub mod Transfer

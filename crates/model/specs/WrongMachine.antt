@@ -1,0 +1,46 @@
+-- A machine that demand 3 shuts out: it has a job from its format on, whose steps never end, and answers every insert
+-- with 7. It does nothing else wrong: lookups, removals, work calls and counts are those of an empty book.
+use mathlib.Core.Path.{_≡_, refl}
+use mathlib.Core.List.{[]}
+use Prim.Native.Nat.{ℕ, _*_}
+use lib.IntN.{subℕ}
+use Rattle.address.specs.Address.{splitFrom}
+use Rattle.model.specs.declared.Refusal.{Refusal}
+use Rattle.model.specs.declared.Answer.{Answer}
+use Rattle.model.specs.declared.LookupAnswer.{LookupAnswer}
+use Rattle.model.specs.declared.Stop.{Stop}
+use Rattle.model.specs.declared.WorkAnswer.{WorkAnswer}
+use Rattle.model.specs.declared.Phase.{Phase}
+use Rattle.model.specs.declared.StandingAnswer.{StandingAnswer}
+use Rattle.model.specs.Steps.{next}
+use Rattle.model.specs.Machine.{Call, formatting, inserting, removing, looking, working, asking, plain, looked}
+use Rattle.model.specs.Machine.{worked, stands, Ran, Machine}
+use Rattle.model.specs.MachineLaws.{never}
+use Rattle.model.specs.History.{phaseAt}
+use Rattle.model.specs.Demand.{Demand3}
+
+-- its state is the fill
+abbrev wrongRun : Call → ℕ → Ran ℕ
+wrongRun (formatting fill) s = record { reply = plain Answer.Done; state = fill }
+wrongRun (inserting p) s = record { reply = plain (Answer.Refused Refusal.NoRoom); state = s }
+wrongRun (removing p) s = record { reply = plain (Answer.Refused Refusal.NotHeld); state = s }
+wrongRun (looking h out) s =
+    record { reply = looked (record { answer = LookupAnswer.Found 0; output = out }); state = s }
+wrongRun (working budget) s = record { reply = worked (WorkAnswer.Worked budget Stop.Spent); state = s }
+wrongRun asking s =
+    record {
+      reply = stands (StandingAnswer.Stands (record {
+        count = 0;
+        buckets = 2;
+        phase = Phase.Copying (splitFrom 1) 1;
+        slack = subℕ (s * 2) 0;
+      }));
+      state = s;
+    }
+
+abbrev pub wrong : Machine
+wrong = record { State = ℕ; run = wrongRun; step = λ s. next s; stored = λ s. 0 }
+
+-- standing gives phase copying before any begin
+pub wrong-fails : Demand3 wrong → ⊥
+wrong-fails d = let none : phaseAt wrong 1 ≡ Phase.None = d 1 1 refl [] tt .0 .splits in never (cc)
