@@ -24,7 +24,7 @@ use Rattle.model.specs.RemoveLaws.{remove-wf}
 use Rattle.model.specs.StepLaws.{step-wf}
 use Rattle.model.specs.WorkLaws.{work-wf}
 use Rattle.model.specs.FormatLaws.{formatted-wf}
-use Rattle.model.specs.Transfer.{Alike, iterate-alike}
+use Rattle.model.specs.Simulation.{Alike, iterate-alike}
 use Rattle.image.specs.Layout.{encode}
 use Rattle.image.specs.Rules.{sound}
 use Rattle.image.specs.Outcomes.{lengthOk, Tested, passed, failed, tested, Changed, formatIn, formatOutcome}

@@ -11,7 +11,7 @@ use Rattle.model.specs.Index.{Index}
 use Rattle.model.specs.Calls.{format, formatIn, formatted}
 use Rattle.model.specs.Machine.{formatting, plain, accepted, Ran, settled, runIndex, onIndex}
 use Rattle.model.specs.WellFormed.{WF}
-use Rattle.model.specs.Transfer.{Formats, Simulates}
+use Rattle.model.specs.Simulation.{Formats, Simulates}
 use Rattle.image.specs.Layout.{encode}
 use Rattle.image.specs.Outcomes.{tested, Changed, runStore, onStore}
 use Rattle.image.specs.Bridge.{count-encode}

@@ -1,17 +1,19 @@
 -- DEMAND 3, as a claim on any machine that runs the calls: document 01, "The book of demand 3". Open this file first.
 --   Book      (Book.antt) what was inserted and not removed since, fed arguments and acceptance alone
 --   history   (History.antt) the moments of a list of calls: after each call and after each single step
+--   Always    (History.antt) at the start and at every moment of every list of calls
 --   Faithful  what holds at a moment, by the calls' answers alone
---   Demand3   at the start and at every moment of every list of calls, it is so
+--   Demand3   it always holds
+-- When an insert or a step finds no room, and so gets 7, is said in Room.antt.
 use mathlib.Core.Path.{_≡_}
 use mathlib.Core.Logic.{_≢_, _↔_, _⊎_}
 use mathlib.Core.Bool.{Bool, true, false}
-use mathlib.Core.List.{List, _∷_, _++_}
+use mathlib.Core.List.{List, _++_}
 use mathlib.Core.Option.{Option, none, some}
 use Prim.Native.Nat.{ℕ, zero, suc, _+_, _*_, _/_, _≤_, _<_}
 use lib.IntN.{subℕ}
 use lib.ListN.{length, drop}
-use Rattle.lists.specs.Lists.{bind, Each}
+use Rattle.lists.specs.Lists.{bind}
 use Rattle.address.specs.Address.{splitFrom}
 use Rattle.page.specs.declared.Pair.{Pair}
 use Rattle.page.specs.Pair.{ascending}
@@ -25,9 +27,10 @@ use Rattle.model.specs.declared.StandingAnswer.{StandingAnswer}
 use Rattle.model.specs.Held.{self}
 use Rattle.model.specs.Steps.{Step, next, stopped}
 use Rattle.model.specs.Calls.{pairOk, placeBytes}
-use Rattle.model.specs.Machine.{Call, formatting, inserting, removing, looking, working, asking, CallFits, plain, looked, worked, stands, accepted, Machine}
+use Rattle.model.specs.Machine.{inserting, removing, looking, working, asking, CallFits, plain, looked, worked}
+use Rattle.model.specs.Machine.{stands, Machine}
 use Rattle.model.specs.Book.{Book, has, under, Split, noSplit, since}
-use Rattle.model.specs.History.{Moment, phaseAt, history, start}
+use Rattle.model.specs.History.{Moment, phaseAt, Always}
 
 module _ (M : Machine) where
   -- "with less room it gets 8 and that number", and the output stays
@@ -102,7 +105,4 @@ module _ (M : Machine) where
     pub splits : SplitIs (t .split) (t .state)
 
   abbrev pub Demand3 : Type 0
-  Demand3 =
-      (s : M .State) (fill : ℕ) → accepted (M .run (formatting fill) s .reply) ≡ true
-      → (cs : List Call) → Each CallFits cs
-      → let t = start M (M .run (formatting fill) s .state) fill in Each Faithful (t ∷ history M cs t)
+  Demand3 = Always M Faithful

@@ -17,15 +17,17 @@ use Rattle.model.specs.declared.Answer.{Answer}
 use Rattle.model.specs.declared.Stop.{Stop}
 use Rattle.model.specs.declared.Phase.{Phase}
 use Rattle.model.specs.declared.StandingAnswer.{StandingAnswer}
-use Rattle.model.specs.Index.{Job, idle, copying, clearing, Index, oldBucket, newBucket}
+use Rattle.model.specs.Index.{Job, idle, copying, clearing, Index, bucket, oldBucket, newBucket}
 use Rattle.model.specs.Held.{held, matches, count, slack, wanted}
 use Rattle.model.specs.Steps.{stopped, step}
-use Rattle.model.specs.Calls.{pairOk, Result, insert, remove, listed, lookup, phaseIn, standing}
+use Rattle.model.specs.Calls.{pairOk, Result, done, refused, insert, remove, listed, lookup, phaseIn, standing}
 use Rattle.model.specs.Machine.{inserting, removing, asking, plain, looked, stands, settled, runIndex, onIndex}
 use Rattle.model.specs.MachineLaws.{never}
 use Rattle.model.specs.Book.{Book, under}
 use Rattle.model.specs.History.{phaseAt}
 use Rattle.model.specs.Demand.{LookupsIs, JobIs}
+use Rattle.model.specs.Room.{NoPage}
+use Rattle.model.specs.RoomLaws.{insert-noRoom}
 use Rattle.model.specs.FrameLaws.{step-idle}
 use Rattle.model.specs.Views.{Inserting, already, noRoom, inserted, insert-view, Removing, absent, removed, remove-view}
 
@@ -75,6 +77,21 @@ removed-is x p ok e = go (remove x p) (remove-view x p)
     go r (Removing.wrong b) = no-way ok b
     go r (absent b h) = no-way e h
     go r (removed b h) = refl
+
+-- ---- 7
+
+settled-noRoom : (x : Index) (r : Result)
+    → (settled x r .reply ≡ plain (Answer.Refused Refusal.NoRoom)) ↔ (r ≡ refused Refusal.NoRoom)
+settled-noRoom x (done y) = (λ e. never (cc), λ e. never (cc))
+settled-noRoom x (refused r) = (λ e. cc, λ e. cc)
+
+pub noRoom-is : (x : Index) (p : Pair) → pairOk p ≡ true → held x p ≡ false
+    → (runIndex (inserting p) x .reply ≡ plain (Answer.Refused Refusal.NoRoom)) ↔ NoPage x (bucket x p)
+unfolding runIndex
+noRoom-is x p ok e =
+    let n = insert-noRoom x p ok e in
+    let r = settled-noRoom x (insert x p) in
+    (λ h. n .0 (r .0 h), λ h. r .1 (n .1 h))
 
 -- ---- lookup and standing
 

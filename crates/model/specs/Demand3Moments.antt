@@ -12,7 +12,8 @@ use Rattle.model.specs.Calls.{sizeOk, fillOk, budgetOk, format, formatIn
 use Rattle.model.specs.Machine.{Call, formatting, inserting, removing, looking, working, asking, CallFits, accepted, settled, workedIn, runIndex, onIndex}
 use Rattle.model.specs.Book.{Effect, empties, puts, takes, leaves, hasSteps, effect}
 use Rattle.model.specs.History.{Moment, phaseAt, stepIn, stepped, trail, lastOf, within, marked, after, history}
-use Rattle.model.specs.Demand3Inv.{Inv, start-inv, insert-inv, remove-inv, step-inv}
+use Rattle.model.specs.History.{start, Always}
+use Rattle.model.specs.Demand3Inv.{Inv, start-inv, format-inv, insert-inv, remove-inv, step-inv}
 
 trail-inv : (n : ℕ) (t : Moment onIndex) → Inv t → Each Inv (trail onIndex n t)
 trail-inv zero t i = tt
@@ -84,10 +85,15 @@ after-inv (working budget) fits t i = go (budgetOk budget)
     go false = i
     go true = rw (← trail-ends budget t) (lastOf-inv (trail onIndex budget t) t i (trail-inv budget t i))
 
-pub history-inv : (cs : List Call) → Each CallFits cs → (t : Moment onIndex) → Inv t → Each Inv (history onIndex cs t)
+history-inv : (cs : List Call) → Each CallFits cs → (t : Moment onIndex) → Inv t → Each Inv (history onIndex cs t)
 history-inv [] fits t i = tt
 history-inv (c ∷ cs) fits t i =
     let a = accepted (runIndex c (t .state) .reply) in
     let j = after-inv c (fits .0) t i in
     each-append Inv (within onIndex a (effect c) t) _ (within-inv a (effect c) t i)
     (j, history-inv cs (fits .1) (after onIndex c t) j)
+
+pub always-inv : Always onIndex Inv
+always-inv x fill ok cs fits =
+    let i = format-inv x fill ok in
+    (i, history-inv cs fits (start onIndex (runIndex (formatting fill) x .state) fill) i)

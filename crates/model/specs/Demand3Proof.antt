@@ -1,4 +1,4 @@
--- What the invariant says of the calls' answers: all that demand 3 claims of a moment.
+-- What the invariant says of the calls' answers: all that demand 3 claims of a moment, and when there is no room.
 use mathlib.Core.Path.{_≡_, sym, _∙_}
 use mathlib.Core.Logic.{_≢_}
 use mathlib.Core.Bool.{true, false}
@@ -12,10 +12,13 @@ use Rattle.model.specs.MachineLaws.{index-works}
 use Rattle.model.specs.Book.{Split, noSplit, since}
 use Rattle.model.specs.History.{Moment}
 use Rattle.model.specs.Demand.{SplitIs, Faithful}
+use Rattle.model.specs.Room.{RoomIs}
+use Rattle.model.specs.RoomLaws.{step-noRoom}
 use Rattle.model.specs.MatchesLaws.{matches-is}
 use Rattle.model.specs.CountLaws.{count-is}
 use Rattle.model.specs.StepsLeftLaws.{stepsLeft-at, stepsLeft-idle}
-use Rattle.model.specs.Demand3Answers.{heldAlready-is, notHeld-is, inserted-is, removed-is, lookup-is, standing-is, job-is, phase-none, rests-is, busy}
+use Rattle.model.specs.Demand3Answers.{heldAlready-is, notHeld-is, inserted-is, removed-is, noRoom-is, lookup-is}
+use Rattle.model.specs.Demand3Answers.{standing-is, job-is, phase-none, rests-is, busy}
 use Rattle.model.specs.Demand3Inv.{Track, Inv}
 
 -- a split has steps left exactly while there is a job
@@ -50,3 +53,10 @@ faithful t i =
 
     counts : count x ≡ length (t .book)
     counts = count-is x (i .wf) (t .book) (i .set) (i .agree)
+
+pub room-is : (t : Moment onIndex) → Inv t → RoomIs onIndex (λ x. x) t
+room-is t i =
+    record {
+      inserts = λ p fits ok e. noRoom-is (t .state) p ok (sym (i .agree p) ∙ e);
+      steps = step-noRoom (t .state);
+    }

@@ -1,11 +1,14 @@
 -- The moments of a list of calls on a machine: at the start, after each single step of a work call, and after each call.
+use mathlib.Core.Path.{_≡_}
 use mathlib.Core.Bool.{Bool, true, false}
 use mathlib.Core.List.{List, [], _∷_, _++_}
 use Prim.Native.Nat.{ℕ, zero, suc, _+_}
+use Rattle.lists.specs.Lists.{Each}
 use Rattle.model.specs.declared.Phase.{Phase}
 use Rattle.model.specs.Answers.{standingOf}
 use Rattle.model.specs.Steps.{Step, next, stopped}
-use Rattle.model.specs.Machine.{Call, asking, Reply, plain, looked, worked, stands, accepted, Ran, Machine}
+use Rattle.model.specs.Machine.{Call, formatting, asking, CallFits, Reply, plain, looked, worked, stands}
+use Rattle.model.specs.Machine.{accepted, Ran, Machine}
 use Rattle.model.specs.Book.{Book, Effect, empties, puts, takes, leaves, hasSteps, effect, noted, movers, Split, noSplit, since, oneStep, counted, filled, begun}
 
 module _ (M : Machine) where
@@ -85,3 +88,10 @@ module _ (M : Machine) where
 
   abbrev pub start : State → (fill : ℕ) → Moment
   start s fill = record { state = s; book = []; fill = fill; begins = 0; split = noSplit }
+
+  -- a claim at the start, when a format was accepted, and at every moment of every list of calls that follows
+  abbrev pub Always : (Moment → Type 0) → Type 0
+  Always P =
+      (s : State) (fill : ℕ) → accepted (M .run (formatting fill) s .reply) ≡ true
+      → (cs : List Call) → Each CallFits cs
+      → let t = start (M .run (formatting fill) s .state) fill in Each P (t ∷ history cs t)

@@ -1,37 +1,36 @@
 -- No room: exactly when neither the chain nor the overflow bits nor the blocks past the made ones have any.
-use mathlib.Core.Path.{_≡_, refl, ap}
+use mathlib.Core.Path.{_≡_, refl, sym, ap, subst}
 use mathlib.Core.Logic.{_↔_}
 use mathlib.Core.Bool.{Bool, true, false, not, _||_}
 use mathlib.Core.List.{List, [], _∷_}
 use mathlib.Core.Option.{Option, none, some}
-use Prim.Native.Nat.{ℕ, pred, _≤_, _<_}
+use Prim.Native.Nat.{ℕ, suc, pred, _*_, _≤_, _<_}
 use native.Mathlib.Omega.{arith}
-use borrow.Author.Tests.{ltb-false, le-ltb}
+use borrow.Author.Tests.{ltb-true, ltb-false, le-ltb}
 use lib.Dec.{eqb}
 use lib.ListN.{length}
-use Rattle.lists.specs.Lists.{b2n, any, upFrom, Each}
-use Rattle.lists.specs.ListsLaws.{any-yes, find-no}
+use Rattle.lists.specs.Lists.{b2n, any, find, upFrom, Each}
+use Rattle.lists.specs.ListsLaws.{any-yes, find-no, find-yes}
 use Rattle.address.specs.Address.{point, made}
 use Rattle.page.specs.declared.Pair.{Pair}
 use Rattle.page.specs.declared.Entry.{Entry}
 use Rattle.page.specs.PairLaws.{no-way}
 use Rattle.model.specs.declared.Refusal.{Refusal}
-use Rattle.model.specs.Index.{Page, Index, chain, bucket, topBit}
+use Rattle.model.specs.declared.Stop.{Stop}
+use Rattle.model.specs.Index.{Page, Job, idle, copying, clearing, Index, chain, entriesAt, bucket, oldBucket}
+use Rattle.model.specs.Index.{topBit}
 use Rattle.model.specs.Pages.{hasRoom, pageRoom, bitsUsed, freeBit, Taken, put}
-use Rattle.model.specs.Held.{held}
+use Rattle.model.specs.Held.{held, count, wanted}
+use Rattle.model.specs.Steps.{Step, stopped, toCopy, step}
 use Rattle.model.specs.Calls.{pairOk, Result, refused, insert}
+use Rattle.model.specs.StepsLeft.{copiesLeft}
 use Rattle.model.specs.WellFormed.{uses}
+use Rattle.model.specs.Room.{NoPage, NoGroup, NoStep}
 use Rattle.model.specs.TallyLaws.{or-left, or-right, tally-upFrom}
 use Rattle.model.specs.LaidLaws.{TakenAs, nothing, again, fresh, take-view}
-use Rattle.model.specs.Views.{Putting, full, inPage, inNew, put-view, Inserting, already, noRoom, inserted, insert-view}
-
--- no page for an entry of bucket b: no page of its chain has fewer than 40 entries, no made overflow bit is free, and
--- the next block past the made ones is not below N
-pub record NoPage (x : Index) (b : ℕ) : Type 0 where
-  pub first : 40 ≤ length (chain x b .first)
-  pub more : Each (λ (g : Page). 40 ≤ length (g .entries)) (chain x b .more)
-  pub bits : (n : ℕ) → 1 ≤ n → n < topBit x → 1 ≤ uses n x
-  pub blocks : x .size ≤ made (x .spares) (point (x .maxBucket))
+use Rattle.model.specs.Views.{Putting, full, inPage, inNew, put-view, Inserting, already, noRoom, inserted}
+use Rattle.model.specs.Views.{insert-view, Beginning, noGroup, inGroup, newGroup, Stepping, resting, unbegun}
+use Rattle.model.specs.Views.{began, uncopied, copied, copiedAll, cleared, clearedAll, step-view}
 
 -- ---- the chain
 
@@ -110,3 +109,52 @@ insert-noRoom x q ok nh = (λ h. to (rw h at (insert-view x q)), λ f. from f (i
     from f (already k l) = no-way l nh
     from f (noRoom k l v) = refl
     from f (inserted k l v) = let n = noPage-none f v in let z : _≡_ {A = ℕ} 0 1 = cc in absurd (omega arith)
+
+-- ---- a step
+
+module _ {x : Index} where
+  begin-none : Beginning x none → NoGroup x
+  begin-none (noGroup k l) =
+      record { needed = ltb-true (point (x .maxBucket)) (point (suc (x .maxBucket))) k; blocks = l }
+
+  noGroup-none : NoGroup x → {r : Option Index} → Beginning x r → r ≡ none
+  noGroup-none g (noGroup k l) = refl
+  noGroup-none g (inGroup k) =
+      absurd (omega (arith, g .needed, ltb-false (point (x .maxBucket)) (point (suc (x .maxBucket))) k))
+  noGroup-none g (newGroup k l) = absurd (omega (arith, g .blocks))
+
+wants : (x : Index) → wanted x ≡ true → x .fill * suc (x .maxBucket) < count x
+unfolding wanted
+wants x h = ltb-true (x .fill * suc (x .maxBucket)) (count x) h
+
+rests : (x : Index) → wanted x ≡ false → count x ≤ x .fill * suc (x .maxBucket)
+unfolding wanted
+rests x h = ltb-false (x .fill * suc (x .maxBucket)) (count x) h
+
+-- a step stops for room exactly when there is none
+pub step-noRoom : (x : Index) → (step x ≡ stopped Stop.NoRoom) ↔ NoStep (x .job) x
+step-noRoom x = (λ h. to (rw h at (step-view x)), λ f. from (λ i e. subst (λ (j : Job). NoStep j x) e f) (step-view x))
+  where
+    left : (e : Entry) → find (toCopy x) (entriesAt x (oldBucket x)) ≡ some e → 1 ≤ copiesLeft x
+    left e k =
+        let y = find-yes (toCopy x) (entriesAt x (oldBucket x)) e k in
+        omega (arith, y .1 (toCopy x), ap b2n (y .0))
+
+    by : (i : Job) → x .job ≡ i → NoStep i x → NoStep (x .job) x
+    by i e f = subst (λ (j : Job). NoStep j x) (sym e) f
+
+    to : Stepping x (stopped Stop.NoRoom) → NoStep (x .job) x
+    to (unbegun j w v) = by idle j (wants x w, begin-none v)
+    to (uncopied j e k v) = by copying j (left e k, putting-none v)
+
+    from : ((i : Job) → x .job ≡ i → NoStep i x) → {r : Step Index} → Stepping x r → r ≡ stopped Stop.NoRoom
+    from f (resting j w) = absurd (omega (arith, f idle j .0, rests x w))
+    from f (unbegun j w v) = refl
+    from f (began j w v) = let n = noGroup-none (f idle j .1) v in let z : _≡_ {A = ℕ} 0 1 = cc in absurd (omega arith)
+    from f (uncopied j e k v) = refl
+    from f (copied j e k v) =
+        let n = noPage-none (f copying j .1) v in let z : _≡_ {A = ℕ} 0 1 = cc in absurd (omega arith)
+    from f (copiedAll j k) =
+        absurd (omega (arith, f copying j .0, find-no (toCopy x) (entriesAt x (oldBucket x)) k))
+    from f (cleared j e k) = absurd (f clearing j)
+    from f (clearedAll j k) = absurd (f clearing j)

@@ -1,0 +1,54 @@
+-- When there is no room: document 01's sentences on 7, said of an index and apart from how an insert or a step goes
+-- about it. "An insert that makes up a 7 doesn't meet" demand 3.
+use mathlib.Core.Path.{_≡_}
+use mathlib.Core.Logic.{_↔_}
+use mathlib.Core.Bool.{true, false}
+use Prim.Native.Nat.{ℕ, suc, _+_, _*_, _≤_, _<_}
+use lib.ListN.{length}
+use Rattle.lists.specs.Lists.{Each}
+use Rattle.address.specs.Address.{bucketsAt, point, made}
+use Rattle.page.specs.declared.Pair.{Pair}
+use Rattle.model.specs.declared.Refusal.{Refusal}
+use Rattle.model.specs.declared.Answer.{Answer}
+use Rattle.model.specs.declared.Stop.{Stop}
+use Rattle.model.specs.Index.{Page, Job, idle, copying, clearing, Index, chain, bucket, newBucket, topBit}
+use Rattle.model.specs.Held.{count}
+use Rattle.model.specs.Steps.{stopped}
+use Rattle.model.specs.StepsLeft.{copiesLeft}
+use Rattle.model.specs.Calls.{pairOk}
+use Rattle.model.specs.WellFormed.{uses}
+use Rattle.model.specs.Machine.{inserting, CallFits, plain, Machine}
+use Rattle.model.specs.Book.{has}
+use Rattle.model.specs.History.{Moment}
+
+-- Insert: no page for an entry of bucket b
+pub record NoPage (x : Index) (b : ℕ) : Type 0 where
+  -- no page of its chain has "fewer than 40 entries"
+  pub first : 40 ≤ length (chain x b .first)
+  pub more : Each (λ (g : Page). 40 ≤ length (g .entries)) (chain x b .more)
+  -- no bit is 0: each overflow bit that is made, but the bitmap's own, stands in a chain
+  pub bits : (n : ℕ) → 1 ≤ n → n < topBit x → 1 ≤ uses n x
+  -- "the next block past the made ones" is not "below N"
+  pub blocks : x .size ≤ made (x .spares) (point (x .maxBucket))
+
+-- Begin: the new bucket "needs a new group", and "2^(s+1) + spares[s] + 1" is above N
+pub record NoGroup (x : Index) : Type 0 where
+  pub needed : point (x .maxBucket) < point (suc (x .maxBucket))
+  pub blocks : x .size < bucketsAt (suc (point (x .maxBucket))) + topBit x + 1
+
+-- A step, by phase: a begin with "slack below zero"; a copy that is left to make, "placed as by insert"; clearing
+-- never stops for room
+abbrev pub NoStep : Job → Index → Type 0
+NoStep idle x = (x .fill * suc (x .maxBucket) < count x) × NoGroup x
+NoStep copying x = (1 ≤ copiesLeft x) × NoPage x (newBucket x)
+NoStep clearing x = ⊥
+
+-- of a machine whose states show an index
+module _ (M : Machine) (index : M .State → Index) where
+  pub record RoomIs (t : Moment M) : Type 0 where
+    -- an insert that no earlier test refuses gets 7 exactly when there is no page for it
+    pub inserts : (p : Pair) → CallFits (inserting p) → pairOk p ≡ true → has (t .book) p ≡ false
+        → (M .run (inserting p) (t .state) .reply ≡ plain (Answer.Refused Refusal.NoRoom))
+        ↔ NoPage (index (t .state)) (bucket (index (t .state)) p)
+    -- a step stops with 7 exactly when there is no room for it
+    pub steps : (M .step (t .state) ≡ stopped Stop.NoRoom) ↔ NoStep (index (t .state) .job) (index (t .state))
