@@ -1,8 +1,8 @@
--- The moments of a list of calls, of any machine: what follows from what always holds; what each call and each step
--- keeps holds at every moment.
-use mathlib.Core.Path.{_≡_, refl}
-use mathlib.Core.Bool.{Bool, true, false}
-use mathlib.Core.List.{List, [], _∷_}
+-- The moments of a list of calls, of any machine: what follows from what always holds; the moment after a call; what each
+-- call and each step keeps holds at every moment.
+use mathlib.Core.Path.{_≡_, refl, _∙_}
+use mathlib.Core.Bool.{Bool, true, false, cond}
+use mathlib.Core.List.{List, [], _∷_, _++_}
 use Prim.Native.Nat.{ℕ, zero, suc}
 use Rattle.lists.specs.Lists.{Each}
 use Rattle.lists.specs.ListsLaws.{each-append}
@@ -10,14 +10,60 @@ use Rattle.page.specs.SublistLaws.{each-map}
 use Rattle.model.specs.declared.Phase.{Phase}
 use Rattle.model.specs.Steps.{Step, next, stopped}
 use Rattle.model.specs.Machine.{Call, formatting, CallFits, accepted, Machine}
-use Rattle.model.specs.Book.{Effect, empties, puts, takes, leaves, hasSteps, effect}
-use Rattle.model.specs.History.{Moment, phaseAt, stepIn, stepped, trail, within, marked, after, history, start}
-use Rattle.model.specs.History.{Always}
+use Rattle.model.specs.Book.{Effect, empties, puts, takes, leaves, hasSteps, effect, noted}
+use Rattle.model.specs.History.{Moment, phaseAt, stepIn, stepped, trail, lastOf, within, marked, after, history}
+use Rattle.model.specs.History.{start, Always}
 
 pub always-map : {M : Machine} (P Q : Moment M → Type 0) → ((t : Moment M) → P t → Q t) → Always M P → Always M Q
 always-map {M} P Q f d s fill ok cs fits =
     let t = start M (M .run (formatting fill) s .state) fill in
     each-map P Q f (t ∷ history M cs t) (d s fill ok cs fits)
+
+-- ---- the moment after a call
+
+module _ (M : Machine) where
+  pub last-append : (t : Moment M) (us : List (Moment M)) (v : Moment M) (vs : List (Moment M))
+      → lastOf M t (us ++ v ∷ vs) ≡ lastOf M v vs
+  last-append t [] v vs = refl
+  last-append t (u ∷ us) v vs = last-append u us v vs
+
+  -- its state is the one that the call left
+  pub after-state : (c : Call) (t : Moment M) → after M c t .state ≡ M .run c (t .state) .state
+  after-state c t = go (accepted (M .run c (t .state) .reply)) _
+    where
+      go : (a : Bool) (u : Moment M) → marked M a (effect c) u (M .run c (t .state) .state) .state ≡ M .run c (t .state) .state
+      go true u = refl
+      go false u = refl
+
+  -- steps leave the book alone
+  trail-book : (n : ℕ) (t : Moment M) → lastOf M t (trail M n t) .book ≡ t .book
+  trail-book zero t = refl
+  trail-book (suc n) t = go (M .step (t .state)) refl (trail-book n)
+    where
+      kept : (ph : Phase) (s : M .State) → stepIn M ph t s .book ≡ t .book
+      kept Phase.None s = refl
+      kept (Phase.Copying o n) s = refl
+      kept (Phase.Clearing o n) s = refl
+
+      go : (r : Step (M .State)) → M .step (t .state) ≡ r
+          → ((u : Moment M) → lastOf M u (trail M n u) .book ≡ u .book)
+          → lastOf M t (trail M (suc n) t) .book ≡ t .book
+      go (next s) e ih = rw (e, trail) (ih (stepped M t s) ∙ kept (phaseAt M (t .state)) s)
+      go (stopped c) e ih = rw (e, trail) refl
+
+  -- its book is what the call's effect makes of the book before, if the call was accepted
+  pub after-book : (c : Call) (t : Moment M)
+      → after M c t .book ≡ cond (accepted (M .run c (t .state) .reply)) (noted (effect c) (t .book)) (t .book)
+  after-book c t = go (accepted (M .run c (t .state) .reply)) (effect c)
+    where
+      go : (a : Bool) (e : Effect)
+          → marked M a e (lastOf M t (within M a e t)) (M .run c (t .state) .state) .book ≡ cond a (noted e (t .book)) (t .book)
+      go false e = refl
+      go true (empties fill) = refl
+      go true (puts p) = refl
+      go true (takes p) = refl
+      go true leaves = refl
+      go true (hasSteps budget) = trail-book budget t
 
 -- ---- what each call and each step keeps holds at every moment
 

@@ -7,6 +7,7 @@ pub mod Calls
 pub mod Machine
 pub mod Book
 pub mod History
+pub mod Events
 pub mod Demand
 pub mod WellFormed
 pub mod StepsLeft
@@ -37,6 +38,7 @@ pub mod BoundLaws
 pub mod BookLaws
 pub mod MachineLaws
 pub mod HistoryLaws
+pub mod EventLaws
 pub mod Demand3Answers
 pub mod Demand3Inv
 pub mod Demand3Moments
