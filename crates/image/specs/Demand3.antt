@@ -1,6 +1,6 @@
--- DEMAND 3 holds of byte stores, over every list of calls, and 7 comes exactly when there is no room. The claims are in
--- Demand.antt and Room.antt of crate `model`, their proof for the index as a value in Demand3.antt there; a store does as
--- its index does (OutcomeMachineLaws.antt).
+-- DEMAND 3 holds of byte stores, over every list of calls, and 7 comes exactly when there is no room. The claims are
+-- in Demand.antt and Room.antt of crate `model`, their proof for the index as a value in Demand3.antt there; a store
+-- does as its index does (OutcomeMachineLaws.antt).
 use mathlib.Core.Path.{_≡_, ap, _∙_}
 use mathlib.Core.Bool.{true}
 use mathlib.Core.List.{List, _∷_}

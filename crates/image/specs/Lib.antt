@@ -2,6 +2,7 @@ pub mod Layout
 pub mod Decode
 pub mod Rules
 pub mod Outcomes
+pub mod Refusals
 pub mod VerdictLaws
 pub mod PagedLaws
 pub mod MetaLaws

@@ -22,8 +22,8 @@ use Rattle.model.specs.WellFormed.{WF}
 use Rattle.model.specs.InsertLaws.{insert-wf}
 use Rattle.model.specs.RemoveLaws.{remove-wf}
 use Rattle.model.specs.StepLaws.{step-wf}
-use Rattle.model.specs.WorkLaws.{work-wf}
-use Rattle.model.specs.FormatLaws.{formatted-wf}
+use Rattle.model.specs.FormatLaws.{format-wf}
+use Rattle.model.specs.RunLaws.{run-keeps}
 use Rattle.model.specs.Simulation.{Alike, iterate-alike}
 use Rattle.image.specs.Layout.{encode}
 use Rattle.image.specs.Rules.{sound}
@@ -168,19 +168,12 @@ run-encode (working budget) x w = go (budgetOk budget) refl
 run-encode asking x w = ap (λ (a : StandingAnswer). record { reply = stands a; state = encode x }) (standing-encode x w)
 
 -- and its index is well-formed
-settled-wf : (x : Index) (r : Result) → WF x → ((y : Index) → r ≡ done y → WF y) → WF (settled x r .state)
-settled-wf x (done y) w f = f y refl
-settled-wf x (refused r) w f = w
-
 pub run-wf : (c : Call) → CallFits c → (x : Index) → WF x → WF (runIndex c x .state)
-unfolding runIndex
-run-wf (formatting fill) f x w = settled-wf x (formatted x fill) w (λ y e. formatted-wf x fill y e)
-run-wf (inserting p) f x w = settled-wf x (insert x p) w (λ y e. insert-wf x p y w f e)
-run-wf (removing p) f x w = settled-wf x (remove x p) w (λ y e. remove-wf x p y w e)
-run-wf (looking h out) f x w = w
-run-wf (working budget) f x w = go (budgetOk budget)
-  where
-    go : (b : Bool) → WF (workedIn b x (work budget x) .state)
-    go true = work-wf budget x w
-    go false = w
-run-wf asking f x w = w
+run-wf =
+    run-keeps WF
+    (record {
+      formats = λ x fill s f w. format-wf (x .size) fill s f;
+      inserts = insert-wf;
+      removes = remove-wf;
+      steps = step-wf;
+    })

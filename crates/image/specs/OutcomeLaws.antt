@@ -6,7 +6,7 @@ use mathlib.Core.Bool.{Bool, true, false}
 use mathlib.Core.List.{List}
 use mathlib.Core.Option.{some}
 use Prim.Native.Nat.{ℕ, _/_, _<_}
-use lib.Dec.{leb, eqb}
+use lib.Dec.{leb}
 use lib.ListN.{length}
 use Rattle.lists.specs.Block.{blocks}
 use Rattle.page.specs.declared.Pair.{Pair}
@@ -15,14 +15,14 @@ use Rattle.model.specs.declared.Answer.{Answer}
 use Rattle.model.specs.declared.LookupAnswer.{LookupAnswer}
 use Rattle.model.specs.declared.Stop.{Stop}
 use Rattle.model.specs.declared.WorkAnswer.{WorkAnswer}
-use Rattle.model.specs.declared.StandingAnswer.{StandingAnswer}
-use Rattle.model.specs.Answers.{refusalNo}
 use Rattle.model.specs.Index.{Index}
 use Rattle.model.specs.Steps.{stopped, iterate}
 use Rattle.model.specs.Calls.{Result, done, refused, fillOk, pairOk, budgetOk, format, insert, remove, listed, lookup}
 use Rattle.model.specs.Held.{matches}
 use Rattle.model.specs.Machine.{Call, formatting, inserting, removing, looking, working, asking, Reply, plain, looked}
-use Rattle.model.specs.Machine.{worked, stands, accepted}
+use Rattle.model.specs.Machine.{worked, stands, accepted, Ran}
+use Rattle.model.specs.Book.{effect}
+use Rattle.model.specs.RunLaws.{refused-no}
 use Rattle.model.specs.MachineLaws.{never, iterate-works}
 use Rattle.model.specs.Demand.{afterSteps, WorkIs}
 use Rattle.image.specs.Layout.{encode}
@@ -31,6 +31,7 @@ use Rattle.image.specs.Outcomes.{lengthOk, Tested, passed, failed, judge
 use Rattle.image.specs.Outcomes.{formatOutcome, changed, insertOn, insertOutcome, removeOn, removeOutcome}
 use Rattle.image.specs.Outcomes.{lookupOn, lookupOutcome, standingOn, standingOutcome, stepOutcome, workOn}
 use Rattle.image.specs.Outcomes.{workOutcome, runStore, onStore}
+use Rattle.image.specs.Refusals.{numbersOk, Tests, refusedAs}
 
 -- ---- the tests, in their order
 
@@ -63,53 +64,9 @@ module _ (s : List ℕ) where
 
 -- ---- a call whose tests fail
 
--- the test of a call's own numbers
-abbrev pub numbersOk : Call → Bool
-numbersOk (formatting fill) = true
-numbersOk (inserting p) = pairOk p
-numbersOk (removing p) = pairOk p
-numbersOk (looking h out) = true
-numbersOk (working budget) = budgetOk budget
-numbersOk asking = true
-
--- a call's answer when it is refused; a lookup's output stays
-abbrev pub refusedAs : Call → Refusal → Reply
-refusedAs (formatting fill) r = plain (Answer.Refused r)
-refusedAs (inserting p) r = plain (Answer.Refused r)
-refusedAs (removing p) r = plain (Answer.Refused r)
-refusedAs (looking h out) r = looked (record { answer = LookupAnswer.Refused r; output = out })
-refusedAs (working budget) r = worked (WorkAnswer.Refused r)
-refusedAs asking r = stands (StandingAnswer.Refused r)
-
-refused-no : (r : Refusal) → eqb (refusalNo r) 0 ≡ false
-refused-no Refusal.Length = refl
-refused-no Refusal.Number = refl
-refused-no (Refusal.Damaged k) = refl
-refused-no (Refusal.NotIndex k) = refl
-refused-no Refusal.HeldAlready = refl
-refused-no Refusal.NotHeld = refl
-refused-no Refusal.NoRoom = refl
-refused-no (Refusal.OutputShort n) = refl
-
-pub refused-not : (c : Call) (r : Refusal) → accepted (refusedAs c r) ≡ false
-refused-not (formatting fill) r = refused-no r
-refused-not (inserting p) r = refused-no r
-refused-not (removing p) r = refused-no r
-refused-not (looking h out) r = refused-no r
-refused-not (working budget) r = refused-no r
-refused-not asking r = refused-no r
-
--- format alone tests length and fill, and nothing else
-abbrev pub Tests : Call → Type 0
-Tests (formatting fill) = ⊥
-Tests (inserting p) = Unit {0}
-Tests (removing p) = Unit {0}
-Tests (looking h out) = Unit {0}
-Tests (working budget) = Unit {0}
-Tests asking = Unit {0}
-
 -- the refusal, and the store as it was
-pub run-failed : (c : Call) → Tests c → (s : List ℕ) (r : Refusal) → tested (numbersOk c) s ≡ failed r
+pub run-failed : (c : Call) → Tests (effect c) → (s : List ℕ) (r : Refusal)
+    → tested (numbersOk (effect c)) s ≡ failed r
     → runStore c s ≡ record { reply = refusedAs c r; state = s }
 unfolding runStore insertOutcome removeOutcome lookupOutcome standingOutcome workOutcome
 run-failed (formatting fill) t s r e = absurd t
@@ -124,61 +81,92 @@ run-failed (working budget) t s r e =
 run-failed asking t s r e = ap (λ (a : Tested). record { reply = stands (standingOn a); state = s }) e
 
 -- as each test says, in their order
-module _ (c : Call) (t : Tests c) (s : List ℕ) where
+module _ (c : Call) (t : Tests (effect c)) (s : List ℕ) where
   pub run-length : lengthOk s ≡ false → runStore c s ≡ record { reply = refusedAs c Refusal.Length; state = s }
-  run-length l = run-failed c t s Refusal.Length (tested-length s (numbersOk c) l)
+  run-length l = run-failed c t s Refusal.Length (tested-length s (numbersOk (effect c)) l)
 
-  pub run-number : lengthOk s ≡ true → numbersOk c ≡ false
+  pub run-number : lengthOk s ≡ true → numbersOk (effect c) ≡ false
       → runStore c s ≡ record { reply = refusedAs c Refusal.Number; state = s }
   run-number l n =
       run-failed c t s Refusal.Number (ap (λ (b : Bool). tested b s) n ∙ tested-number s l)
 
-  pub run-damaged : lengthOk s ≡ true → numbersOk c ≡ true → (k : ℕ) → verdict s ≡ damaged k
+  pub run-damaged : lengthOk s ≡ true → numbersOk (effect c) ≡ true → (k : ℕ) → verdict s ≡ damaged k
       → runStore c s ≡ record { reply = refusedAs c (Refusal.Damaged k); state = s }
   run-damaged l n k v =
       run-failed c t s (Refusal.Damaged k) (ap (λ (b : Bool). tested b s) n ∙ tested-verdict s l (damaged k) v)
 
-  pub run-notIndex : lengthOk s ≡ true → numbersOk c ≡ true → (r : ℕ) → verdict s ≡ notIndex r
+  pub run-notIndex : lengthOk s ≡ true → numbersOk (effect c) ≡ true → (r : ℕ) → verdict s ≡ notIndex r
       → runStore c s ≡ record { reply = refusedAs c (Refusal.NotIndex r); state = s }
   run-notIndex l n r v =
       run-failed c t s (Refusal.NotIndex r) (ap (λ (b : Bool). tested b s) n ∙ tested-verdict s l (notIndex r) v)
 
 -- ---- "Every refusal leaves store and output untouched", whatever the bytes
 
-changed-same : (s : List ℕ) (r : Result) → accepted (plain (changed s r .answer)) ≡ false → changed s r .store ≡ s
-changed-same s (done y) e = never (cc)
-changed-same s (refused r) e = refl
+-- A call on any bytes: it is refused and leaves the store, or is an accepted format; or its tests passed, and it reads
+-- or is accepted.
+pub data StoreRun (c : Call) (s : List ℕ) : Ran (List ℕ) → Type 0 where
+  refuses : {r : Reply} → accepted r ≡ false → StoreRun c s (record { reply = r; state = s })
+  formats : (fill : ℕ) → lengthOk s ≡ true → fillOk fill ≡ true
+      → StoreRun c s (record { reply = plain Answer.Done; state = encode (format (blocks s) fill) })
+  reads : {r : Reply} {x : Index} → tested (numbersOk (effect c)) s ≡ passed x
+      → StoreRun c s (record { reply = r; state = s })
+  accepts : {r : Ran (List ℕ)} {x : Index} → tested (numbersOk (effect c)) s ≡ passed x → accepted (r .reply) ≡ true
+      → StoreRun c s r
+
+changes : (c : Call) (s : List ℕ) (x : Index) → tested (numbersOk (effect c)) s ≡ passed x → (r : Result)
+    → let d = changed s r in StoreRun c s (record { reply = plain (d .answer); state = d .store })
+changes c s x e (done y) = accepts e refl
+changes c s x e (refused r) = refuses (refused-no r)
+
+pub store-view : (c : Call) (s : List ℕ) → StoreRun c s (runStore c s)
+unfolding runStore formatOutcome insertOutcome removeOutcome lookupOutcome workOutcome standingOutcome
+store-view (formatting fill) s = go (lengthOk s) (fillOk fill) refl refl
+  where
+    go : (l f : Bool) → lengthOk s ≡ l → fillOk fill ≡ f
+        → let d = formatIn l f s (encode (format (blocks s) fill)) in
+        StoreRun (formatting fill) s (record { reply = plain (d .answer); state = d .store })
+    go false f e k = refuses refl
+    go true false e k = refuses refl
+    go true true e k = formats fill e k
+store-view (inserting p) s = go (tested (pairOk p) s) refl
+  where
+    go : (t : Tested) → tested (pairOk p) s ≡ t
+        → let d = insertOn t s p in StoreRun (inserting p) s (record { reply = plain (d .answer); state = d .store })
+    go (failed r) e = refuses (refused-no r)
+    go (passed x) e = changes (inserting p) s x e (insert x p)
+store-view (removing p) s = go (tested (pairOk p) s) refl
+  where
+    go : (t : Tested) → tested (pairOk p) s ≡ t
+        → let d = removeOn t s p in StoreRun (removing p) s (record { reply = plain (d .answer); state = d .store })
+    go (failed r) e = refuses (refused-no r)
+    go (passed x) e = changes (removing p) s x e (remove x p)
+store-view (looking h out) s = go (tested true s) refl
+  where
+    go : (t : Tested) → tested true s ≡ t
+        → StoreRun (looking h out) s (record { reply = looked (lookupOn t h out); state = s })
+    go (failed r) e = refuses (refused-no r)
+    go (passed x) e = reads e
+store-view (working budget) s = go (tested (budgetOk budget) s) refl
+  where
+    go : (t : Tested) → tested (budgetOk budget) s ≡ t
+        → let d = workOn t s (iterate stepOutcome budget s) in
+        StoreRun (working budget) s (record { reply = worked (d .answer); state = d .store })
+    go (failed r) e = refuses (refused-no r)
+    go (passed x) e = accepts e refl
+store-view asking s = go (tested true s) refl
+  where
+    go : (t : Tested) → tested true s ≡ t → StoreRun asking s (record { reply = stands (standingOn t); state = s })
+    go (failed r) e = refuses (refused-no r)
+    go (passed x) e = reads e
 
 pub refusal-leaves : (c : Call) (s : List ℕ) → accepted (runStore c s .reply) ≡ false → runStore c s .state ≡ s
-unfolding runStore formatOutcome insertOutcome removeOutcome workOutcome
-refusal-leaves (formatting fill) s e = go (lengthOk s) (fillOk fill) e
+refusal-leaves c s e = go (store-view c s) e
   where
-    t : List ℕ
-    t = encode (format (blocks s) fill)
-
-    go : (l f : Bool) → accepted (plain (formatIn l f s (encode (format (blocks s) fill)) .answer)) ≡ false
-        → formatIn l f s (encode (format (blocks s) fill)) .store ≡ s
-    go false f e = refl
-    go true false e = refl
-    go true true e = never (cc)
-refusal-leaves (inserting p) s e = go (tested (pairOk p) s) e
-  where
-    go : (t : Tested) → accepted (plain (insertOn t s p .answer)) ≡ false → insertOn t s p .store ≡ s
-    go (failed r) e = refl
-    go (passed x) e = changed-same s (insert x p) e
-refusal-leaves (removing p) s e = go (tested (pairOk p) s) e
-  where
-    go : (t : Tested) → accepted (plain (removeOn t s p .answer)) ≡ false → removeOn t s p .store ≡ s
-    go (failed r) e = refl
-    go (passed x) e = changed-same s (remove x p) e
-refusal-leaves (looking h out) s e = refl
-refusal-leaves (working budget) s e = go (tested (budgetOk budget) s) e
-  where
-    go : (t : Tested) → accepted (worked (workOn t s (iterate stepOutcome budget s) .answer)) ≡ false
-        → workOn t s (iterate stepOutcome budget s) .store ≡ s
-    go (failed r) e = refl
-    go (passed x) e = never (cc)
-refusal-leaves asking s e = refl
+    go : {r : Ran (List ℕ)} → StoreRun c s r → accepted (r .reply) ≡ false → r .state ≡ s
+    go (refuses h) e = refl
+    go (formats fill h k) e = never (cc)
+    go (reads k) e = refl
+    go (accepts k h) e = never (cc)
 
 pub refusal-output : (s : List ℕ) (h : ℕ) (out : List ℕ) (r : Refusal)
     → lookupOutcome s h out .answer ≡ LookupAnswer.Refused r

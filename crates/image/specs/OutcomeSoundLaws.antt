@@ -14,22 +14,22 @@ use Rattle.lists.specs.Block.{blocks}
 use Rattle.model.specs.declared.Answer.{Answer}
 use Rattle.model.specs.Index.{Job, idle, copying, clearing, Index}
 use Rattle.model.specs.Steps.{Step, next, stopped, step}
-use Rattle.model.specs.Calls.{Result, done, refused, sizeOk, fillOk, budgetOk, format, formatted, insert, remove}
-use Rattle.model.specs.Calls.{work}
-use Rattle.model.specs.Machine.{Call, formatting, inserting, removing, looking, working, asking, CallFits, plain}
-use Rattle.model.specs.Machine.{accepted, Ran, settled, workedIn, runIndex}
+use Rattle.model.specs.Calls.{sizeOk, fillOk, format}
+use Rattle.model.specs.Machine.{Call, CallFits, plain, accepted, Ran, runIndex}
+use Rattle.model.specs.Book.{effect}
 use Rattle.model.specs.WellFormed.{WF}
 use Rattle.model.specs.FrameLaws.{insert-frame, remove-frame, begin-frame, job-frame}
 use Rattle.model.specs.StepLaws.{step-wf}
-use Rattle.model.specs.WorkLaws.{iterate-keeps}
+use Rattle.model.specs.RunLaws.{run-keeps}
 use Rattle.model.specs.FormatLaws.{format-wf}
 use Rattle.model.specs.MachineLaws.{never}
 use Rattle.image.specs.Layout.{encode}
 use Rattle.image.specs.Rules.{sound, verdict}
-use Rattle.image.specs.Outcomes.{lengthOk, Tested, passed, failed, judged, tested, Changed, formatIn}
+use Rattle.image.specs.Outcomes.{lengthOk, passed, judged, tested, Changed, formatIn}
 use Rattle.image.specs.Outcomes.{formatOutcome, stepOn, stepOutcome, runStore}
 use Rattle.image.specs.Bridge.{sound-is-encoding, encoding-is-sound}
-use Rattle.image.specs.OutcomeLaws.{passed-sound, numbersOk, refused-not, Tests, run-failed}
+use Rattle.image.specs.Refusals.{numbersOk}
+use Rattle.image.specs.OutcomeLaws.{passed-sound, StoreRun, refuses, formats, reads, accepts, store-view}
 use Rattle.image.specs.OutcomeIndexLaws.{Encodes, step-encode, run-encode, run-wf}
 
 -- ---- the size stays
@@ -45,32 +45,17 @@ step-size x y e = go (x .job) refl
     go copying q = busy (λ r. never (cc))
     go clearing q = busy (λ r. never (cc))
 
-settled-size : (x : Index) (r : Result) → ((y : Index) → r ≡ done y → y .size ≡ x .size)
-    → settled x r .state .size ≡ x .size
-settled-size x (done y) f = f y refl
-settled-size x (refused r) f = refl
-
-format-size : (x : Index) (fill : ℕ) (y : Index) → formatted x fill ≡ done y → y .size ≡ x .size
-unfolding formatted format
-format-size x fill y e = go (sizeOk (x .size)) (fillOk fill) e
-  where
-    go : (a b : Bool) → Rattle.model.specs.Calls.formatIn a b (format (x .size) fill) ≡ done y → y .size ≡ x .size
-    go false b e = never (cc)
-    go true false e = never (cc)
-    go true true e = let q : format (x .size) fill ≡ y = cc in ap (λ (z : Index). z .size) (sym q)
-
-pub run-size : (c : Call) (x : Index) → runIndex c x .state .size ≡ x .size
-unfolding runIndex work
-run-size (formatting fill) x = settled-size x (formatted x fill) (format-size x fill)
-run-size (inserting p) x = settled-size x (insert x p) (λ y e. insert-frame x p y e .frame .size)
-run-size (removing p) x = settled-size x (remove x p) (λ y e. remove-frame x p y e .frame .size)
-run-size (looking h out) x = refl
-run-size (working budget) x = go (budgetOk budget)
-  where
-    go : (b : Bool) → workedIn b x (work budget x) .state .size ≡ x .size
-    go true = iterate-keeps step (λ (y : Index). y .size ≡ x .size) (λ y z h e. step-size y z e ∙ h) budget x refl
-    go false = refl
-run-size asking x = refl
+pub run-size : (c : Call) → CallFits c → (x : Index) → runIndex c x .state .size ≡ x .size
+unfolding format
+run-size c f x =
+    run-keeps (λ (y : Index). y .size ≡ x .size)
+    (record {
+      formats = λ y fill s k h. h;
+      inserts = λ y p z h k e. insert-frame y p z e .frame .size ∙ h;
+      removes = λ y p z h e. remove-frame y p z e .frame .size ∙ h;
+      steps = λ y z h e. step-size y z e ∙ h;
+    })
+    c f x refl
 
 -- ---- sound stores
 
@@ -145,33 +130,29 @@ module _ (s : List ℕ) (b : Bytes s) where
   size-is : (x : Index) → Encodes s x → x .size ≡ blocks s
   size-is x r = sym (ap blocks (r .1) ∙ encoding-is-sound x (r .0) .number)
 
-  run-sound : (c : Call) → CallFits c → (x : Index) → tested (numbersOk c) s ≡ passed x
+  run-sound : (c : Call) → CallFits c → (x : Index) → tested (numbersOk (effect c)) s ≡ passed x
       → StaysSound s (runStore c s .state)
   run-sound c f x e =
-      let r = passed-encodes (numbersOk c) x e in
+      let r = passed-encodes (numbersOk (effect c)) x e in
       let q = ap (runStore c) (r .1) ∙ run-encode c x (r .0) in
-      encoded s (runStore c s .state) (runIndex c x .state) (passed-sound s (numbersOk c) x e .0)
-      (run-wf c f x (r .0), ap (λ (a : Ran (List ℕ)). a .state) q) (run-size c x ∙ size-is x r)
-
-  tested-call : (c : Call) → Tests c → CallFits c → accepted (runStore c s .reply) ≡ true
-      → StaysSound s (runStore c s .state)
-  tested-call c t f e = go (tested (numbersOk c) s) refl
-    where
-      go : (a : Tested) → tested (numbersOk c) s ≡ a → StaysSound s (runStore c s .state)
-      go (failed r) k =
-          let q = ap (λ (a : Ran (List ℕ)). accepted (a .reply)) (run-failed c t s r k) in
-          let n = refused-not c r in
-          never (cc)
-      go (passed x) k = run-sound c f x k
+      encoded s (runStore c s .state) (runIndex c x .state) (passed-sound s (numbersOk (effect c)) x e .0)
+      (run-wf c f x (r .0), ap (λ (a : Ran (List ℕ)). a .state) q) (run-size c f x ∙ size-is x r)
 
   pub call-sound : (c : Call) → CallFits c → accepted (runStore c s .reply) ≡ true → StaysSound s (runStore c s .state)
-  unfolding runStore
-  call-sound (formatting fill) f e = format-sound s fill e
-  call-sound (inserting p) f e = tested-call (inserting p) tt f e
-  call-sound (removing p) f e = tested-call (removing p) tt f e
-  call-sound (looking h out) f e = tested-call (looking h out) tt f e
-  call-sound (working budget) f e = tested-call (working budget) tt f e
-  call-sound asking f e = tested-call asking tt f e
+  unfolding format
+  call-sound c f e = go (store-view c s) e refl
+    where
+      passing : {r : Ran (List ℕ)} (x : Index) → tested (numbersOk (effect c)) s ≡ passed x → runStore c s ≡ r
+          → StaysSound s (r .state)
+      passing x k q = subst (λ (r : Ran (List ℕ)). StaysSound s (r .state)) q (run-sound c f x k)
+
+      go : {r : Ran (List ℕ)} → StoreRun c s r → accepted (r .reply) ≡ true → runStore c s ≡ r
+          → StaysSound s (r .state)
+      go (refuses h) e q = never (cc)
+      go (formats fill h k) e q =
+          encoded s _ (format (blocks s) fill) h (format-wf (blocks s) fill (legal-size s h) k, refl) refl
+      go (reads {x = x} k) e q = passing x k q
+      go (accepts {x = x} k h) e q = passing x k q
 
   pub step-sound : (x : Index) (t : List ℕ) → lengthOk s ≡ true → verdict s ≡ sound x → stepOutcome s ≡ next t
       → StaysSound s t

@@ -1,7 +1,7 @@
 -- The book is a set, strictly ascending; what each effect does to what it has.
 use mathlib.Core.Path.{_≡_, refl, ap, _∙_}
 use mathlib.Core.Bool.{Bool, true, false, cond, not, _&&_, _||_}
-use mathlib.Core.List.{List, [], _∷_}
+use mathlib.Core.List.{[], _∷_}
 use Prim.Native.Nat.{ℕ}
 use Rattle.lists.specs.ListsLaws.{any-no}
 use Rattle.page.specs.declared.Pair.{Pair}

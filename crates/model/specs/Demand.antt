@@ -7,7 +7,7 @@
 -- When an insert or a step finds no room, and so gets 7, is said in Room.antt.
 use mathlib.Core.Path.{_≡_}
 use mathlib.Core.Logic.{_≢_, _↔_, _⊎_}
-use mathlib.Core.Bool.{Bool, true, false}
+use mathlib.Core.Bool.{true, false}
 use mathlib.Core.List.{List, _++_}
 use mathlib.Core.Option.{Option, none, some}
 use Prim.Native.Nat.{ℕ, zero, suc, _+_, _*_, _/_, _≤_, _<_}
@@ -25,7 +25,7 @@ use Rattle.model.specs.declared.WorkAnswer.{WorkAnswer}
 use Rattle.model.specs.declared.Phase.{Phase}
 use Rattle.model.specs.declared.StandingAnswer.{StandingAnswer}
 use Rattle.model.specs.Held.{self}
-use Rattle.model.specs.Steps.{Step, next, stopped}
+use Rattle.model.specs.Steps.{next, stopped}
 use Rattle.model.specs.Calls.{pairOk, placeBytes}
 use Rattle.model.specs.Machine.{inserting, removing, looking, working, asking, CallFits, plain, looked, worked}
 use Rattle.model.specs.Machine.{stands, Machine}

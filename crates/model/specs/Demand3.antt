@@ -1,5 +1,5 @@
--- DEMAND 3 holds of the index as a value, over every list of calls, and 7 comes exactly when there is no room. The claims
--- are in Demand.antt and Room.antt, the invariant that proves them in Demand3Inv.antt.
+-- DEMAND 3 holds of the index as a value, over every list of calls, and 7 comes exactly when there is no room. The
+-- claims are in Demand.antt and Room.antt, the invariant that proves them in Demand3Inv.antt.
 use Rattle.model.specs.Machine.{onIndex}
 use Rattle.model.specs.History.{Always}
 use Rattle.model.specs.HistoryLaws.{always-map}

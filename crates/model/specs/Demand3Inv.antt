@@ -9,14 +9,13 @@ use Rattle.page.specs.Pair.{same, ascending}
 use Rattle.model.specs.Index.{Job, idle, copying, clearing, Index, oldBucket, newBucket}
 use Rattle.model.specs.Held.{self, held}
 use Rattle.model.specs.Steps.{next, step}
-use Rattle.model.specs.Calls.{sizeOk, fillOk, format, formatIn, formatted, Result, insert, remove, phaseIn}
-use Rattle.model.specs.Machine.{formatting, inserting, removing, CallFits, accepted, settled, runIndex, onIndex}
+use Rattle.model.specs.Calls.{sizeOk, fillOk, format, formatIn, formatted, done, insert, remove, phaseIn}
+use Rattle.model.specs.Machine.{formatting, inserting, CallFits, accepted, settled, runIndex, onIndex}
 use Rattle.model.specs.MachineLaws.{never}
 use Rattle.model.specs.Book.{has, puts, takes, movers, Split, noSplit, since, oneStep, stirred}
 use Rattle.model.specs.BookLaws.{noted-ascending, has-puts, has-takes}
-use Rattle.model.specs.History.{Moment, stepIn, stepped, lastOf, within, marked, after, start}
+use Rattle.model.specs.History.{Moment, stepIn, stepped, marked, start}
 use Rattle.model.specs.WellFormed.{WF}
-use Rattle.model.specs.Views.{Inserting, already, noRoom, inserted, insert-view, Removing, absent, removed, remove-view}
 use Rattle.model.specs.FormatLaws.{format-wf, format-held}
 use Rattle.model.specs.FrameLaws.{insert-frame, remove-frame, begin-frame, job-frame}
 use Rattle.model.specs.InsertLaws.{insert-wf, insert-held}
@@ -27,7 +26,7 @@ use Rattle.model.specs.StepsLeftLaws.{step-stepsLeft}
 use Rattle.model.specs.BeginLaws.{begin-stepsLeft, begin-movers}
 use Rattle.model.specs.Demand3Answers.{phase-job}
 
--- Before the first begin there is no job; the steps that a calm split still has to make are those that its count lacks.
+-- Before the first begin there is no job; a calm split still has to make the steps that its count lacks.
 abbrev pub Track : Split → Index → Type 0
 Track noSplit x = x .job ≡ idle
 Track (since false m k) x = Unit {0}
@@ -73,57 +72,37 @@ format-inv x fill h = go (sizeOk (x .size)) (fillOk fill) refl refl h
     go true false e k h = never (cc)
     go false f e k h = never (cc)
 
-pub insert-inv : (q : Pair) → CallFits (inserting q) → (t : Moment onIndex) → Inv t
-    → Inv (after onIndex (inserting q) t)
-unfolding runIndex
-insert-inv q fits t i = go (insert x q) refl (insert-view x q)
-  where
-    x : Index
-    x = t .state
+pub insert-inv : (q : Pair) (y : Index) → CallFits (inserting q) → (t : Moment onIndex) → Inv t
+    → insert (t .state) q ≡ done y → Inv (marked onIndex true (puts q) t y)
+insert-inv q y fits t i e =
+    let x = t .state in
+    let g = insert-frame x q y e in
+    let f = g .frame in
+    record {
+      wf = insert-wf x q y (i .wf) fits e;
+      set = noted-ascending (puts q) (t .book) (i .set);
+      agree = λ p. has-puts q p (t .book) ∙ ap (λ (b : Bool). same p q || b) (i .agree p)
+          ∙ sym (insert-held x q y (i .wf) fits e p);
+      newest = f .maxBucket ∙ i .newest;
+      fill = f .fill ∙ i .fill;
+      track = stir x y (t .split) (g .job) (i .track);
+    }
 
-    go : (r : Result) → insert x q ≡ r → Inserting x q r
-        → let a = accepted (settled x r .reply) in
-        Inv (marked onIndex a (puts q) (lastOf onIndex t (within onIndex a (puts q) t)) (settled x r .state))
-    go r e (Inserting.wrong k) = i
-    go r e (already k h) = i
-    go r e (noRoom k h v) = i
-    go r e (inserted {y = y} k h v) =
-        let g = insert-frame x q y e in
-        let f = g .frame in
-        record {
-          wf = insert-wf x q y (i .wf) fits e;
-          set = noted-ascending (puts q) (t .book) (i .set);
-          agree = λ p. has-puts q p (t .book) ∙ ap (λ (b : Bool). same p q || b) (i .agree p)
-              ∙ sym (insert-held x q y (i .wf) fits e p);
-          newest = f .maxBucket ∙ i .newest;
-          fill = f .fill ∙ i .fill;
-          track = stir x y (t .split) (g .job) (i .track);
-        }
-
-pub remove-inv : (q : Pair) → (t : Moment onIndex) → Inv t → Inv (after onIndex (removing q) t)
-unfolding runIndex
-remove-inv q t i = go (remove x q) refl (remove-view x q)
-  where
-    x : Index
-    x = t .state
-
-    go : (r : Result) → remove x q ≡ r → Removing x q r
-        → let a = accepted (settled x r .reply) in
-        Inv (marked onIndex a (takes q) (lastOf onIndex t (within onIndex a (takes q) t)) (settled x r .state))
-    go r e (Removing.wrong k) = i
-    go r e (absent k h) = i
-    go r e (removed k h) =
-        let g = remove-frame x q _ e in
-        let f = g .frame in
-        record {
-          wf = remove-wf x q _ (i .wf) e;
-          set = noted-ascending (takes q) (t .book) (i .set);
-          agree = λ p. has-takes q p (t .book) ∙ ap (λ (b : Bool). not (same p q) && b) (i .agree p)
-              ∙ sym (remove-held x q _ (i .wf) e p);
-          newest = f .maxBucket ∙ i .newest;
-          fill = f .fill ∙ i .fill;
-          track = stir x _ (t .split) (g .job) (i .track);
-        }
+pub remove-inv : (q : Pair) (y : Index) (t : Moment onIndex) → Inv t → remove (t .state) q ≡ done y
+    → Inv (marked onIndex true (takes q) t y)
+remove-inv q y t i e =
+    let x = t .state in
+    let g = remove-frame x q y e in
+    let f = g .frame in
+    record {
+      wf = remove-wf x q y (i .wf) e;
+      set = noted-ascending (takes q) (t .book) (i .set);
+      agree = λ p. has-takes q p (t .book) ∙ ap (λ (b : Bool). not (same p q) && b) (i .agree p)
+          ∙ sym (remove-held x q y (i .wf) e p);
+      newest = f .maxBucket ∙ i .newest;
+      fill = f .fill ∙ i .fill;
+      track = stir x y (t .split) (g .job) (i .track);
+    }
 
 -- ---- a step
 

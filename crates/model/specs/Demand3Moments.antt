@@ -8,11 +8,13 @@ use Rattle.lists.specs.ListsLaws.{each-append}
 use Rattle.model.specs.declared.Phase.{Phase}
 use Rattle.model.specs.Index.{Index}
 use Rattle.model.specs.Steps.{Step, next, stopped, step, iterate}
-use Rattle.model.specs.Calls.{sizeOk, fillOk, budgetOk, format, formatIn, formatted, work}
-use Rattle.model.specs.Machine.{Call, formatting, inserting, removing, looking, working, asking, CallFits, accepted, settled, workedIn, runIndex, onIndex}
+use Rattle.model.specs.Calls.{work}
+use Rattle.model.specs.Machine.{Call, formatting, CallFits, accepted, Ran, runIndex, onIndex}
+use Rattle.model.specs.MachineLaws.{never}
 use Rattle.model.specs.Book.{Effect, empties, puts, takes, leaves, hasSteps, effect}
 use Rattle.model.specs.History.{Moment, phaseAt, stepIn, stepped, trail, lastOf, within, marked, after, history}
 use Rattle.model.specs.History.{start, Always}
+use Rattle.model.specs.RunLaws.{Running, refuses, formats, inserts, removes, reads, works, run-view}
 use Rattle.model.specs.Demand3Inv.{Inv, start-inv, format-inv, insert-inv, remove-inv, step-inv}
 
 trail-inv : (n : ℕ) (t : Moment onIndex) → Inv t → Each Inv (trail onIndex n t)
@@ -56,34 +58,33 @@ within-inv true leaves t i = tt
 within-inv true (hasSteps budget) t i = trail-inv budget t i
 
 after-inv : (c : Call) → CallFits c → (t : Moment onIndex) → Inv t → Inv (after onIndex c t)
-unfolding runIndex formatted work
-after-inv (inserting q) fits t i = insert-inv q fits t i
-after-inv (removing q) fits t i = remove-inv q t i
-after-inv (looking h out) fits t i = go (accepted (runIndex (looking h out) (t .state) .reply))
+unfolding work
+after-inv c fits t i = go (run-view c fits (t .state))
   where
-    go : (a : Bool) → Inv (marked onIndex a leaves (lastOf onIndex t (within onIndex a leaves t)) (t .state))
-    go true = i
-    go false = i
-after-inv asking fits t i = i
-after-inv (formatting fill) fits t i = go (sizeOk (x .size)) (fillOk fill) refl refl
-  where
-    x : Index
-    x = t .state
+    refusal : (a : Bool) (e : Effect) → a ≡ false
+        → Inv (marked onIndex a e (lastOf onIndex t (within onIndex a e t)) (t .state))
+    refusal true e h = never (cc)
+    refusal false e h = i
 
-    go : (s f : Bool) → sizeOk (x .size) ≡ s → fillOk fill ≡ f
-        → let r = settled x (formatIn s f (format (x .size) fill)) in
-        let a = accepted (r .reply) in
-        Inv (marked onIndex a (empties fill) (lastOf onIndex t (within onIndex a (empties fill) t)) (r .state))
-    go true true e k = start-inv x fill e k
-    go true false e k = i
-    go false f e k = i
-after-inv (working budget) fits t i = go (budgetOk budget)
-  where
-    go : (b : Bool) → let r = workedIn b (t .state) (work budget (t .state)) in
-        let a = accepted (r .reply) in
-        Inv (marked onIndex a (hasSteps budget) (lastOf onIndex t (within onIndex a (hasSteps budget) t)) (r .state))
-    go false = i
-    go true = rw (← trail-ends budget t) (lastOf-inv (trail onIndex budget t) t i (trail-inv budget t i))
+    reading : (a : Bool) → Inv (marked onIndex a leaves (lastOf onIndex t (within onIndex a leaves t)) (t .state))
+    reading true = i
+    reading false = i
+
+    stepping : (a : Bool) (n : ℕ) → a ≡ true
+        → let y = iterate step n (t .state) .state in
+        Inv (marked onIndex a (hasSteps n) (lastOf onIndex t (within onIndex a (hasSteps n) t)) y)
+    stepping false n h = never (cc)
+    stepping true n h = rw (← trail-ends n t) (lastOf-inv (trail onIndex n t) t i (trail-inv n t i))
+
+    go : {e : Effect} {r : Ran Index} → Running (t .state) e r
+        → let a = accepted (r .reply) in
+        Inv (marked onIndex a e (lastOf onIndex t (within onIndex a e t)) (r .state))
+    go (refuses {e = e} {r = r} h) = refusal (accepted r) e h
+    go (formats {fill = fill} s f) = start-inv (t .state) fill s f
+    go (inserts {p = p} {y = y} f e) = insert-inv p y f t i e
+    go (removes {p = p} {y = y} e) = remove-inv p y t i e
+    go (reads {r = r}) = reading (accepted r)
+    go (works {budget = n} {r = r} h) = stepping (accepted r) n h
 
 history-inv : (cs : List Call) → Each CallFits cs → (t : Moment onIndex) → Inv t → Each Inv (history onIndex cs t)
 history-inv [] fits t i = tt

@@ -1,5 +1,5 @@
--- The book of a list's last moment is what its events make of it, so it has a pair exactly when the latest accepted call
--- that bears on the pair put it in.
+-- The book of a list's last moment is what its events make of it, so it has a pair exactly when the latest accepted
+-- call that bears on the pair put it in.
 use mathlib.Core.Path.{_≡_, refl, ap, ap₂, _∙_}
 use mathlib.Core.Bool.{Bool, true, false, cond, not, _&&_, _||_}
 use mathlib.Core.List.{List, [], _∷_}
@@ -60,7 +60,8 @@ module _ (M : Machine) where
       ∙ history-book cs (after M c t)
       ∙ ap₂ (λ (s : M .State) bk. bookAfter (events M cs s) bk) (after-state M c t) (after-book M c t)
 
-  -- the book has a pair exactly when, since the last accepted format, its latest accepted insert or removal is an insert
+  -- the book has a pair exactly when, since the last accepted format, its latest accepted insert or removal is an
+  -- insert
   pub book-latest : (cs : List Call) (s : M .State) (fill : ℕ) (p : Pair)
       → let t = start M s fill in
       has (lastOf M t (history M cs t) .book) p ≡ Option·getD (latest p (events M cs s)) false

@@ -1,6 +1,6 @@
 -- A formatted index is well-formed and holds no pair.
 use mathlib.Core.Path.{_≡_, refl}
-use mathlib.Core.Bool.{Bool, true, false}
+use mathlib.Core.Bool.{true, false}
 use mathlib.Core.List.{[], _∷_}
 use Prim.Native.Nat.{ℕ, zero, suc, _+_, _≤_, _<_}
 use native.Mathlib.Omega.{arith}
@@ -11,9 +11,9 @@ use Rattle.lists.specs.ListsLaws.{and-left, and-right}
 use Rattle.address.specs.Address.{bucketsAt, point, made}
 use Rattle.address.specs.Role.{SparesOk}
 use Rattle.page.specs.declared.Pair.{Pair}
-use Rattle.model.specs.Index.{Index, noChain, chain, bucket}
+use Rattle.model.specs.Index.{noChain, chain, bucket}
 use Rattle.model.specs.Held.{held}
-use Rattle.model.specs.Calls.{maxBlocks, sizeOk, fillOk, done, format, formatIn, formatted}
+use Rattle.model.specs.Calls.{maxBlocks, sizeOk, fillOk, format}
 use Rattle.model.specs.WellFormed.{unmovedAt, movedAt, PlacedIn, Laid, WF}
 use Rattle.model.specs.HeldIn.{heldIn}
 use Rattle.model.specs.PlacedLaws.{idle-copying}
@@ -76,12 +76,3 @@ module _ (n fill : ℕ) (so : sizeOk n ≡ true) (fo : fillOk fill ≡ true) whe
   pub format-held : (p : Pair) → held (format n fill) p ≡ false
   unfolding heldIn format
   format-held p = held-is (format n fill) format-wf p false (format-stands p (bucket (format n fill) p))
-
-pub formatted-wf : (x : Index) (fill : ℕ) (y : Index) → formatted x fill ≡ done y → WF y
-unfolding formatted
-formatted-wf x fill y h = go (sizeOk (x .size)) (fillOk fill) refl refl h
-  where
-    go : (a b : Bool) → sizeOk (x .size) ≡ a → fillOk fill ≡ b → formatIn a b (format (x .size) fill) ≡ done y → WF y
-    go false b e f h = let z : _≡_ {A = ℕ} 0 1 = cc in absurd (omega arith)
-    go true false e f h = let z : _≡_ {A = ℕ} 0 1 = cc in absurd (omega arith)
-    go true true e f h = let k : format (x .size) fill ≡ y = cc in rw k at (format-wf (x .size) fill e f)

@@ -1,4 +1,4 @@
--- The moments of a list of calls on a machine: at the start, after each single step of a work call, and after each call.
+-- The moments of a list of calls on a machine: at the start, after each single step of a work call, after each call.
 use mathlib.Core.Path.{_≡_}
 use mathlib.Core.Bool.{Bool, true, false}
 use mathlib.Core.List.{List, [], _∷_, _++_}
@@ -6,10 +6,11 @@ use Prim.Native.Nat.{ℕ, zero, suc, _+_}
 use Rattle.lists.specs.Lists.{Each}
 use Rattle.model.specs.declared.Phase.{Phase}
 use Rattle.model.specs.Answers.{standingOf}
-use Rattle.model.specs.Steps.{Step, next, stopped}
-use Rattle.model.specs.Machine.{Call, formatting, asking, CallFits, Reply, plain, looked, worked, stands}
-use Rattle.model.specs.Machine.{accepted, Ran, Machine}
-use Rattle.model.specs.Book.{Book, Effect, empties, puts, takes, leaves, hasSteps, effect, noted, movers, Split, noSplit, since, oneStep, counted, filled, begun}
+use Rattle.model.specs.Steps.{next, stopped}
+use Rattle.model.specs.Machine.{Call, formatting, asking, CallFits, plain, looked, worked, stands, accepted}
+use Rattle.model.specs.Machine.{Machine}
+use Rattle.model.specs.Book.{Book, Effect, empties, puts, takes, leaves, hasSteps, effect, noted, movers, Split}
+use Rattle.model.specs.Book.{noSplit, since, oneStep, counted, filled, begun}
 
 module _ (M : Machine) where
   abbrev State : Type 0
@@ -25,7 +26,13 @@ module _ (M : Machine) where
 
   -- the phase that standing gives
   abbrev pub phaseAt : State → Phase
-  phaseAt s = elim (M .run asking s .reply) [ plain a ↦ Phase.None | looked l ↦ Phase.None | worked a ↦ Phase.None | stands a ↦ standingOf a .phase ]
+  phaseAt s =
+      elim (M .run asking s .reply) [
+        | plain a ↦ Phase.None
+        | looked l ↦ Phase.None
+        | worked a ↦ Phase.None
+        | stands a ↦ standingOf a .phase
+      ]
 
   -- a step at phase none is a begin
   abbrev pub stepIn : Phase → Moment → State → Moment

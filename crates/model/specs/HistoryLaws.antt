@@ -1,5 +1,5 @@
--- The moments of a list of calls, of any machine: what follows from what always holds; the moment after a call; what each
--- call and each step keeps holds at every moment.
+-- The moments of a list of calls, of any machine: what follows from what always holds; the moment after a call; what
+-- each call and each step keeps holds at every moment.
 use mathlib.Core.Path.{_≡_, refl, _∙_}
 use mathlib.Core.Bool.{Bool, true, false, cond}
 use mathlib.Core.List.{List, [], _∷_, _++_}
@@ -31,7 +31,8 @@ module _ (M : Machine) where
   pub after-state : (c : Call) (t : Moment M) → after M c t .state ≡ M .run c (t .state) .state
   after-state c t = go (accepted (M .run c (t .state) .reply)) _
     where
-      go : (a : Bool) (u : Moment M) → marked M a (effect c) u (M .run c (t .state) .state) .state ≡ M .run c (t .state) .state
+      go : (a : Bool) (u : Moment M)
+          → marked M a (effect c) u (M .run c (t .state) .state) .state ≡ M .run c (t .state) .state
       go true u = refl
       go false u = refl
 
@@ -57,7 +58,8 @@ module _ (M : Machine) where
   after-book c t = go (accepted (M .run c (t .state) .reply)) (effect c)
     where
       go : (a : Bool) (e : Effect)
-          → marked M a e (lastOf M t (within M a e t)) (M .run c (t .state) .state) .book ≡ cond a (noted e (t .book)) (t .book)
+          → marked M a e (lastOf M t (within M a e t)) (M .run c (t .state) .state) .book
+          ≡ cond a (noted e (t .book)) (t .book)
       go false e = refl
       go true (empties fill) = refl
       go true (puts p) = refl

@@ -37,6 +37,7 @@ pub mod FrameLaws
 pub mod BoundLaws
 pub mod BookLaws
 pub mod MachineLaws
+pub mod RunLaws
 pub mod HistoryLaws
 pub mod EventLaws
 pub mod Demand3Answers

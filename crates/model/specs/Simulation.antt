@@ -11,8 +11,8 @@ use Rattle.model.specs.declared.Phase.{Phase}
 use Rattle.model.specs.Steps.{Step, next, stopped, Worked, iterate}
 use Rattle.model.specs.Machine.{Call, formatting, asking, CallFits, accepted, Machine}
 use Rattle.model.specs.MachineLaws.{never}
-use Rattle.model.specs.Book.{Effect, empties, puts, takes, leaves, hasSteps, effect, noted, movers, since, oneStep}
-use Rattle.model.specs.Book.{counted, filled, begun}
+use Rattle.model.specs.Book.{Effect, empties, puts, takes, leaves, hasSteps, effect, noted, movers, since}
+use Rattle.model.specs.Book.{oneStep, counted, filled, begun}
 use Rattle.model.specs.History.{Moment, phaseAt, stepIn, stepped, trail, lastOf, within, marked, after, history}
 use Rattle.model.specs.History.{start, Always}
 use Rattle.model.specs.Demand.{WorkIs}

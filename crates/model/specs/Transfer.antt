@@ -29,7 +29,8 @@ module _ {M L : Machine} (R : L .State → M .State → Type 0) (sim : Simulates
         standing = reply asking tt ∙ rw phase (f .standing);
         job = rw phase (job (1 + u .begins) (phaseAt M x) (f .job));
         inserts = λ p fits ok. answers (inserting p) fits (f .inserts p fits ok);
-        inserted = λ p fits ok e. ⊎-elim (λ k. inl (reply (inserting p) fits ∙ k)) (λ k. inr (reply (inserting p) fits ∙ k)) (f .inserted p fits ok e);
+        inserted = λ p fits ok e. ⊎-elim (λ k. inl (reply (inserting p) fits ∙ k))
+            (λ k. inr (reply (inserting p) fits ∙ k)) (f .inserted p fits ok e);
         removals = λ p fits ok. answers (removing p) fits (f .removals p fits ok);
         removed = λ p fits ok e. reply (removing p) fits ∙ f .removed p fits ok e;
         works = sim .works s x r;

@@ -1,0 +1,88 @@
+-- A call on the index, seen by its effect: it is refused and leaves the index, or it does what its effect says. What
+-- is shown of every call goes by this view, so that a new call with an old effect is one line of it.
+use mathlib.Core.Path.{_≡_, refl}
+use mathlib.Core.Bool.{Bool, true, false}
+use Prim.Native.Nat.{ℕ}
+use lib.Dec.{eqb}
+use Rattle.page.specs.declared.Pair.{Pair}
+use Rattle.model.specs.declared.Refusal.{Refusal}
+use Rattle.model.specs.declared.Answer.{Answer}
+use Rattle.model.specs.Answers.{refusalNo}
+use Rattle.model.specs.Index.{Index}
+use Rattle.model.specs.Steps.{next, step}
+use Rattle.model.specs.Calls.{Result, done, refused, sizeOk, fillOk, budgetOk, format, formatIn, formatted}
+use Rattle.model.specs.Calls.{insert, remove, work}
+use Rattle.model.specs.Machine.{Call, formatting, inserting, removing, looking, working, asking, CallFits, Reply}
+use Rattle.model.specs.Machine.{plain, accepted, Ran, settled, workedIn, runIndex}
+use Rattle.model.specs.Book.{Effect, empties, puts, takes, leaves, hasSteps, effect}
+use Rattle.model.specs.WorkLaws.{iterate-keeps}
+
+pub refused-no : (r : Refusal) → eqb (refusalNo r) 0 ≡ false
+refused-no Refusal.Length = refl
+refused-no Refusal.Number = refl
+refused-no (Refusal.Damaged k) = refl
+refused-no (Refusal.NotIndex k) = refl
+refused-no Refusal.HeldAlready = refl
+refused-no Refusal.NotHeld = refl
+refused-no Refusal.NoRoom = refl
+refused-no (Refusal.OutputShort n) = refl
+
+pub data Running (x : Index) : Effect → Ran Index → Type 0 where
+  refuses : {e : Effect} {r : Reply} → accepted r ≡ false → Running x e (record { reply = r; state = x })
+  formats : {fill : ℕ} → sizeOk (x .size) ≡ true → fillOk fill ≡ true
+      → Running x (empties fill) (record { reply = plain Answer.Done; state = format (x .size) fill })
+  inserts : {p : Pair} {y : Index} → CallFits (inserting p) → insert x p ≡ done y
+      → Running x (puts p) (record { reply = plain Answer.Done; state = y })
+  removes : {p : Pair} {y : Index} → remove x p ≡ done y
+      → Running x (takes p) (record { reply = plain Answer.Done; state = y })
+  reads : {r : Reply} → Running x leaves (record { reply = r; state = x })
+  works : {budget : ℕ} {r : Reply} → accepted r ≡ true
+      → Running x (hasSteps budget) (record { reply = r; state = work budget x .state })
+
+pub run-view : (c : Call) → CallFits c → (x : Index) → Running x (effect c) (runIndex c x)
+unfolding runIndex formatted
+run-view (formatting fill) fits x = go (sizeOk (x .size)) (fillOk fill) refl refl
+  where
+    go : (s f : Bool) → sizeOk (x .size) ≡ s → fillOk fill ≡ f
+        → Running x (empties fill) (settled x (formatIn s f (format (x .size) fill)))
+    go true true e k = formats e k
+    go true false e k = refuses refl
+    go false f e k = refuses refl
+run-view (inserting p) fits x = go (insert x p) refl
+  where
+    go : (r : Result) → insert x p ≡ r → Running x (puts p) (settled x r)
+    go (done y) e = inserts fits e
+    go (refused q) e = refuses (refused-no q)
+run-view (removing p) fits x = go (remove x p) refl
+  where
+    go : (r : Result) → remove x p ≡ r → Running x (takes p) (settled x r)
+    go (done y) e = removes e
+    go (refused q) e = refuses (refused-no q)
+run-view (looking h out) fits x = reads
+run-view (working budget) fits x = go (budgetOk budget)
+  where
+    go : (b : Bool) → Running x (hasSteps budget) (workedIn b x (work budget x))
+    go true = works refl
+    go false = refuses refl
+run-view asking fits x = reads
+
+-- ---- what every call keeps
+
+-- format, insert, remove and each step keep P
+pub record Keeps (P : Index → Type 0) : Type 0 where
+  pub formats : (x : Index) (fill : ℕ) → sizeOk (x .size) ≡ true → fillOk fill ≡ true → P x → P (format (x .size) fill)
+  pub inserts : (x : Index) (p : Pair) (y : Index) → P x → CallFits (inserting p) → insert x p ≡ done y → P y
+  pub removes : (x : Index) (p : Pair) (y : Index) → P x → remove x p ≡ done y → P y
+  pub steps : (x y : Index) → P x → step x ≡ next y → P y
+
+pub run-keeps : (P : Index → Type 0) → Keeps P → (c : Call) → CallFits c → (x : Index) → P x → P (runIndex c x .state)
+unfolding work
+run-keeps P k c fits x h = go (run-view c fits x)
+  where
+    go : {e : Effect} {r : Ran Index} → Running x e r → P (r .state)
+    go (refuses d) = h
+    go (formats {fill = fill} s f) = k .formats x fill s f h
+    go (inserts {p = p} {y = y} f e) = k .inserts x p y h f e
+    go (removes {p = p} {y = y} e) = k .removes x p y h e
+    go reads = h
+    go (works {budget = budget} d) = iterate-keeps step P (k .steps) budget x h
