@@ -4,7 +4,7 @@ use mathlib.Core.Option.{Option, none, some}
 use Prim.Native.Nat.{ℕ}
 use lib.Dec.{eqb}
 use Rattle.lists.specs.Lists.{find, upFrom}
-use Rattle.image.specs.BitmapLaws.{bitOf}
+use Rattle.image.specs.Decode.{bitOf}
 use Rattle.chain.specs.declared.Free.{Free}
 
 abbrev pub freeAs : Option ℕ → Free

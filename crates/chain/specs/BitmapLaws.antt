@@ -12,7 +12,7 @@ use lib.Dec.{eqb}
 use lib.ListN.{getD}
 use Rattle.lists.specs.Lists.{find, upFrom}
 use Rattle.lists.specs.RunLaws.{find-run}
-use Rattle.image.specs.BitmapLaws.{bitOf}
+use Rattle.image.specs.Decode.{bitOf}
 use Rattle.image.specs.FrameLists.{find-hit, find-pass}
 use Rattle.image.specs.Rules.{mapAt, bitAt}
 use Rattle.chain.specs.declared.Free.{Free}

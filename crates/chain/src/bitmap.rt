@@ -3,7 +3,7 @@ use crate::Free;
 ghost use mathlib.Core.Path.{_≡_};
 ghost use Prim.Native.Nat.{_<_};
 ghost use lib.ListN.{length};
-ghost use Rattle.image.specs.BitmapLaws.{bitOf};
+ghost use Rattle.image.specs.Decode.{bitOf};
 ghost use Rattle.chain.specs.Bitmap.{lowestFree};
 
 // Bit `n`.

@@ -17,7 +17,8 @@ use Rattle.lists.specs.RunLaws.{all-get}
 use Rattle.lists.specs.Bytes.{Bytes, part, allZero}
 use Rattle.lists.specs.BytesLaws.{Bytes-append, Bytes-replicate}
 use Rattle.image.specs.Layout.{mapFront}
-use Rattle.image.specs.BitmapLaws.{bitOf, length-mapFront, zeros-mapFront, Bytes-mapFront, bitOf-mapFront, mapFront-bitOf}
+use Rattle.image.specs.Decode.{bitOf}
+use Rattle.image.specs.BitmapLaws.{length-mapFront, zeros-mapFront, Bytes-mapFront, bitOf-mapFront, mapFront-bitOf}
 use Rattle.draft.specs.Bits.{withBit, putBit}
 
 -- ---- the eight bits of a byte

@@ -24,11 +24,8 @@ use Rattle.lists.specs.RunLaws.{length-run, getD-run}
 use Rattle.lists.specs.Bytes.{Bytes, part, allZero}
 use Rattle.lists.specs.BytesLaws.{Bytes-append, length-part, part-at, part-part, allZero-replicate, replicate-allZero, Bytes-replicate}
 use Rattle.image.specs.Layout.{fromBits, mapFront}
+use Rattle.image.specs.Decode.{bitOf}
 use Rattle.lists.specs.TestLaws.{map-run}
-
--- bit n of the bytes l, "lowest bit of a byte first"
-abbrev pub bitOf : List ℕ → ℕ → ℕ
-bitOf l n = getD l (n / 8) 0 / 2 ^ (n % 8) % 2
 
 -- ---- a number and its binary digits
 

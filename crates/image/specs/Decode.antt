@@ -1,9 +1,9 @@
 -- A store read as an index: total on all bytes, with links followed as far as the fuel lasts.
 use mathlib.Core.Bool.{Bool, true, false, cond}
 use mathlib.Core.List.{List, [], _∷_, map}
-use Prim.Native.Nat.{ℕ, zero, suc, _+_}
+use Prim.Native.Nat.{ℕ, zero, suc, _+_, _/_, _%_, _^_}
 use lib.Dec.{eqb}
-use lib.ListN.{take}
+use lib.ListN.{getD, take}
 use Rattle.lists.specs.Lists.{upFrom}
 use Rattle.lists.specs.Block.{blocks, block}
 use Rattle.endian.specs.Endian.{u16At, u32At}
@@ -14,6 +14,10 @@ use Rattle.store.specs.Store.{nextAt, flagsAt}
 use Rattle.model.specs.Index.{Page, Chain, Job, idle, copying, clearing, Index}
 use Rattle.image.specs.declared.Meta.{Meta}
 use Rattle.image.specs.Layout.{noLink}
+
+-- bit n of the bytes l, "lowest bit of a byte first"
+abbrev pub bitOf : List ℕ → ℕ → ℕ
+bitOf l n = getD l (n / 8) 0 / 2 ^ (n % 8) % 2
 
 -- n numbers, four bytes each, from place i on
 unfoldable pub wordsAt : List ℕ → (i n : ℕ) → List ℕ

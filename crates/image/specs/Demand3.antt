@@ -16,8 +16,8 @@ use Rattle.model.specs.Transfer.{transfer, transfer-room}
 use Rattle.image.specs.Decode.{decode}
 use Rattle.image.specs.Outcomes.{runStore, onStore}
 use Rattle.image.specs.Bridge.{encoding-is-sound}
-use Rattle.image.specs.OutcomeIndexLaws.{Encodes}
-use Rattle.image.specs.OutcomeSoundLaws.{StaysSound, format-sound}
+use Rattle.image.specs.SoundStore.{Encodes, StaysSound}
+use Rattle.image.specs.OutcomeSoundLaws.{format-sound}
 use Rattle.image.specs.OutcomeMachineLaws.{simulates}
 use Rattle.image.specs.OutcomeHistoryLaws.{keeps-call, keeps-step}
 

@@ -24,10 +24,10 @@ use Rattle.model.specs.Index.{Index, topBit}
 use Rattle.model.specs.WellFormed.{uses, Laid, WF}
 use Rattle.image.specs.declared.Meta.{Meta}
 use Rattle.image.specs.Layout.{noLink, metaOf, mapFront, isFree, mapBit, image, encode}
-use Rattle.image.specs.Decode.{bitFrom, pointAt, sparesAt}
+use Rattle.image.specs.Decode.{bitOf, bitFrom, pointAt, sparesAt}
 use Rattle.image.specs.Rules.{isOverflow, mapAt, bitAt, topAt, freeAt, rule6}
 use Rattle.image.specs.PagedLaws.{paged-parts}
-use Rattle.image.specs.BitmapLaws.{bitOf, length-mapFront, zeros-mapFront, bitOf-mapFront}
+use Rattle.image.specs.BitmapLaws.{length-mapFront, zeros-mapFront, bitOf-mapFront}
 use Rattle.image.specs.BoundLaws.{top-small}
 use Rattle.image.specs.FreeLaws.{free-same, first-zero}
 use Rattle.image.specs.EncodeLaws.{mapBit-lt, bit-inside}

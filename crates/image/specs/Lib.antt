@@ -3,6 +3,7 @@ pub mod Decode
 pub mod Rules
 pub mod Outcomes
 pub mod Refusals
+pub mod SoundStore
 pub mod VerdictLaws
 pub mod PagedLaws
 pub mod MetaLaws

@@ -7,7 +7,8 @@ use Rattle.model.specs.Steps.{next}
 use Rattle.model.specs.Machine.{Call, CallFits, accepted}
 use Rattle.image.specs.Outcomes.{stepOutcome, runStore}
 use Rattle.image.specs.OutcomeLaws.{refusal-leaves}
-use Rattle.image.specs.OutcomeSoundLaws.{StaysSound, call-sound, step-sound}
+use Rattle.image.specs.SoundStore.{StaysSound}
+use Rattle.image.specs.OutcomeSoundLaws.{call-sound, step-sound}
 
 -- as long as a store that is as long as s
 longer : (s t u : List ℕ) → StaysSound s t → StaysSound t u → StaysSound s u

@@ -31,6 +31,7 @@ use Rattle.image.specs.Outcomes.{lengthOk, Tested, passed, failed, teste
 use Rattle.image.specs.Outcomes.{changed, insertOn, insertOutcome, removeOn, removeOutcome, lookupOn}
 use Rattle.image.specs.Outcomes.{lookupOutcome, standingOn, standingOutcome, stepOn, stepOutcome, WorkDone}
 use Rattle.image.specs.Outcomes.{workOn, workOutcome, runStore}
+pub use Rattle.image.specs.SoundStore.{Encodes}
 use Rattle.image.specs.Bridge.{encoding-is-sound}
 use Rattle.image.specs.OutcomeLaws.{tested-number, tested-verdict}
 
@@ -100,10 +101,6 @@ module _ (x : Index) (w : WF x) where
   step-encode = ap (λ (y : Index). stepOn (step y)) (encoding-is-sound x w .read)
 
 -- ---- work, by iteration
-
--- the bytes of a well-formed index
-abbrev pub Encodes : List ℕ → Index → Type 0
-Encodes s x = WF x × (s ≡ encode x)
 
 pub step-alike : (s : List ℕ) (x : Index) → Encodes s x → Alike Encodes (stepOutcome s) (step x)
 step-alike s x r =

@@ -17,7 +17,8 @@ use Rattle.image.specs.Outcomes.{tested, Changed, runStore, onStore}
 use Rattle.image.specs.Bridge.{count-encode}
 use Rattle.image.specs.OutcomeLaws.{work-steps}
 use Rattle.image.specs.OutcomeSoundLaws.{legal-size, Formatted, format-done}
-use Rattle.image.specs.OutcomeIndexLaws.{Encodes, tested-encode, step-alike, run-encode, run-wf}
+use Rattle.image.specs.SoundStore.{Encodes}
+use Rattle.image.specs.OutcomeIndexLaws.{tested-encode, step-alike, run-encode, run-wf}
 
 -- a store that format accepts becomes the bytes of what the model's format gives
 formats : (s : List ℕ) (fill : ℕ) → accepted (runStore (formatting fill) s .reply) ≡ true

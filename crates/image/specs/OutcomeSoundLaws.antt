@@ -30,7 +30,8 @@ use Rattle.image.specs.Outcomes.{formatOutcome, stepOn, stepOutcome, run
 use Rattle.image.specs.Bridge.{sound-is-encoding, encoding-is-sound}
 use Rattle.image.specs.Refusals.{numbersOk}
 use Rattle.image.specs.OutcomeLaws.{passed-sound, StoreRun, refuses, formats, reads, accepts, store-view}
-use Rattle.image.specs.OutcomeIndexLaws.{Encodes, step-encode, run-encode, run-wf}
+use Rattle.image.specs.SoundStore.{Encodes, StaysSound}
+use Rattle.image.specs.OutcomeIndexLaws.{step-encode, run-encode, run-wf}
 
 -- ---- the size stays
 
@@ -58,14 +59,6 @@ run-size c f x =
     c f x refl
 
 -- ---- sound stores
-
--- t is a sound store, as long as s
-pub record StaysSound (s t : List ℕ) : Type 0 where
-  pub index : Index
-  pub sounds : verdict t ≡ sound index
-  pub legal : lengthOk t ≡ true
-  pub bytes : Bytes t
-  pub same : length t ≡ length s
 
 pub legal-size : (s : List ℕ) → lengthOk s ≡ true → sizeOk (blocks s) ≡ true
 unfolding lengthOk

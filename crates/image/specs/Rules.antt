@@ -1,9 +1,9 @@
 -- The sound-store rules (docs/RULES.md 5; rule n is 5.n) as tests of a store's bytes, and the verdict. Each rule is
 -- tested when those before it hold.
 use mathlib.Core.Bool.{Bool, true, false, cond, not, _&&_, _||_, Bool·beq}
-use mathlib.Core.List.{List, [], _∷_, _++_}
+use mathlib.Core.List.{List, [], _∷_}
 use mathlib.Core.Option.{Option, none, some, Option·getD}
-use Prim.Native.Nat.{ℕ, zero, suc, _-_, _/_, _%_, _^_}
+use Prim.Native.Nat.{ℕ, zero, suc, _-_}
 use lib.Dec.{leb, ltb, eqb}
 use lib.ListN.{length, getD, drop}
 use Rattle.lists.specs.Lists.{b2n, any, all, tally, find, bind, upFrom}
@@ -21,7 +21,7 @@ use Rattle.model.specs.Held.{count}
 use Rattle.model.specs.Calls.{fillOk}
 use Rattle.image.specs.declared.Meta.{Meta}
 use Rattle.image.specs.Layout.{noLink}
-use Rattle.image.specs.Decode.{metaAt, maxAt, pointAt, sparesAt, roleAt, blockOf, trail, newFlags, oldFlags, decode}
+use Rattle.image.specs.Decode.{bitOf, metaAt, maxAt, pointAt, sparesAt, roleAt, blockOf, trail, newFlags, oldFlags, decode}
 
 -- ---- rules 1 and 2, of the meta block's bytes and fields
 
@@ -141,7 +141,7 @@ module _ (s : List ℕ) where
 
   -- bit n of the bitmap
   abbrev pub bitAt : ℕ → ℕ
-  bitAt n = getD mapAt (n / 8) 0 / 2 ^ (n % 8) % 2
+  bitAt n = bitOf mapAt n
 
   abbrev pub topAt : ℕ
   topAt = getD (sparesAt s) (pointAt s) 0

@@ -16,7 +16,8 @@ use Rattle.model.specs.Pages.{freeBit, firstFree}
 use Rattle.model.specs.WellFormed.{Laid}
 use Rattle.model.specs.LaidLaws.{free-bit}
 use Rattle.image.specs.Layout.{mapFront, isFree, mapBit}
-use Rattle.image.specs.BitmapLaws.{bitOf, bitOf-mapFront}
+use Rattle.image.specs.Decode.{bitOf}
+use Rattle.image.specs.BitmapLaws.{bitOf-mapFront}
 use Rattle.image.specs.BoundLaws.{top-small}
 use Rattle.image.specs.EncodeLaws.{mapBit-lt}
 use Rattle.image.specs.FreeLaws.{first-zero}

@@ -15,8 +15,7 @@ use Rattle.model.specs.Held.{count}
 use Rattle.model.specs.WellFormed.{Laid, WF}
 use Rattle.image.specs.declared.Meta.{Meta}
 use Rattle.image.specs.Layout.{mapBit}
-use Rattle.image.specs.Decode.{decode}
-use Rattle.image.specs.BitmapLaws.{bitOf}
+use Rattle.image.specs.Decode.{bitOf, decode}
 use Rattle.image.specs.Frame.{mapBlock, pageBlock, roomPlace, lastPlace}
 use Rattle.image.specs.FrameChain.{Free as IsFree}
 use Rattle.image.specs.FrameFresh.{moreSpares}

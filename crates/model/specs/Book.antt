@@ -9,7 +9,7 @@ use Rattle.lists.specs.Lists.{any, keep}
 use Rattle.address.specs.Address.{bucketOf}
 use Rattle.page.specs.declared.Pair.{Pair}
 use Rattle.page.specs.Pair.{same, enter}
-use Rattle.model.specs.Held.{self}
+use Rattle.model.specs.Held.{self, hasHash}
 use Rattle.model.specs.Machine.{Call, formatting, inserting, removing, looking, working, asking}
 
 -- ---- the book: a set of pairs, as the ascending list of its elements
@@ -44,7 +44,7 @@ noted (hasSteps budget) bk = bk
 
 -- the book's pairs under a hash code
 abbrev pub under : ℕ → Book → Book
-under h bk = keep (λ p. eqb (p .hash) h) bk
+under h bk = keep (hasHash h) bk
 
 -- a split's m: "the book's pairs whose bucket, with that as max bucket, is the new one"
 abbrev pub movers : (new : ℕ) → Book → ℕ

@@ -13,11 +13,11 @@ use Rattle.page.specs.SublistLaws.{sublist-keep, length-sublist}
 use Rattle.page.specs.declared.Entry.{Entry}
 use Rattle.model.specs.Index.{Page, Chain, Index, onPages, entriesIn, noChain, chain, entriesAt, topBit}
 use Rattle.model.specs.Pages.{bitsOf, bitsUsed}
-use Rattle.model.specs.Held.{matches, livesIn, count}
+use Rattle.model.specs.Held.{hasHash, matches, livesIn, count}
 use Rattle.model.specs.WellFormed.{MoreOk, ChainOk, Laid, WF}
 use Rattle.model.specs.TallyLaws.{length-range}
 use Rattle.model.specs.LaidLaws.{top-one}
-use Rattle.model.specs.MatchesLaws.{hasHash, matches-is}
+use Rattle.model.specs.MatchesLaws.{matches-is}
 use Rattle.model.specs.CountLaws.{heldPairs, heldPairs-ascending, heldPairs-has, count-is}
 
 -- ---- the layout

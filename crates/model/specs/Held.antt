@@ -33,9 +33,12 @@ abbrev pub sorted : List Pair → List Pair
 sorted [] = []
 sorted (p ∷ ps) = enter self p (sorted ps)
 
+abbrev pub hasHash : (hash : ℕ) → Pair → Bool
+hasHash h p = eqb (p .hash) h
+
 -- the pairs held under a hash code, ascending
 unfoldable pub matches : Index → (hash : ℕ) → List Pair
-matches x h = sorted (keep (λ p. eqb (p .hash) h) (map (λ (e : Entry). e .pair) (sources x h)))
+matches x h = sorted (keep (hasHash h) (map (λ (e : Entry). e .pair) (sources x h)))
 
 -- whether an entry in the chain of bucket b is a held one, and no copy or rest of a split
 abbrev pub livesIn : Job → Index → ℕ → Entry → Bool

@@ -37,6 +37,7 @@ pub mod FrameLaws
 pub mod BoundLaws
 pub mod BookLaws
 pub mod MachineLaws
+pub mod WrongMachine
 pub mod RunLaws
 pub mod HistoryLaws
 pub mod EventLaws
@@ -45,6 +46,5 @@ pub mod Demand3Inv
 pub mod Demand3Moments
 pub mod Demand3Proof
 pub mod Demand3
-pub mod WrongMachine
 pub mod Simulation
 pub mod Transfer

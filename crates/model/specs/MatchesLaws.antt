@@ -4,7 +4,6 @@ use mathlib.Core.Bool.{Bool, true, false, cond, _&&_}
 use mathlib.Core.List.{List, map}
 use Prim.Native.Nat.{ℕ}
 use native.Mathlib.Omega.{arith}
-use lib.Dec.{eqb}
 use Rattle.lists.specs.Lists.{b2n, any, tally, keep}
 use Rattle.lists.specs.ListsLaws.{eqb-eq, tally-map}
 use Rattle.page.specs.declared.Pair.{Pair}
@@ -12,15 +11,11 @@ use Rattle.page.specs.Pair.{same, is, ascending, pairOf}
 use Rattle.page.specs.SublistLaws.{sublist-keep}
 use Rattle.page.specs.AscendingLaws.{ascending-sublist}
 use Rattle.model.specs.Index.{Index}
-use Rattle.model.specs.Held.{self, sources, held, matches}
+use Rattle.model.specs.Held.{self, sources, held, hasHash, matches}
 use Rattle.model.specs.WellFormed.{WF}
 use Rattle.model.specs.TallyLaws.{b2n-le, tally-any}
 use Rattle.model.specs.HeldLaws.{sources-number, heldIn-held}
 use Rattle.model.specs.SortedLaws.{tally-sorted, ascending-sorted, sorted-is, tally-keep-pair, any-keep-pair}
-
--- by hash code
-abbrev pub hasHash : ℕ → Pair → Bool
-hasHash h p = eqb (p .hash) h
 
 module _ (x : Index) (w : WF x) (h : ℕ) where
   -- the pairs that are sorted

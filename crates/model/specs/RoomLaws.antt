@@ -76,7 +76,7 @@ module _ {x : Index} {b : ℕ} {e : Entry} where
       record {
         first = ltb-false (length (chain x b .first)) 40 (or-left (hasRoom (chain x b .first)) _ r);
         more = pages-full (chain x b .more) (or-right (hasRoom (chain x b .first)) _ r);
-        bits = bits-used x (k .0);
+        bits = λ n l g. omega (arith, bits-used x (k .0) n l g);
         blocks = k .1;
       }
     where

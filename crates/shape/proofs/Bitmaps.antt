@@ -11,9 +11,8 @@ use Rattle.lists.specs.Lists.{b2n}
 use Rattle.lists.specs.Block.{block}
 use Rattle.address.specs.Address.{bitBlock}
 use Rattle.image.specs.declared.Meta.{Meta}
-use Rattle.image.specs.Decode.{pointAt, sparesAt}
+use Rattle.image.specs.Decode.{bitOf, pointAt, sparesAt}
 use Rattle.image.specs.Rules.{isOverflow, mapAt, bitAt, topAt, freeAt}
-use Rattle.image.specs.BitmapLaws.{bitOf}
 use Rattle.shape.specs.Known.{Known2}
 use Rattle.shape.specs.KnownLaws.{top-some, bit-inside, block-full}
 use Rattle.shape.specs.Bits.{bitOk}

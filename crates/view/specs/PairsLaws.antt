@@ -13,8 +13,7 @@ use Rattle.page.specs.Pair.{pairOf}
 use Rattle.page.specs.AscendingLaws.{each-enter}
 use Rattle.page.specs.SublistLaws.{each-map, keep-none}
 use Rattle.model.specs.Index.{Index, entriesAt}
-use Rattle.model.specs.Held.{sources, self, sorted, matches}
-use Rattle.model.specs.MatchesLaws.{hasHash}
+use Rattle.model.specs.Held.{sources, self, sorted, hasHash, matches}
 use Rattle.model.specs.SortedLaws.{length-sorted}
 use Rattle.view.specs.declared.Sources.{Sources}
 use Rattle.view.specs.declared.Next.{Next}

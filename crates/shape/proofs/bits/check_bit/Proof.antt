@@ -1,7 +1,7 @@
 use mathlib.Core.Path.{_≡_, ap, _∙_}
 use mathlib.Core.List.{List}
 use Prim.Native.Nat.{ℕ}
-use Rattle.image.specs.BitmapLaws.{bitOf}
+use Rattle.image.specs.Decode.{bitOf}
 use Rattle.shape.proofs.Bitmaps.{bit-right, map-full}
 use borrow.Author.Needs.{needs}
 use Rattle.shape.proofs.bits.check_bit.Statement.{statement}
