@@ -26,13 +26,12 @@ use Rattle.model.specs.Machine.{Reply, plain, replyNo, runIndex, onIndex}
 use Rattle.model.specs.FormatLaws.{format-wf}
 use Rattle.image.specs.declared.Meta.{Meta}
 use Rattle.image.specs.Layout.{paged, blank, padded, metaOf, mapFront, image, encodeBlock, encode}
-use Rattle.image.specs.Decode.{metaAt}
+use Rattle.image.specs.Decode.{bitOf, metaAt}
 use Rattle.image.specs.Rules.{mapAt}
 use Rattle.image.specs.Outcomes.{lengthOk, Changed, formatIn, formatOutcome, runStore, onStore}
-use Rattle.image.specs.BitmapLaws.{bitOf}
 use Rattle.image.specs.EncodeLaws.{block-encode}
 use Rattle.image.specs.EncodePages.{meta-encode, point-encode, spares-encode}
-use Rattle.image.specs.OutcomeIndexLaws.{Encodes}
+use Rattle.image.specs.SoundStore.{Encodes}
 use Rattle.image.specs.OutcomeMachineLaws.{simulates}
 use Rattle.image.specs.Cards.{after, replies, place, evens, shown, slackIn, hashesOn, Card, storeAfter}
 use Rattle.image.specs.Cards.{nos, cards, Bench}
