@@ -37,7 +37,7 @@ pub mod FrameLaws
 pub mod BoundLaws
 pub mod BookLaws
 pub mod MachineLaws
-pub mod WrongMachine
+pub mod Counterexample
 pub mod RunLaws
 pub mod HistoryLaws
 pub mod EventLaws
