@@ -1,6 +1,6 @@
 -- A list of calls as numbers, and what running them one after the other leaves.
 use mathlib.Core.Path.{_≡_}
-use mathlib.Core.Bool.{cond}
+use mathlib.Core.Bool.{Bool, true, false, cond}
 use mathlib.Core.List.{List, [], _∷_, _++_}
 use mathlib.Core.Option.{Option, none, some}
 use Prim.Native.Nat.{ℕ, zero, suc, _+_, _*_, _^_, _<_}
@@ -15,17 +15,21 @@ use Rattle.capi.specs.Result.{shown}
 
 -- ---- one call
 
+-- A standing that is lent less than 28 bytes is refused before anything is looked at: it is no call of document 01.
+abbrev pub askingIn : (short : Bool) → Option Call
+askingIn true = none
+askingIn false = some asking
+
 -- Four numbers a call, the kind first: 0 format (fill), 1 insert (hash, block, offset), 2 remove (hash, block, offset),
 -- 3 lookup (hash, bytes), 4 work (budget), any other number standing (unused, bytes). A lookup and a standing are lent
--- so many bytes from the start of the output, or all of it. A standing that is lent less than 28 bytes is refused
--- before anything is looked at; it is no call of document 01, so there is none.
+-- so many bytes from the start of the output, or all of it.
 unfoldable pub callOf : (kind a b c : ℕ) → (output : List ℕ) → Option Call
 callOf kind a b c out =
     cond (eqb kind 0) (some (formatting a))
     (cond (eqb kind 1) (some (inserting (record { hash = a; block = b; offset = c })))
     (cond (eqb kind 2) (some (removing (record { hash = a; block = b; offset = c })))
     (cond (eqb kind 3) (some (looking a (take b out)))
-    (cond (eqb kind 4) (some (working a)) (cond (ltb (length (take b out)) 28) none (some asking))))))
+    (cond (eqb kind 4) (some (working a)) (askingIn (ltb (length (take b out)) 28))))))
 
 abbrev pub replyWord : Reply → ℕ
 replyWord (plain a) = answerWord a

@@ -11,12 +11,12 @@ use lib.Dec.{eqb, ltb}
 use lib.ListN.{length, take, drop, take-append-drop, drop-of-length-le}
 use lib.Seq.{length-take-le, take-all, take-length, drop-length}
 use Rattle.page.specs.declared.Pair.{Pair}
-use Rattle.model.specs.Machine.{Call, formatting, inserting, removing, looking, working, asking, CallFits}
+use Rattle.model.specs.Machine.{Call, formatting, inserting, removing, looking, working, CallFits}
 use Rattle.image.specs.Outcomes.{formatOutcome, insertOutcome, removeOutcome, lookupOutcome, standingOutcome}
 use Rattle.image.specs.Outcomes.{workOutcome, runStore}
 use Rattle.capi.specs.Words.{answerWord, lookupWord, workWord}
 use Rattle.capi.specs.Result.{toldIn, standingTold}
-use Rattle.batch.specs.Batch.{callOf, Ran}
+use Rattle.batch.specs.Batch.{askingIn, callOf, Ran}
 
 -- ---- the numbers fit
 
@@ -33,7 +33,7 @@ fits-call kind a b c out ha hb hc =
     go : (p q r s t u : Bool)
         → MayFit (cond p (some (formatting a)) (cond q (some (inserting (record { hash = a; block = b; offset = c })))
         (cond r (some (removing (record { hash = a; block = b; offset = c }))) (cond s (some (looking a (take b out)))
-        (cond t (some (working a)) (cond u none (some asking)))))))
+        (cond t (some (working a)) (askingIn u))))))
     go true q r s t u = ha
     go false true r s t u = (ha, hb, hc)
     go false false true s t u = (ha, hb, hc)
@@ -112,12 +112,12 @@ module _ (s : List ℕ) (kind a b c : ℕ) (out : List ℕ) where
       → Ran (callOf kind a b c out) b s out w s out′
   unfolding callOf runStore standingTold
   ran-standing {w} {out′} k0 k1 k2 k3 k4 e f =
-      of (cond (ltb (length (take b out)) 28) none (some asking))
+      of (askingIn (ltb (length (take b out)) 28))
       (rw (ne-eqb kind 0 k0, ne-eqb kind 1 k1, ne-eqb kind 2 k2, ne-eqb kind 3 k3, ne-eqb kind 4 k4))
       (go (ltb (length (take b out)) 28) e f)
     where
       go : (short : Bool) → w ≡ toldIn short (standingOutcome s) (take b out) .word
           → out′ ≡ toldIn short (standingOutcome s) (take b out) .result ++ drop b out
-          → Ran (cond short none (some asking)) b s out w s out′
+          → Ran (askingIn short) b s out w s out′
       go true e f = record { word = e; store = refl; output = f ∙ take-append-drop b out }
       go false e f = record { word = e; store = refl; output = f }
