@@ -1,5 +1,5 @@
--- A machine that demand 3 shuts out: it has a job from its format on, whose steps never end, and answers every insert
--- with 7. It does nothing else wrong: lookups, removals, work calls and counts are those of an empty book.
+-- A machine that demand 3 shuts out: standing tells of a job before any begin, and its steps never end. It answers every
+-- insert with 7; lookups, removals, work calls and counts are those of an empty book.
 use mathlib.Core.Path.{_≡_, refl}
 use mathlib.Core.List.{[]}
 use Prim.Native.Nat.{ℕ, _*_}
@@ -12,6 +12,7 @@ use Rattle.model.specs.declared.Stop.{Stop}
 use Rattle.model.specs.declared.WorkAnswer.{WorkAnswer}
 use Rattle.model.specs.declared.Phase.{Phase}
 use Rattle.model.specs.declared.StandingAnswer.{StandingAnswer}
+use Rattle.model.specs.Index.{Index}
 use Rattle.model.specs.Steps.{next}
 use Rattle.model.specs.Machine.{Call, formatting, inserting, removing, looking, working, asking, plain, looked}
 use Rattle.model.specs.Machine.{worked, stands, Ran, Machine}
@@ -42,5 +43,5 @@ abbrev pub wrong : Machine
 wrong = record { State = ℕ; run = wrongRun; step = λ s. next s; stored = λ s. 0 }
 
 -- standing gives phase copying before any begin
-pub wrong-fails : Demand3 wrong → ⊥
-wrong-fails d = let none : phaseAt wrong 1 ≡ Phase.None = d 1 1 refl [] tt .0 .splits in never (cc)
+pub wrong-fails : (index : ℕ → Index) → Demand3 wrong index → ⊥
+wrong-fails index d = let none : phaseAt wrong 1 ≡ Phase.None = d 1 1 refl [] tt .0 .0 .splits in never (cc)

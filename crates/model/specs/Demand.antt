@@ -1,10 +1,10 @@
--- DEMAND 3, as a claim on any machine that runs the calls: document 01, "The book of demand 3". Open this file first.
+-- DEMAND 3, as a claim on any machine that runs the calls: docs/RULES.md 7. Open this file first.
 --   Book      (Book.antt) what was inserted and not removed since, fed arguments and acceptance alone
 --   history   (History.antt) the moments of a list of calls: after each call and after each single step
 --   Always    (History.antt) at the start and at every moment of every list of calls
---   Faithful  what holds at a moment, by the calls' answers alone
---   Demand3   it always holds
--- When an insert or a step finds no room, and so gets 7, is said in Room.antt.
+--   Faithful  what holds at a moment, by the calls' answers, the stored count and single steps
+--   RoomIs    (Room.antt) when an insert or a step finds no room, and so gets 7
+--   Demand3   both always hold
 use mathlib.Core.Path.{_≡_}
 use mathlib.Core.Logic.{_≢_, _↔_, _⊎_}
 use mathlib.Core.Bool.{true, false}
@@ -24,6 +24,7 @@ use Rattle.model.specs.declared.Stop.{Stop}
 use Rattle.model.specs.declared.WorkAnswer.{WorkAnswer}
 use Rattle.model.specs.declared.Phase.{Phase}
 use Rattle.model.specs.declared.StandingAnswer.{StandingAnswer}
+use Rattle.model.specs.Index.{Index}
 use Rattle.model.specs.Held.{self}
 use Rattle.model.specs.Steps.{next, stopped}
 use Rattle.model.specs.Calls.{pairOk, placeBytes}
@@ -31,6 +32,7 @@ use Rattle.model.specs.Machine.{inserting, removing, looking, working, a
 use Rattle.model.specs.Machine.{stands, Machine}
 use Rattle.model.specs.Book.{Book, has, under, Split, noSplit, since}
 use Rattle.model.specs.History.{Moment, phaseAt, Always}
+use Rattle.model.specs.Room.{RoomIs}
 
 module _ (M : Machine) where
   -- "with less room it gets 8 and that number", and the output stays
@@ -62,7 +64,8 @@ module _ (M : Machine) where
     pub stop : Stop
     pub reply : M .run (working budget) s .reply ≡ worked (WorkAnswer.Worked steps stop)
     pub reached : afterSteps steps s ≡ some (M .run (working budget) s .state)
-    pub spent : steps ≡ budget → stop ≡ Stop.Spent
+    -- "0 when the budget is spent"
+    pub spent : (steps ≡ budget) ↔ (stop ≡ Stop.Spent)
     pub ended : steps ≢ budget → (steps < budget) × (M .step (M .run (working budget) s .state) ≡ stopped stop)
 
   -- Before the first begin there is no job. A split that stays calm is over after step 2m + 3 and not before, "and
@@ -104,5 +107,9 @@ module _ (M : Machine) where
         ↔ ((phaseAt M (t .state) ≡ Phase.None) × (length (t .book) ≤ t .fill * (2 + t .begins)))
     pub splits : SplitIs (t .split) (t .state)
 
-  abbrev pub Demand3 : Type 0
-  Demand3 = Always M Faithful
+  -- of a machine whose states show an index
+  abbrev pub Holds : (index : M .State → Index) → Moment M → Type 0
+  Holds index t = Faithful t × RoomIs M index t
+
+  abbrev pub Demand3 : (index : M .State → Index) → Type 0
+  Demand3 index = Always M (Holds index)

@@ -1,5 +1,5 @@
 -- What the invariant says of the calls' answers: all that demand 3 claims of a moment, and when there is no room.
-use mathlib.Core.Path.{_≡_, sym, _∙_}
+use mathlib.Core.Path.{_≡_, refl, sym, _∙_}
 use mathlib.Core.Logic.{_≢_}
 use mathlib.Core.Bool.{true, false}
 use Prim.Native.Nat.{_+_}
@@ -7,7 +7,7 @@ use native.Mathlib.Omega.{arith}
 use lib.ListN.{length}
 use Rattle.model.specs.Index.{idle, Index}
 use Rattle.model.specs.Held.{count}
-use Rattle.model.specs.Machine.{onIndex}
+use Rattle.model.specs.Machine.{runIndex, onIndex}
 use Rattle.model.specs.MachineLaws.{index-works}
 use Rattle.model.specs.Book.{Split, noSplit, since}
 use Rattle.model.specs.History.{Moment}
@@ -55,8 +55,10 @@ faithful t i =
     counts = count-is x (i .wf) (t .book) (i .set) (i .agree)
 
 pub room-is : (t : Moment onIndex) → Inv t → RoomIs onIndex (λ x. x) t
+unfolding runIndex
 room-is t i =
     record {
+      shows = record { wf = i .wf; fill = i .fill; newest = i .newest; phase = refl; holds = i .agree };
       inserts = λ p fits ok e. noRoom-is (t .state) p ok (sym (i .agree p) ∙ e);
       steps = step-noRoom (t .state);
     }

@@ -1,6 +1,6 @@
 -- Work as an iteration of steps: what a work call then gives, for any machine.
-use mathlib.Core.Path.{_≡_, refl, ap}
-use mathlib.Core.Logic.{_≢_}
+use mathlib.Core.Path.{_≡_, refl, ap, _∙_}
+use mathlib.Core.Logic.{_≢_, _↔_}
 use mathlib.Core.Bool.{Bool}
 use mathlib.Core.Option.{some}
 use Prim.Native.Nat.{ℕ, zero, suc, _≤_, _<_}
@@ -13,6 +13,8 @@ use Rattle.model.specs.Steps.{Step, next, stopped, Worked, step, iterate
 use Rattle.model.specs.Calls.{work}
 use Rattle.model.specs.Machine.{working, worked, Ran, Machine, workedIn, runIndex, onIndex}
 use Rattle.model.specs.Demand.{afterSteps, WorkIs}
+use Rattle.model.specs.Views.{Stepping, resting, unbegun, began, uncopied, copied, copiedAll, cleared}
+use Rattle.model.specs.Views.{clearedAll, step-view}
 
 -- from two constructors that would be equal, by `never (cc)`
 pub never : {A : Type 0} → _≡_ {A = ℕ} 0 1 → A
@@ -22,15 +24,29 @@ never z = absurd (omega arith)
 abbrev pub workedBy : {S : Type 0} → Worked S → Ran S
 workedBy w = record { reply = worked (WorkAnswer.Worked (w .steps) (w .stop)); state = w .state }
 
-module _ (M : Machine) where
+-- only work says that a budget is spent
+pub step-unspent : (x : Index) → step x ≢ stopped Stop.Spent
+step-unspent x e = go (step-view x) e
+  where
+    go : {r : Step Index} → Stepping x r → r ≢ stopped Stop.Spent
+    go (resting j w) e = never (cc)
+    go (unbegun j w v) e = never (cc)
+    go (began j w v) e = never (cc)
+    go (uncopied j d k v) e = never (cc)
+    go (copied j d k v) e = never (cc)
+    go (copiedAll j k) e = never (cc)
+    go (cleared j d k) e = never (cc)
+    go (clearedAll j k) e = never (cc)
+
+module _ (M : Machine) (unspent : (s : M .State) → M .step s ≢ stopped Stop.Spent) where
   -- the steps were made, and the iteration ended because the budget was spent or for what the next step says
   record Ends (s : M .State) (budget : ℕ) (w : Worked (M .State)) : Type 0 where
     reached : afterSteps M (w .steps) s ≡ some (w .state)
-    spent : w .steps ≡ budget → w .stop ≡ Stop.Spent
+    spent : (w .steps ≡ budget) ↔ (w .stop ≡ Stop.Spent)
     ended : w .steps ≢ budget → (w .steps < budget) × (M .step (w .state) ≡ stopped (w .stop))
 
   iterate-ends : (budget : ℕ) (s : M .State) → Ends s budget (iterate (M .step) budget s)
-  iterate-ends zero s = record { reached = refl; spent = λ e. refl; ended = λ ne. absurd (ne refl) }
+  iterate-ends zero s = record { reached = refl; spent = (λ e. refl, λ e. refl); ended = λ ne. absurd (ne refl) }
   iterate-ends (suc n) s = go (M .step s) refl (iterate-ends n)
     where
       go : (r : Step (M .State)) → M .step s ≡ r → ((t : M .State) → Ends t n (iterate (M .step) n t))
@@ -39,11 +55,16 @@ module _ (M : Machine) where
           rw (e, iterate)
           (record {
             reached = rw (e, afterSteps) (ih t .reached);
-            spent = λ k. ih t .spent (omega arith);
+            spent = (λ k. ih t .spent .0 (omega arith), λ k. ap suc (ih t .spent .1 k));
             ended = λ ne. (let d = ih t .ended (λ k. ne (ap suc k)) in (omega (arith, d .0), d .1));
           })
       go (stopped c) e ih =
-          rw (e, iterate) (record { reached = refl; spent = λ k. absurd (omega arith); ended = λ ne. (omega arith, e) })
+          rw (e, iterate)
+          (record {
+            reached = refl;
+            spent = (λ k. absurd (omega arith), λ k. absurd (unspent s (e ∙ ap stopped k)));
+            ended = λ ne. (omega arith, e);
+          })
 
   -- a machine whose work call is the iteration of its steps
   pub iterate-works : (s : M .State) (budget : ℕ) → M .run (working budget) s ≡ workedBy (iterate (M .step) budget s)
@@ -63,4 +84,4 @@ module _ (M : Machine) where
 pub index-works : (x : Index) (budget : ℕ) → budget ≤ 65535 → WorkIs onIndex x budget
 unfolding runIndex work
 index-works x budget h =
-    iterate-works onIndex x budget (ap (λ (b : Bool). workedIn b x (work budget x)) (le-leb budget 65535 h))
+    iterate-works onIndex step-unspent x budget (ap (λ (b : Bool). workedIn b x (work budget x)) (le-leb budget 65535 h))

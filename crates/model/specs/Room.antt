@@ -1,5 +1,5 @@
--- When there is no room: document 01's sentences on 7, said of an index and apart from how an insert or a step goes
--- about it. "An insert that makes up a 7 doesn't meet" demand 3.
+-- When there is no room (docs/RULES.md 6.3 and 6.8), said of an index and apart from how an insert or a step goes about
+-- it: "an insert that makes up a 7, doesn't meet it".
 use mathlib.Core.Path.{_≡_}
 use mathlib.Core.Logic.{_↔_}
 use mathlib.Core.Bool.{true, false}
@@ -12,14 +12,14 @@ use Rattle.model.specs.declared.Refusal.{Refusal}
 use Rattle.model.specs.declared.Answer.{Answer}
 use Rattle.model.specs.declared.Stop.{Stop}
 use Rattle.model.specs.Index.{Page, Job, idle, copying, clearing, Index, chain, bucket, newBucket, topBit}
-use Rattle.model.specs.Held.{count}
+use Rattle.model.specs.Held.{held, count}
 use Rattle.model.specs.Steps.{stopped}
 use Rattle.model.specs.StepsLeft.{copiesLeft}
-use Rattle.model.specs.Calls.{pairOk}
-use Rattle.model.specs.WellFormed.{uses}
+use Rattle.model.specs.Calls.{pairOk, standing}
+use Rattle.model.specs.WellFormed.{uses, WF}
 use Rattle.model.specs.Machine.{inserting, CallFits, plain, Machine}
 use Rattle.model.specs.Book.{has}
-use Rattle.model.specs.History.{Moment}
+use Rattle.model.specs.History.{Moment, phaseAt}
 
 -- Insert: no page for an entry of bucket b
 pub record NoPage (x : Index) (b : ℕ) : Type 0 where
@@ -45,7 +45,16 @@ NoStep clearing x = ⊥
 
 -- of a machine whose states show an index
 module _ (M : Machine) (index : M .State → Index) where
+  -- the index is the one that the calls tell of: well-formed, with their fill, buckets and job, and the book's pairs
+  pub record Shows (t : Moment M) : Type 0 where
+    pub wf : WF (index (t .state))
+    pub fill : index (t .state) .fill ≡ t .fill
+    pub newest : index (t .state) .maxBucket ≡ suc (t .begins)
+    pub phase : phaseAt M (t .state) ≡ standing (index (t .state)) .phase
+    pub holds : (p : Pair) → has (t .book) p ≡ held (index (t .state)) p
+
   pub record RoomIs (t : Moment M) : Type 0 where
+    pub shows : Shows t
     -- an insert that no earlier test refuses gets 7 exactly when there is no page for it
     pub inserts : (p : Pair) → CallFits (inserting p) → pairOk p ≡ true → has (t .book) p ≡ false
         → (M .run (inserting p) (t .state) .reply ≡ plain (Answer.Refused Refusal.NoRoom))

@@ -1,17 +1,19 @@
--- Demand 3, and that 7 comes exactly when there is no room, carry over from a machine M to a machine L that does as M
--- does.
-use mathlib.Core.Path.{_≡_, sym, _∙_, subst}
+-- Demand 3 carries over from a machine M to a machine L that does as M does.
+use mathlib.Core.Path.{_≡_, sym, ap, _∙_, subst}
 use mathlib.Core.Logic.{_↔_, inl, inr, ⊎-elim}
 use mathlib.Core.Bool.{true, false}
-use Prim.Native.Nat.{ℕ, _+_}
+use Prim.Native.Nat.{ℕ, suc, _+_}
 use Rattle.model.specs.declared.Stop.{Stop}
 use Rattle.model.specs.declared.Phase.{Phase}
 use Rattle.model.specs.Index.{Index}
+use Rattle.model.specs.Held.{held}
 use Rattle.model.specs.Steps.{stopped}
+use Rattle.model.specs.Calls.{standing}
+use Rattle.model.specs.WellFormed.{WF}
 use Rattle.model.specs.Machine.{Call, inserting, removing, looking, asking, CallFits, Reply, Machine}
-use Rattle.model.specs.Book.{Split, noSplit, since}
-use Rattle.model.specs.History.{Moment, phaseAt, Always}
-use Rattle.model.specs.Demand.{JobIs, SplitIs, Faithful, Demand3}
+use Rattle.model.specs.Book.{Book, has, Split, noSplit, since}
+use Rattle.model.specs.History.{Moment, phaseAt}
+use Rattle.model.specs.Demand.{JobIs, SplitIs, Faithful, Holds, Demand3}
 use Rattle.model.specs.Room.{RoomIs}
 use Rattle.model.specs.Simulation.{alike-stopped, Simulates, Beside, phase-same, carry}
 
@@ -74,23 +76,39 @@ module _ {M L : Machine} (R : L .State → M .State → Type 0) (sim : Simulates
       splits (since true m k) h =
           rw phase (λ l. (h .0 l .0, λ e. h .0 l .1 (stops .0 e)), h .1, h .2)
 
--- what M does L does, so what is claimed of M's calls holds of L's
-pub transfer : (M L : Machine) (R : L .State → M .State → Type 0) → Simulates M L R → Demand3 M → Demand3 L
-transfer M L R sim = carry R sim (Faithful M) (Faithful L) (faithful-beside R sim)
+module _ {M L : Machine} (R : L .State → M .State → Type 0) (sim : Simulates M L R)
+    (i : M .State → Index) (j : L .State → Index) (same : (s : L .State) (x : M .State) → R s x → j s ≡ i x) where
+  room-beside : (t : Moment L) (u : Moment M) → Beside R t u → RoomIs M i u → RoomIs L j t
+  room-beside t u b f =
+      record {
+        shows = record {
+          wf = subst WF (sym e) (f .shows .wf);
+          fill = ap (λ (y : Index). y .fill) e ∙ f .shows .fill ∙ sym (b .fill);
+          newest = ap (λ (y : Index). y .maxBucket) e ∙ f .shows .newest ∙ ap suc (sym (b .begins));
+          phase = phase-same R sim s x r ∙ f .shows .phase ∙ ap (λ (y : Index). standing y .phase) (sym e);
+          holds = λ p.
+              ap (λ (bk : Book). has bk p) (b .book) ∙ f .shows .holds p ∙ ap (λ (y : Index). held y p) (sym e);
+        };
+        inserts = λ p fits ok h. rw (sim .reply (inserting p) fits s x r, e) (f .inserts p fits ok (rw (b .book) at h));
+        steps = rw e (λ h. f .steps .0 (a .0 h), λ h. a .1 (f .steps .1 h));
+      }
+    where
+      s : L .State
+      s = t .state
 
--- related states show the same index
-pub transfer-room : (M L : Machine) (R : L .State → M .State → Type 0) → Simulates M L R
-    → (i : M .State → Index) (j : L .State → Index) → ((s : L .State) (x : M .State) → R s x → j s ≡ i x)
-    → Always M (RoomIs M i) → Always L (RoomIs L j)
-transfer-room M L R sim i j same = carry R sim (RoomIs M i) (RoomIs L j) beside
-  where
-    beside : (t : Moment L) (u : Moment M) → Beside R t u → RoomIs M i u → RoomIs L j t
-    beside t u b f =
-        let e = same (t .state) (u .state) (b .state) in
-        let a = alike-stopped R (L .step (t .state)) (M .step (u .state)) Stop.NoRoom (sim .step _ _ (b .state)) in
-        record {
-          inserts = λ p fits ok h.
-              rw (sim .reply (inserting p) fits (t .state) (u .state) (b .state), e)
-              (f .inserts p fits ok (rw (b .book) at h));
-          steps = rw e (λ h. f .steps .0 (a .0 h), λ h. a .1 (f .steps .1 h));
-        }
+      x : M .State
+      x = u .state
+
+      r : R s x
+      r = b .state
+
+      e : j s ≡ i x
+      e = same s x r
+
+      a : (L .step s ≡ stopped Stop.NoRoom) ↔ (M .step x ≡ stopped Stop.NoRoom)
+      a = alike-stopped R (L .step s) (M .step x) Stop.NoRoom (sim .step s x r)
+
+  -- what M does L does, and related states show the same index: so what is claimed of M's calls holds of L's
+  pub transfer : Demand3 M i → Demand3 L j
+  transfer =
+      carry R sim (Holds M i) (Holds L j) (λ t u b h. (faithful-beside R sim t u b (h .0), room-beside t u b (h .1)))
