@@ -1,5 +1,5 @@
 // A list of calls, encoded as numbers, run one after the other through the public functions: what demand 3 says of
-// lists of calls, it says of this function.
+// lists of calls after an accepted format, it says of this function (specs/Demand3.antt).
 use capi::amiqsovik_format;
 use capi::amiqsovik_insert;
 use capi::amiqsovik_lookup;

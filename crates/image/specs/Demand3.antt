@@ -1,18 +1,17 @@
--- DEMAND 3 holds of byte stores, over every list of calls, and 7 comes exactly when there is no room. The claims are
--- in Demand.antt and Room.antt of crate `model`, their proof for the index as a value in Demand3.antt there; a store
--- does as its index does (OutcomeMachineLaws.antt).
+-- DEMAND 3 holds of byte stores, over every list of calls; the index that a store shows is the one that it is read as.
+-- The claim is in Demand.antt of crate `model`, its proof for the index as a value in Demand3.antt there; a store does
+-- as its index does (OutcomeMachineLaws.antt).
 use mathlib.Core.Path.{_≡_, ap, _∙_}
 use mathlib.Core.Bool.{true}
 use mathlib.Core.List.{List, _∷_}
 use Prim.Native.Nat.{ℕ}
 use Rattle.lists.specs.Lists.{Each}
-use Rattle.model.specs.Machine.{Call, formatting, CallFits, accepted, onIndex}
-use Rattle.model.specs.History.{Moment, history, start, Always}
+use Rattle.model.specs.Machine.{Call, formatting, CallFits, accepted}
+use Rattle.model.specs.History.{Moment, history, start}
 use Rattle.model.specs.HistoryLaws.{history-keeps}
 use Rattle.model.specs.Demand.{Demand3}
-use Rattle.model.specs.Room.{RoomIs}
-use Rattle.model.specs.Demand3.{demand3, room}
-use Rattle.model.specs.Transfer.{transfer, transfer-room}
+use Rattle.model.specs.Demand3.{demand3}
+use Rattle.model.specs.Transfer.{transfer}
 use Rattle.image.specs.Decode.{decode}
 use Rattle.image.specs.Outcomes.{runStore, onStore}
 use Rattle.image.specs.Bridge.{encoding-is-sound}
@@ -21,14 +20,9 @@ use Rattle.image.specs.OutcomeSoundLaws.{format-sound}
 use Rattle.image.specs.OutcomeMachineLaws.{simulates}
 use Rattle.image.specs.OutcomeHistoryLaws.{keeps-call, keeps-step}
 
-pub demand3-stores : Demand3 onStore
-demand3-stores = transfer onIndex onStore Encodes simulates demand3
-
--- of the index that a store is read as
-pub room-stores : Always onStore (RoomIs onStore decode)
-room-stores =
-    transfer-room onIndex onStore Encodes simulates (λ x. x) decode
-    (λ s x r. ap decode (r .1) ∙ encoding-is-sound x (r .0) .read) room
+pub demand3-stores : Demand3 onStore decode
+demand3-stores =
+    transfer Encodes simulates (λ x. x) decode (λ s x r. ap decode (r .1) ∙ encoding-is-sound x (r .0) .read) demand3
 
 -- the store that format leaves, and every store of the list, is sound and as long as the first
 pub history-length : (s : List ℕ) (fill : ℕ) → accepted (runStore (formatting fill) s .reply) ≡ true

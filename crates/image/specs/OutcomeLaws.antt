@@ -1,7 +1,7 @@
 -- What the outcomes are, on any bytes: a test that fails is the refusal, and leaves store and output; a work call is
 -- its steps.
 use mathlib.Core.Path.{_≡_, refl, sym, ap, ap₂, _∙_, subst}
-use mathlib.Core.Logic.{_≢_}
+use mathlib.Core.Logic.{_≢_, _↔_}
 use mathlib.Core.Bool.{Bool, true, false}
 use mathlib.Core.List.{List}
 use mathlib.Core.Option.{some}
@@ -16,21 +16,22 @@ use Rattle.model.specs.declared.LookupAnswer.{LookupAnswer}
 use Rattle.model.specs.declared.Stop.{Stop}
 use Rattle.model.specs.declared.WorkAnswer.{WorkAnswer}
 use Rattle.model.specs.Index.{Index}
-use Rattle.model.specs.Steps.{stopped, iterate}
+use Rattle.model.specs.Steps.{Step, next, stopped, step, iterate}
 use Rattle.model.specs.Calls.{Result, done, refused, fillOk, pairOk, budgetOk, format, insert, remove, listed, lookup}
 use Rattle.model.specs.Held.{matches}
 use Rattle.model.specs.Machine.{Call, formatting, inserting, removing, looking, working, asking, Reply, plain, looked}
 use Rattle.model.specs.Machine.{worked, stands, accepted, Ran}
 use Rattle.model.specs.Book.{effect}
 use Rattle.model.specs.RunLaws.{refused-no}
-use Rattle.model.specs.MachineLaws.{never, iterate-works}
+use Rattle.model.specs.MachineLaws.{never, step-unspent, iterate-works}
 use Rattle.model.specs.Demand.{afterSteps, WorkIs}
 use Rattle.image.specs.Layout.{encode}
+use Rattle.image.specs.Decode.{decode}
 use Rattle.image.specs.Rules.{Judged, damaged, notIndex, sound, verdict}
 use Rattle.image.specs.Outcomes.{lengthOk, Tested, passed, failed, judged, testedIn, tested, formatIn}
 use Rattle.image.specs.Outcomes.{formatOutcome, changed, insertOn, insertOutcome, removeOn, removeOutcome}
-use Rattle.image.specs.Outcomes.{lookupOn, lookupOutcome, standingOn, standingOutcome, stepOutcome, workOn}
-use Rattle.image.specs.Outcomes.{workOutcome, runStore, onStore}
+use Rattle.image.specs.Outcomes.{lookupOn, lookupOutcome, standingOn, standingOutcome, stepOn, stepOutcome}
+use Rattle.image.specs.Outcomes.{workOn, workOutcome, runStore, onStore}
 use Rattle.image.specs.Refusals.{numbersOk, Tests, refusedAs}
 
 -- ---- the tests, in their order
@@ -102,8 +103,8 @@ module _ (c : Call) (t : Tests (effect c)) (s : List ℕ) where
 
 -- ---- "Every refusal leaves store and output untouched", whatever the bytes
 
--- A call on any bytes: it is refused and leaves the store, or is an accepted format; or its tests passed, and it reads
--- or is accepted.
+-- A call on any bytes, for the laws below: it is refused and leaves the store, or it formats, or its tests passed and
+-- it leaves the store or is accepted.
 pub data StoreRun (c : Call) (s : List ℕ) : Ran (List ℕ) → Type 0 where
   refuses : {r : Reply} → accepted r ≡ false → StoreRun c s (record { reply = r; state = s })
   formats : (fill : ℕ) → lengthOk s ≡ true → fillOk fill ≡ true
@@ -185,17 +186,25 @@ refusal-output s h out r e = go (tested true s) e
 
 -- ---- "The step count is the number of these steps and the store is theirs"
 
+unspent : (s : List ℕ) → stepOutcome s ≢ stopped Stop.Spent
+unfolding stepOutcome
+unspent s e = go (step (decode s)) (step-unspent (decode s)) e
+  where
+    go : (r : Step Index) → r ≢ stopped Stop.Spent → stepOn r ≢ stopped Stop.Spent
+    go (next y) h e = never (cc)
+    go (stopped r) h e = h (cc)
+
 pub work-steps : (s : List ℕ) (budget : ℕ) (x : Index) → tested (budgetOk budget) s ≡ passed x → WorkIs onStore s budget
 unfolding runStore workOutcome
 work-steps s budget x e =
-    iterate-works onStore s budget
+    iterate-works onStore unspent s budget
     (ap (λ (t : Tested). let c = workOn t s (iterate stepOutcome budget s) in
     record { reply = worked (c .answer); state = c .store }) e)
 
 -- the store is that of its steps, and it stopped when the budget was spent or for what the next step says
 pub record WorkEnds (s : List ℕ) (budget k : ℕ) (r : Stop) : Type 0 where
   pub store : afterSteps onStore k s ≡ some (workOutcome s budget .store)
-  pub spent : k ≡ budget → r ≡ Stop.Spent
+  pub spent : (k ≡ budget) ↔ (r ≡ Stop.Spent)
   pub ended : k ≢ budget → (k < budget) × (stepOutcome (workOutcome s budget .store) ≡ stopped r)
 
 pub work-ends : (s : List ℕ) (budget k : ℕ) (r : Stop) → workOutcome s budget .answer ≡ WorkAnswer.Worked k r
@@ -211,7 +220,7 @@ work-ends s budget k r e = go (tested (budgetOk budget) s) refl e
         let h = same (d .steps) (d .stop) (ap worked (sym e) ∙ d .reply) in
         record {
           store = ap (λ (i : ℕ). afterSteps onStore i s) (sym (h .0)) ∙ d .reached;
-          spent = λ q. sym (h .1) ∙ d .spent (h .0 ∙ q);
+          spent = (λ q. sym (h .1) ∙ d .spent .0 (h .0 ∙ q), λ q. sym (h .0) ∙ d .spent .1 (h .1 ∙ q));
           ended = λ ne.
               let f = d .ended (λ q. ne (sym (h .0) ∙ q)) in
               (subst (λ (i : ℕ). i < budget) (h .0) (f .0), f .1 ∙ ap stopped (h .1));
@@ -229,4 +238,4 @@ pub work-noRoom : (s : List ℕ) (budget k : ℕ) → workOutcome s budget .answ
     × (stepOutcome (workOutcome s budget .store) ≡ stopped Stop.NoRoom)
 work-noRoom s budget k e =
     let d = work-ends s budget k Stop.NoRoom e in
-    (d .store, d .ended (λ q. never (let h = d .spent q in cc)) .1)
+    (d .store, d .ended (λ q. never (let h = d .spent .0 q in cc)) .1)

@@ -1,4 +1,4 @@
--- The refusals of any call by its tests: "The order is 1, 2, 3, 4, .. Format tests 1 and 2 only."
+-- The refusals by a call's tests, of each call but format: "The order is 1, 2, 3, 4, .. Format tests 1 and 2 only."
 use mathlib.Core.Bool.{Bool, true}
 use Rattle.model.specs.declared.Refusal.{Refusal}
 use Rattle.model.specs.declared.Answer.{Answer}
