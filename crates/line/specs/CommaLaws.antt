@@ -11,13 +11,9 @@ use Rattle.lists.specs.ListsLaws.{eqb-eq}
 use Rattle.line.specs.declared.Number.{Number}
 use Rattle.line.specs.declared.Fields.{Fields}
 use Rattle.line.specs.declared.Command.{Command}
-use Rattle.line.specs.Words.{partsFrom, words, isDigit, valueFrom, numberOf}
+use Rattle.line.specs.Words.{partsFrom, comma, words, isDigit, valueFrom, numberOf}
 use Rattle.line.specs.Command.{addNumber, fieldsFrom, commandOf, commandFrom, maxLine, readLine}
 use Rattle.line.specs.CommandLaws.{fields-wrong, cond-same}
-
--- a comma among bytes
-abbrev pub comma : List ℕ → Bool
-comma bs = any (eqb 44) bs
 
 none : comma [] ≡ true → ⊥
 none h = let z : _≡_ {A = ℕ} 0 1 = cc in omega arith
@@ -80,7 +76,8 @@ or-cases P true b h f g = f refl
 or-cases P false b h f g = g h
 
 words-comma : (part bs : List ℕ) → comma part || comma bs ≡ true → any comma (partsFrom 32 part bs) ≡ true
-words-comma part [] h = or-cases _ (comma part) false h (λ e. or-left (comma part) false e) (λ e. or-right (comma part) false e)
+words-comma part [] h =
+    or-cases _ (comma part) false h (λ e. or-left (comma part) false e) (λ e. or-right (comma part) false e)
 words-comma part (b ∷ bs) h = go (eqb b 32) refl (words-comma [] bs) (words-comma (part ++ (b ∷ [])) bs)
   where
     own : comma (part ++ (b ∷ [])) ≡ comma part || (eqb 44 b || false)

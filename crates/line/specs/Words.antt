@@ -3,6 +3,7 @@ use mathlib.Core.Bool.{Bool, true, false, _&&_}
 use mathlib.Core.List.{List, [], _∷_, _++_}
 use Prim.Native.Nat.{ℕ, suc, _+_, _-_, _*_}
 use lib.Dec.{eqb, leb}
+use Rattle.lists.specs.Lists.{any}
 use Rattle.line.specs.declared.Number.{Number}
 
 -- the parts of bs between the bytes sep, of which the first begins with `part`
@@ -18,6 +19,10 @@ parts sep bs = partsFrom sep [] bs
 abbrev pub span : (sep : ℕ) → List ℕ → ℕ
 span sep [] = 0
 span sep (b ∷ bs) = elim (eqb b sep) [ true ↦ 0 | false ↦ suc (span sep bs) ]
+
+-- a comma among bytes
+abbrev pub comma : List ℕ → Bool
+comma bs = any (eqb 44) bs
 
 -- "Single spaces": two in a row have an empty word between them, and an empty word is no number
 abbrev pub words : List ℕ → List (List ℕ)
