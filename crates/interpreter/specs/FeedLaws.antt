@@ -1,165 +1,144 @@
--- What feed and finish give, by what they gather and how the line ends.
+-- What the private functions give is feed's and finish's outcome.
 use mathlib.Core.Path.{_≡_, refl, sym, ap, _∙_, subst}
 use mathlib.Core.Bool.{Bool, true, false, cond, _&&_}
 use mathlib.Core.List.{List, [], _∷_, _++_}
-use Prim.Native.Nat.{ℕ, zero, suc, _*_, _≤_}
+use Prim.Native.Nat.{ℕ, suc, _*_, _/_, _≤_, min}
 use native.Mathlib.Omega.{arith}
-use borrow.Author.Tests.{leb-true, le-leb}
-use lib.Dec.{leb}
+use borrow.Author.Tests.{leb-true, le-leb, eq-eqb, ne-eqb}
+use lib.Dec.{eqb, leb, ltb}
 use lib.ListN.{length, take, drop}
 use Rattle.lists.specs.ListsLaws.{and-left, and-right}
-use Rattle.line.specs.Command.{maxLine}
+use Rattle.lists.specs.Block.{blocks}
+use Rattle.line.specs.Words.{span}
 use Rattle.text.specs.Text.{lineOutput}
+use Rattle.text.specs.TextLaws.{wrote-start, wrote-count}
 use Rattle.interpreter.specs.declared.ScriptState.{ScriptState}
 use Rattle.interpreter.specs.declared.Fed.{Fed}
 use Rattle.interpreter.specs.declared.Gathered.{Gathered}
-use Rattle.interpreter.specs.Machine.{Pending, short, long, State, Ran, endLine, onBytes, endIn, atEnd}
-use Rattle.interpreter.specs.Feed.{pendingIn, stateOf, scriptBlocks, storeBytes, ready, over, fedBy, notReady}
-use Rattle.interpreter.specs.Feed.{lineBytes, feedOutcome, finishOutcome, fedAs}
-use Rattle.interpreter.specs.Runs.{Room}
-use Rattle.interpreter.specs.RunsLaws.{part-size, over-own}
-use Rattle.interpreter.specs.Held.{Gather, gatherIn, gatheredAs, Ends}
-use Rattle.interpreter.specs.HeldLaws.{holding, gather-used, gather-run}
+use Rattle.interpreter.specs.Feed.{tooMany, gathered, scriptBlocks, storeBytes, ready, Feeding, fedAs, still}
+use Rattle.interpreter.specs.Feed.{nextLine, lineTurn, over, nextState, lineEnds, feedOutcome, finishOutcome}
+use Rattle.interpreter.specs.Runs.{Runs, Room}
+use Rattle.interpreter.specs.Held.{gatherIn}
+use Rattle.interpreter.specs.HeldLaws.{upTo, gather-is}
+
+-- ---- room
 
 module _ (c : ScriptState) (store out : List ℕ) where
+  pub ready-seen : ready c store out ≡ true → c .seen ≤ tooMany
+  ready-seen e = leb-true (c .seen) tooMany (and-left (leb (c .seen) tooMany) _ e)
+
   pub ready-room : ready c store out ≡ true → Room (c .blocks) store out
   ready-room e =
-      let slices =
-      and-right (leb (c .blocks) scriptBlocks) (leb storeBytes (length store) && leb lineOutput (length out)) e in
+      let fit = and-right (leb (c .seen) tooMany) _ e in
+      let slices = and-right (leb (c .blocks) scriptBlocks) _ fit in
       record {
-        few = leb-true (c .blocks) scriptBlocks (and-left (leb (c .blocks) scriptBlocks) _ e);
+        few = leb-true (c .blocks) scriptBlocks (and-left (leb (c .blocks) scriptBlocks) _ fit);
         store = leb-true storeBytes (length store) (and-left (leb storeBytes (length store)) _ slices);
         output = leb-true lineOutput (length out) (and-right (leb storeBytes (length store)) _ slices);
       }
 
-  pub room-ready : Room (c .blocks) store out → ready c store out ≡ true
-  room-ready r =
+  pub room-ready : c .seen ≤ tooMany → Room (c .blocks) store out → ready c store out ≡ true
+  room-ready h r =
       rw (
+        le-leb (c .seen) tooMany h,
         le-leb (c .blocks) scriptBlocks (r .few),
         le-leb storeBytes (length store) (r .store),
-        le-leb lineOutput (length out)
-            (r .output),
+        le-leb lineOutput (length out) (r .output),
       )
 
-  -- the state after a line serves as well
-  pub ready-next : {q : Ran} (d : ScriptState) (new after : List ℕ) (count : ℕ) → ready c store out ≡ true
-      → Ends q store new d out after count → length new ≡ length store → length after ≡ length out → true
-      ≡ ready d new after
-  ready-next d new after count e q l m =
-      let r = ready-room e in
-      sym
-      (rw (
-        le-leb (d .blocks) scriptBlocks (q .few),
-        le-leb storeBytes (length new) (omega (arith, r .store)),
-        le-leb lineOutput (length after) (omega (arith, r .output)),
-      ))
+-- ---- the end of a line
 
-  -- a run that writes nothing and keeps the store
-  pub fed-still : {m : ℕ} (d : ScriptState) → Room (d .blocks) store out
-      → fedBy m (record { state = stateOf d store; text = [] }) store out
-      ≡ fedAs (record { ready = true; state = d; used = m; written = 0 }) store out
-  fed-still {m} d r =
-      ap
-      (λ (x : List ℕ).
-      record { ready = true; used = m; written = 0; state = stateOf d store; store = x; output = out })
-      (sym (over-own store (512 * d .blocks) (part-size r)))
+-- a turn that was made in a lent store and output
+pub line-ends : (n : ℕ) (c : ScriptState) (store new : List ℕ) (count : ℕ) (out after : List ℕ) (written m : ℕ)
+    → m ≡ nextLine (c .number) → Runs (lineTurn c store) store new count out after written
+    → lineEnds n c store out
+    ≡ fedAs
+    (record {
+      ready = true;
+      state = record { number = m; seen = 0; line = c .line; blocks = count };
+      used = n;
+      written = written;
+    })
+    new after
+unfolding blocks
+line-ends n c store new count out after written m e r =
+    let t = lineTurn c store in
+    let size = r .store .size in
+    let number : blocks (t .store) ≡ count = omega (arith, size) in
+    cc (e, number, r .store .bytes, wrote-start (r .text), wrote-count (r .text))
 
-  -- a run of a line that ended
-  pub fed-ended : {m : ℕ} (q : Ran) (d : ScriptState) (new after : List ℕ) (count : ℕ)
-      → Ends q store new d out after count
-      → fedBy m q store out ≡ fedAs (record { ready = true; state = d; used = m; written = count }) new after
-  fed-ended {m} q d new after count e = cc (e .state, e .store, e .text, e .written)
-
-  pub feed-unready : (input : List ℕ) → ready c store out ≡ false
-      → feedOutcome c store input out ≡ fedAs (record { ready = false; state = c; used = 0; written = 0 }) store out
-  unfolding feedOutcome
-  feed-unready input e = rw e
-
-  pub finish-unready : ready c store out ≡ false
-      → finishOutcome c store out ≡ fedAs (record { ready = false; state = c; used = 0; written = 0 }) store out
-  unfolding finishOutcome
-  finish-unready e = rw e
+-- the state after it serves as well
+pub ready-next : (n : ℕ) (c : ScriptState) (store out : List ℕ) (r : Fed) (new after : List ℕ)
+    → ready c store out ≡ true → lineEnds n c store out ≡ fedAs r new after → r .state .blocks ≤ scriptBlocks
+    → length new ≡ length store → length after ≡ length out → r .ready ≡ ready (r .state) new after
+ready-next n c store out r new after y e few l m =
+    let room = ready-room c store out y in
+    let seen : 0 ≡ r .state .seen = ap (λ (f : Feeding). f .fed .state .seen) e in
+    sym (ap (λ (f : Feeding). f .fed .ready) e)
+    ∙ sym
+    (room-ready (r .state) new after (omega (arith, seen))
+    (record { few = few; store = omega (arith, room .store); output = omega (arith, room .output) }))
 
 -- ---- feed
 
-module _ (c : ScriptState) (store input out : List ℕ) (g : Gathered) (e : gatheredAs g ≡ gatherIn (pendingIn c) input)
-    (n : g .state .number ≡ c .number) (k : g .state .blocks ≡ c .blocks) (r : ready c store out ≡ true) where
-  pub feed-room : Room (g .state .blocks) store out
-  feed-room = subst (λ (m : ℕ). Room m store out) (sym k) (ready-room c store out r)
-
-  held : holding (stateOf c store) (pendingIn (g .state)) ≡ stateOf (g .state) store
-  held =
-      ap (λ (m : ℕ). record { pending = pendingIn (g .state); line = m; store = take (512 * c .blocks) store }) (sym n)
-      ∙ ap (λ (m : ℕ). record {
-        pending = pendingIn (g .state);
-        line = g .state .number;
-        store = take
-            (512 * m) store;
-      }) (sym k)
-
-  -- a line that ended, or one that has not
-  abbrev line-run : Bool → State → Ran
-  line-run t s = cond t (endLine s) (record { state = s; text = [] })
-
-  ran : onBytes (stateOf c store) (take (lineBytes input) input) ≡ line-run (g .ended) (stateOf (g .state) store)
-  ran =
-      ap (λ (m : ℕ). onBytes (stateOf c store) (take m input)) (sym (gather-used (pendingIn c) input))
-      ∙ gather-run (stateOf c store) (pendingIn c) input
-      ∙ ap (λ (x : Gather). line-run (x .ended) (holding (stateOf c store) (x .pending))) (sym e)
-      ∙ ap (line-run (g .ended)) held
-
-  used : lineBytes input ≡ g .used
-  used = sym (gather-used (pendingIn c) input) ∙ ap (λ (x : Gather). x .used) (sym e)
-
-  fed : (t : Bool) → g .ended ≡ t → feedOutcome c store input out
-      ≡ fedBy (g .used) (line-run t (stateOf (g .state) store)) store out
+module _ (c : ScriptState) (store input out : List ℕ) where
+  pub feed-unready : ready c store out ≡ false → feedOutcome c store input out ≡ still false 0 c store out
   unfolding feedOutcome
-  fed t h =
-      rw r
-      (ap (λ (m : ℕ). fedBy m (onBytes (stateOf c store) (take (lineBytes input) input)) store out) used
-      ∙ ap (λ (q : Ran). fedBy (g .used) q store out)
-      (ran ∙ ap (λ (u : Bool). line-run u (stateOf (g .state) store)) h))
+  feed-unready e = rw e
 
-  pub feed-open : g .ended ≡ false
-      → feedOutcome c store input out ≡ fedAs
-      (record { ready = true; state = g .state; used = g .used; written = 0 }) store out
-  feed-open h = fed false h ∙ fed-still c store out (g .state) feed-room
+  pub feed-ready : ready c store out ≡ true
+      → let n = span 10 input in
+      let g = gathered c (take n input) in
+      feedOutcome c store input out
+      ≡ cond (ltb n (length input)) (lineEnds (suc n) g store out) (still true n g store out)
+  unfolding feedOutcome
+  feed-ready e = rw e
 
-  pub feed-ended : (d : ScriptState) (new after : List ℕ) (count : ℕ) → g .ended ≡ true
-      → Ends (endLine (stateOf (g .state) store)) store new d out after count
-      → feedOutcome c store input out ≡ fedAs
-      (record { ready = true; state = d; used = g .used; written = count }) new after
-  feed-ended d new after count h q =
-      fed true h ∙ fed-ended c store out (endLine (stateOf (g .state) store)) d new after count q
+  module _ (g : Gathered) (e : g ≡ gatherIn c input) (whole : length (c .line) ≡ 80)
+      (y : ready c store out ≡ true) where
+    to-lf : g ≡ upTo c input (span 10 input)
+    to-lf = e ∙ gather-is c input whole (ready-seen c store out y)
+
+    pub held-seen : g .state .seen ≤ tooMany
+    held-seen = let q = ap (λ (x : Gathered). x .state .seen) to-lf in omega (arith, q)
+
+    pub held-blocks : g .state .blocks ≡ c .blocks
+    held-blocks = ap (λ (x : Gathered). x .state .blocks) to-lf
+
+    pub held-room : Room (g .state .blocks) store out
+    held-room = subst (λ (m : ℕ). Room m store out) (sym held-blocks) (ready-room c store out y)
+
+    abbrev by : Gathered → Feeding
+    by x = cond (x .ended) (lineEnds (x .used) (x .state) store out) (still true (x .used) (x .state) store out)
+
+    pick : (u : Bool) (n : ℕ) (x : ScriptState)
+        → cond u (lineEnds (suc n) x store out) (still true n x store out)
+        ≡ by (record { state = x; used = cond u (suc n) n; ended = u })
+    pick true n x = refl
+    pick false n x = refl
+
+    pub feed-gathered : (t : Bool) → g .ended ≡ t
+        → feedOutcome c store input out
+        ≡ cond t (lineEnds (g .used) (g .state) store out) (still true (g .used) (g .state) store out)
+    feed-gathered t h =
+        let n = span 10 input in
+        feed-ready y ∙ pick (ltb n (length input)) n (gathered c (take n input)) ∙ ap by (sym to-lf)
+        ∙ ap (λ (u : Bool).
+        cond u (lineEnds (g .used) (g .state) store out) (still true (g .used) (g .state) store out))
+        h
 
 -- ---- finish
 
-end-some : (k : ℕ) (l : List ℕ) (s : State) → (k ≡ 0 → ⊥) → 1 ≤ length l → endIn (short (take k l)) s ≡ endLine s
-end-some zero l s h m = absurd (h refl)
-end-some (suc k) [] s h m = absurd (omega arith)
-end-some (suc k) (x ∷ xs) s h m = refl
-
-module _ (c : ScriptState) (store out : List ℕ) (r : ready c store out ≡ true) where
-  pub finish-still : c .seen ≡ 0
-      → finishOutcome c store out ≡ fedAs (record { ready = true; state = c; used = 0; written = 0 }) store out
+module _ (c : ScriptState) (store out : List ℕ) where
+  pub finish-unready : ready c store out ≡ false → finishOutcome c store out ≡ still false 0 c store out
   unfolding finishOutcome
-  finish-still h =
-      let none : pendingIn c ≡ short [] =
-      ap (λ (k : ℕ). cond (leb k maxLine) (short (take k (c .line))) long) h in
-      rw r
-      (ap (λ (p : Pending). fedBy 0 (endIn p (stateOf c store)) store out) none
-      ∙ fed-still c store out c (ready-room c store out r))
+  finish-unready e = rw e
 
-  pub finish-ended : (d : ScriptState) (new after : List ℕ) (count : ℕ) → length (c .line) ≡ 80 → (c .seen ≡ 0 → ⊥)
-      → Ends (endLine (stateOf c store)) store new d out after count
-      → finishOutcome c store out ≡ fedAs (record { ready = true; state = d; used = 0; written = count }) new after
+  pub finish-still : ready c store out ≡ true → c .seen ≡ 0 → finishOutcome c store out ≡ still true 0 c store out
   unfolding finishOutcome
-  finish-ended d new after count l h q =
-      rw r
-      (ap (λ (x : Ran). fedBy 0 x store out) (go (leb (c .seen) maxLine))
-      ∙ fed-ended c store out (endLine (stateOf c store)) d new after count q)
-    where
-      go : (t : Bool) → endIn (cond t (short (take (c .seen) (c .line))) long) (stateOf c store)
-          ≡ endLine (stateOf c store)
-      go true = end-some (c .seen) (c .line) (stateOf c store) h (omega arith)
-      go false = refl
+  finish-still y h = rw (y, eq-eqb (c .seen) 0 h)
+
+  pub finish-ended : ready c store out ≡ true → (c .seen ≡ 0 → ⊥)
+      → finishOutcome c store out ≡ lineEnds 0 c store out
+  unfolding finishOutcome
+  finish-ended y h = rw (y, ne-eqb (c .seen) 0 h)

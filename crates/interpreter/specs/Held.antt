@@ -1,43 +1,29 @@
--- The struct's pending line, byte by byte and at its end.
-use mathlib.Core.Path.{_≡_}
-use mathlib.Core.Bool.{Bool, true, false}
+-- What the private functions on the pending line give, byte by byte. A reader of feed's contract need not read it.
+use mathlib.Core.Bool.{true, false, cond}
 use mathlib.Core.List.{List, [], _∷_}
-use Prim.Native.Nat.{ℕ, suc, _≤_}
-use lib.Dec.{eqb}
-use lib.ListN.{length}
+use Prim.Native.Nat.{ℕ, suc, _+_}
+use lib.Dec.{eqb, ltb}
+use lib.ListN.{set}
+use Rattle.line.specs.Command.{maxLine}
 use Rattle.interpreter.specs.declared.ScriptState.{ScriptState}
 use Rattle.interpreter.specs.declared.Gathered.{Gathered}
-use Rattle.interpreter.specs.Machine.{Pending, grow, State, Ran}
-use Rattle.interpreter.specs.Feed.{pendingIn, stateOf, scriptBlocks, over}
+use Rattle.interpreter.specs.Feed.{tooMany}
+
+-- the state with another pending line
+abbrev pub withLine : ScriptState → (seen : ℕ) → (line : List ℕ) → ScriptState
+withLine c n l = record { number = c .number; seen = n; line = l; blocks = c .blocks }
 
 -- one byte more
-pub record Keeps (c : ScriptState) (b : ℕ) (r : ScriptState) : Type 0 where
-  pub pending : pendingIn r ≡ grow (pendingIn c) b
-  pub number : r .number ≡ c .number
-  pub blocks : r .blocks ≡ c .blocks
+abbrev pub kept : ScriptState → ℕ → ScriptState
+kept c b =
+    cond (ltb (c .seen) maxLine) (withLine c (c .seen + 1) (set (c .line) (c .seen) b)) (withLine c tooMany (c .line))
 
--- The pending line after the bytes up to an LF or the end, their number, with the LF, and whether it was an LF.
-pub record Gather : Type 0 where
-  pub pending : Pending
-  pub used : ℕ
-  pub ended : Bool
-
-abbrev pub gatherIn : Pending → List ℕ → Gather
-gatherIn p [] = record { pending = p; used = 0; ended = false }
-gatherIn p (b ∷ bs) =
+-- the state after the bytes up to an LF or the end, their number, with the LF, and whether it was an LF
+abbrev pub gatherIn : ScriptState → List ℕ → Gathered
+gatherIn c [] = record { state = c; used = 0; ended = false }
+gatherIn c (b ∷ bs) =
     elim (eqb b 10) [
-      | true ↦ record { pending = p; used = 1; ended = true }
-      | false ↦ let g = gatherIn (grow p b) bs in
-          record { pending = g .pending; used = suc (g .used); ended = g .ended }
+      | true ↦ record { state = c; used = 1; ended = true }
+      | false ↦ let g = gatherIn (kept c b) bs in
+          record { state = g .state; used = suc (g .used); ended = g .ended }
     ]
-
-abbrev pub gatheredAs : Gathered → Gather
-gatheredAs r = record { pending = pendingIn (r .state); used = r .used; ended = r .ended }
-
--- a run, made in a lent store and output
-pub record Ends (q : Ran) (old new : List ℕ) (c : ScriptState) (before after : List ℕ) (count : ℕ) : Type 0 where
-  pub few : c .blocks ≤ scriptBlocks
-  pub state : stateOf c new ≡ q .state
-  pub store : new ≡ over (q .state .store) old
-  pub text : after ≡ over (q .text) before
-  pub written : count ≡ length (q .text)

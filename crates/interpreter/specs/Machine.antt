@@ -1,12 +1,15 @@
--- A script run byte by byte: what is kept between bytes, and what each byte writes.
+-- A script run byte by byte: what is kept between bytes, and what each byte writes. It stands in the proof between
+-- scriptOutput and feed: who reads Script.antt and Feed.antt need not read it.
 use mathlib.Core.Bool.{true, false, cond}
 use mathlib.Core.List.{List, [], _∷_, _++_}
-use Prim.Native.Nat.{ℕ}
-use lib.Dec.{eqb, ltb}
-use lib.ListN.{length}
+use Prim.Native.Nat.{ℕ, _*_}
+use lib.Dec.{eqb, leb, ltb}
+use lib.ListN.{length, take}
 use Rattle.line.specs.declared.Command.{Command}
 use Rattle.line.specs.Command.{maxLine, readLine}
-use Rattle.interpreter.specs.Script.{runCommand, nextLine}
+use Rattle.interpreter.specs.declared.ScriptState.{ScriptState}
+use Rattle.interpreter.specs.Script.{runCommand}
+use Rattle.interpreter.specs.Feed.{nextLine}
 
 -- The line that has not ended yet: its bytes, or that there are more than 80.
 pub data Pending : Type 0 where
@@ -68,3 +71,16 @@ atEnd s = endIn (s .pending) s
 abbrev pub onPieces : State → List (List ℕ) → List ℕ
 onPieces s [] = atEnd s .text
 onPieces s (p ∷ ps) = let r = onBytes s p in r .text ++ onPieces (r .state) ps
+
+-- ---- the state that a struct and a lent store stand for
+
+abbrev pub pendingIn : ScriptState → Pending
+pendingIn c = cond (leb (c .seen) maxLine) (short (take (c .seen) (c .line))) long
+
+-- the standing store is the first N blocks of the lent one
+abbrev pub stateOf : ScriptState → (store : List ℕ) → State
+stateOf c store = record { pending = pendingIn c; line = c .number; store = take (512 * c .blocks) store }
+
+-- a run that left a struct and a lent store
+abbrev pub ranAs : ScriptState → (store text : List ℕ) → Ran
+ranAs c store text = record { state = stateOf c store; text = text }

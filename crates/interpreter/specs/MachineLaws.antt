@@ -2,7 +2,7 @@
 use mathlib.Core.Path.{_≡_, refl, sym, ap, _∙_}
 use mathlib.Core.Bool.{Bool, true, false, cond}
 use mathlib.Core.List.{List, [], _∷_, _++_, append-assoc, append-nil}
-use Prim.Native.Nat.{ℕ, suc, _+_, _≤_, _<_}
+use Prim.Native.Nat.{ℕ, suc, _+_, _^_, _≤_, _<_}
 use native.Mathlib.Omega.{arith}
 use borrow.Author.Tests.{ltb-true, ltb-false, leb-true, leb-false, le-leb, lt-leb}
 use lib.Dec.{eqb, ltb, leb}
@@ -12,7 +12,8 @@ use Rattle.line.specs.declared.Command.{Command}
 use Rattle.line.specs.Words.{partsFrom}
 use Rattle.line.specs.Command.{maxLine, readLine}
 use Rattle.line.specs.CommandLaws.{line-long}
-use Rattle.interpreter.specs.Script.{Turn, runCommand, ended, nextLine, runLines}
+use Rattle.interpreter.specs.Script.{Turn, runCommand, ended, runLines}
+use Rattle.interpreter.specs.Feed.{nextLine}
 use Rattle.interpreter.specs.Machine.{Pending, short, long, grow, commandAt, State, Ran, endLine}
 use Rattle.interpreter.specs.Machine.{keepByte, onByte, onBytes, endIn, atEnd, onPieces}
 
@@ -92,12 +93,18 @@ within n s acc = record { pending = pendingOf acc; line = n; store = s }
 abbrev rest : State → List ℕ → List ℕ
 rest s bs = let r = onBytes s bs in r .text ++ atEnd (r .state) .text
 
-last : (n : ℕ) (s acc : List ℕ) → atEnd (within n s acc) .text ≡ runLines n s (ended (acc ∷ []))
-last n s [] = refl
-last n s (x ∷ xs) =
+-- a number that 64 bits hold is not wrapped
+next-count : (n : ℕ) → n + 1 < 2 ^ 64 → nextLine n ≡ n + 1
+next-count n h = omega arith
+
+last : (n : ℕ) (s acc : List ℕ) → n + length acc < 2 ^ 64
+    → atEnd (within n s acc) .text ≡ runLines n s (ended (acc ∷ []))
+last n s [] h = refl
+last n s (x ∷ xs) h =
     go (leb (length (x ∷ xs)) maxLine)
     ∙ ap (λ (c : Command). runCommand c (nextLine n) s .text) (pending-command (x ∷ xs))
-    ∙ sym (append-nil (runCommand (readLine (x ∷ xs)) (nextLine n) s .text))
+    ∙ ap (λ (m : ℕ). runCommand (readLine (x ∷ xs)) m s .text) (next-count n (omega arith))
+    ∙ sym (append-nil (runCommand (readLine (x ∷ xs)) (n + 1) s .text))
   where
     go : (t : Bool)
         → let p = cond t (short (x ∷ xs)) long in
@@ -105,13 +112,19 @@ last n s (x ∷ xs) =
     go true = refl
     go false = refl
 
-pub rest-lines : (n : ℕ) (s acc bs : List ℕ) → rest (within n s acc) bs ≡ runLines n s (ended (partsFrom 10 acc bs))
-rest-lines n s acc [] = last n s acc
-rest-lines n s acc (b ∷ bs) =
-    go (eqb b 10) (λ t. rest-lines (nextLine n) t [] bs) (rest-lines n s (acc ++ (b ∷ [])) bs)
+-- a line has a byte at least, with its LF, so fewer than 2 ^ 64 bytes have no line whose number wraps
+pub rest-lines : (n : ℕ) (s acc bs : List ℕ) → n + (length acc + length bs) < 2 ^ 64
+    → rest (within n s acc) bs ≡ runLines n s (ended (partsFrom 10 acc bs))
+rest-lines n s acc [] h = last n s acc (omega arith)
+rest-lines n s acc (b ∷ bs) h =
+    go (eqb b 10) (λ t. rest-lines (n + 1) t [] bs (omega arith))
+    (rest-lines n s (acc ++ (b ∷ [])) bs (simp length-append (omega arith)))
   where
+    count : nextLine n ≡ n + 1
+    count = next-count n (omega arith)
+
     go : (t : Bool)
-        → ((u : List ℕ) → rest (within (nextLine n) u []) bs ≡ runLines (nextLine n) u (ended (partsFrom 10 [] bs)))
+        → ((u : List ℕ) → rest (within (n + 1) u []) bs ≡ runLines (n + 1) u (ended (partsFrom 10 [] bs)))
         → rest (within n s (acc ++ (b ∷ []))) bs ≡ runLines n s (ended (partsFrom 10 (acc ++ (b ∷ [])) bs))
         → let r = cond t (endLine (within n s acc)) (keepByte (within n s acc) b) in
         r .text ++ onBytes (r .state) bs .text ++ atEnd (onBytes (r .state) bs .state) .text
@@ -119,9 +132,12 @@ rest-lines n s acc (b ∷ bs) =
     go true new old =
         let r = endLine (within n s acc) in
         append-assoc (r .text) (onBytes (r .state) bs .text) (atEnd (onBytes (r .state) bs .state) .text)
-        ∙ ap (λ (x : List ℕ). r .text ++ x) (new (r .state .store))
-        ∙ ap (λ (c : Command). let t = runCommand c (nextLine n) s in
-        t .text ++ runLines (nextLine n) (t .store) (ended (partsFrom 10 [] bs)))
+        ∙ ap (λ (m : ℕ). let t = runCommand (commandAt (pendingOf acc)) m s in
+        t .text ++ rest (within m (t .store) []) bs) count
+        ∙ ap (λ (x : List ℕ). runCommand (commandAt (pendingOf acc)) (n + 1) s .text ++ x)
+        (new (runCommand (commandAt (pendingOf acc)) (n + 1) s .store))
+        ∙ ap (λ (c : Command). let t = runCommand c (n + 1) s in
+        t .text ++ runLines (n + 1) (t .store) (ended (partsFrom 10 [] bs)))
         (pending-command acc)
         ∙ ap (runLines n s) (sym (ended-more acc [] bs))
     go false new old =

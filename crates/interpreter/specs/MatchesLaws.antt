@@ -1,5 +1,5 @@
--- How many matches a lookup can have: 5,000, where a job has more than two buckets. "enough for the 5,000 matches that 128
--- blocks can hold"
+-- How many matches a lookup can have: 5,000, where a job has more than two buckets. "enough for the 5,000 matches
+-- that 128 blocks can hold"
 use mathlib.Core.Path.{_≡_, refl, ap}
 use mathlib.Core.Logic.{_≢_}
 use mathlib.Core.Bool.{Bool, true, false, not}

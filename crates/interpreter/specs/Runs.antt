@@ -1,4 +1,5 @@
--- A line's turn, made in a lent store and output.
+-- What private functions need and leave: a line's turn, made in a lent store and output. A reader of feed's
+-- contract need not read it.
 use mathlib.Core.Path.{_≡_}
 use mathlib.Core.List.{List}
 use Prim.Native.Nat.{ℕ, _*_, _≤_}

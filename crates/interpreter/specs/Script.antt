@@ -1,6 +1,6 @@
 -- Document 01, "The script": from the bytes of a script to the bytes that it writes.
 use mathlib.Core.List.{List, [], _∷_, _++_}
-use Prim.Native.Nat.{ℕ, _+_, _*_, _%_, _^_}
+use Prim.Native.Nat.{ℕ, _+_, _*_}
 use lib.ListN.{replicate}
 use Rattle.line.specs.declared.Command.{Command}
 use Rattle.line.specs.Words.{parts}
@@ -71,15 +71,11 @@ ended (l ∷ m ∷ ls) = l ∷ ended (m ∷ ls)
 abbrev pub lines : List ℕ → List (List ℕ)
 lines bs = ended (parts 10 bs)
 
--- the number of the line after line n; numbers are those of 64 bits
-abbrev pub nextLine : ℕ → ℕ
-nextLine n = (n + 1) % 2 ^ 64
-
 -- the lines after line n, on the store that stands
 abbrev pub runLines : (n : ℕ) → (store : List ℕ) → List (List ℕ) → List ℕ
 runLines n s [] = []
 runLines n s (l ∷ ls) =
-    let t = runCommand (readLine l) (nextLine n) s in t .text ++ runLines (nextLine n) (t .store) ls
+    let t = runCommand (readLine l) (n + 1) s in t .text ++ runLines (n + 1) (t .store) ls
 
 -- "Before the first accepted f the store has length 0"
 unfoldable pub scriptOutput : List ℕ → List ℕ

@@ -3,19 +3,16 @@ use crate::Fed;
 use crate::SCRIPT_BLOCKS;
 use crate::STORE_BYTES;
 use crate::ScriptState;
+use crate::TOO_MANY;
 use crate::lines::end_line;
 use crate::lines::gather;
 use text::LINE_OUTPUT;
 ghost use mathlib.Core.Path.{_≡_};
-ghost use mathlib.Core.List.{List};
-ghost use Prim.Native.Nat.{ℕ};
-ghost use Rattle.interpreter.specs.Machine.{begin};
-ghost use Rattle.interpreter.specs.Feed.{stateOf, ready, feedOutcome, finishOutcome, fedAs};
+ghost use Rattle.interpreter.specs.Feed.{startState, ready, feedOutcome, finishOutcome, fedAs};
 
 // Before the first byte of a script.
 pub fn start() -> ScriptState
-    ensures { λ r. ⌜ ((store : List ℕ) → stateOf r store ≡ begin) ⌝ }
-    ensures { λ r. ⌜ r .blocks ≡ 0 ⌝ }
+    ensures { λ r. ⌜ r ≡ startState ⌝ }
 {
     ScriptState {
         number: 0,
@@ -29,6 +26,9 @@ pub fn start() -> ScriptState
 fn is_ready(state: ScriptState, store: &[u8], output: &[u8]) -> bool
     ensures { λ r. ⌜ r ≡ ready state (now (store .entry)) (now (output .entry)) ⌝ }
 {
+    if state.seen > TOO_MANY {
+        return false;
+    }
     if state.blocks > SCRIPT_BLOCKS {
         return false;
     }
@@ -63,14 +63,7 @@ pub fn feed(state: ScriptState, store: &mut [u8], input: &[u8], output: &mut [u8
             written: 0,
         };
     }
-    let ended = end_line(held, store, output);
-    let next = ended.state;
-    Fed {
-        ready: true,
-        state: next,
-        used,
-        written: ended.written,
-    }
+    end_line(held, used, store, output)
 }
 
 // Ends the script: a last line that lacks its LF is run.
@@ -95,12 +88,5 @@ pub fn finish(state: ScriptState, store: &mut [u8], output: &mut [u8]) -> Fed
             written: 0,
         };
     }
-    let ended = end_line(state, store, output);
-    let next = ended.state;
-    Fed {
-        ready: true,
-        state: next,
-        used: 0,
-        written: ended.written,
-    }
+    end_line(state, 0, store, output)
 }

@@ -9,8 +9,11 @@ pub const SCRIPT_BLOCKS: u32 = 128;
 
 pub const STORE_BYTES: usize = 65536;
 
-// What is kept between two pieces of a script: the number of the last line that ended, the bytes of the pending line
-// (`seen` of them, 81 where there are more than 80), and N of the store that stands, 0 before the first.
+// What `seen` is where a line has more than 80 bytes.
+const TOO_MANY: usize = 81;
+
+// What is kept between two pieces of a script: the number of the last line that ended, how many bytes the pending line
+// has (81 where there are more than 80), these bytes, and N of the store that stands, 0 before the first.
 pub struct ScriptState {
     number: u64,
     seen: usize,
@@ -38,10 +41,4 @@ struct Gathered {
     state: ScriptState,
     used: usize,
     ended: bool,
-}
-
-// The state after a line, and how many bytes the line wrote.
-struct Ended {
-    state: ScriptState,
-    written: usize,
 }

@@ -1,7 +1,8 @@
 // The pending line, and its end.
-use crate::Ended;
+use crate::Fed;
 use crate::Gathered;
 use crate::ScriptState;
+use crate::TOO_MANY;
 use crate::calls::run_command;
 use line::Command;
 use line::commands::read_line;
@@ -9,14 +10,13 @@ use std::num::wrapping_add_u64;
 ghost use mathlib.Core.Path.{_≡_};
 ghost use Prim.Native.Nat.{_*_, _≤_};
 ghost use lib.ListN.{length, take};
-ghost use Rattle.interpreter.specs.Machine.{commandAt, endLine};
-ghost use Rattle.interpreter.specs.Feed.{pendingIn, stateOf};
+ghost use Rattle.interpreter.specs.Feed.{scriptBlocks, pendingCommand, lineEnds, fedAs};
 ghost use Rattle.interpreter.specs.Runs.{Room};
-ghost use Rattle.interpreter.specs.Held.{Keeps, gatherIn, gatheredAs, Ends};
+ghost use Rattle.interpreter.specs.Held.{kept, gatherIn};
 
 // One byte more of the pending line.
 fn keep_byte(state: ScriptState, byte: u8) -> ScriptState
-    ensures { λ r. ⌜ Keeps state byte r ⌝ }
+    ensures { λ r. ⌜ r ≡ kept state byte ⌝ }
 {
     let seen = state.seen;
     let mut line = state.line;
@@ -31,7 +31,7 @@ fn keep_byte(state: ScriptState, byte: u8) -> ScriptState
     }
     ScriptState {
         number: state.number,
-        seen: 81,
+        seen: TOO_MANY,
         line,
         blocks: state.blocks,
     }
@@ -39,8 +39,7 @@ fn keep_byte(state: ScriptState, byte: u8) -> ScriptState
 
 // Keeps the bytes up to an LF or the end of `input`.
 pub fn gather(state: ScriptState, input: &[u8]) -> Gathered
-    ensures { λ r. ⌜ gatheredAs r ≡ gatherIn (pendingIn state) (now (input .entry)) ⌝ }
-    ensures { λ r. ⌜ (r .state .number ≡ state .number) × (r .state .blocks ≡ state .blocks) ⌝ }
+    ensures { λ r. ⌜ r ≡ gatherIn state (now (input .entry)) ⌝ }
 {
     let mut held = state;
     let mut i = 0;
@@ -65,7 +64,7 @@ pub fn gather(state: ScriptState, input: &[u8]) -> Gathered
 
 // The command of the pending line.
 fn pending_command(state: ScriptState) -> Command
-    ensures { λ r. ⌜ r ≡ commandAt (pendingIn state) ⌝ }
+    ensures { λ r. ⌜ r ≡ pendingCommand state ⌝ }
 {
     let seen = state.seen;
     if seen > 80 {
@@ -75,22 +74,26 @@ fn pending_command(state: ScriptState) -> Command
     read_line(&line[..seen])
 }
 
-// Ends the pending line and runs it.
-pub fn end_line(state: ScriptState, store: &mut [u8], output: &mut [u8]) -> Ended
+// Ends the pending line and runs it, after `used` bytes of a piece.
+pub fn end_line(state: ScriptState, used: usize, store: &mut [u8], output: &mut [u8]) -> Fed
     requires { ⌜ Room (state .blocks) (now store) (now output) ⌝ }
-    ensures { λ r. ⌜ Ends (endLine (stateOf state (now (store .entry)))) (now (store .entry)) (now (store .exit))
-        (r .state) (now (output .entry)) (now (output .exit)) (r .written) ⌝ }
+    ensures { λ r. ⌜ lineEnds used state (now (store .entry)) (now (output .entry))
+        ≡ fedAs r (now (store .exit)) (now (output .exit)) ⌝ }
+    ensures { λ r. ⌜ r .state .blocks ≤ scriptBlocks ⌝ }
 {
     let number = wrapping_add_u64(state.number, 1);
     let command = pending_command(state);
     let ran = run_command(command, number, state.blocks, store, output);
-    Ended {
+    let line = state.line;
+    Fed {
+        ready: true,
         state: ScriptState {
             number,
             seen: 0,
-            line: [0; 80],
+            line,
             blocks: ran.blocks,
         },
+        used,
         written: ran.written,
     }
 }

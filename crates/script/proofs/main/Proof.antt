@@ -1,10 +1,12 @@
-use mathlib.Core.Path.{_≡_, sym}
+use mathlib.Core.Path.{_≡_, sym, subst}
+use mathlib.Core.List.{List}
 use Prim.Native.Nat.{ℕ, _≤_}
 use native.Mathlib.Omega.{arith}
 use lib.ListN.{length, replicate, length-replicate}
 use lib.Seq.{length-take-le}
-use Rattle.interpreter.specs.FeedLaws.{room-ready}
-use Rattle.interpreter.specs.FedLaws.{finish-written}
+use Rattle.interpreter.specs.declared.ScriptState.{ScriptState}
+use Rattle.interpreter.specs.Stores.{Serves}
+use Rattle.interpreter.specs.CallsLaws.{start-serves, finish-written}
 use borrow.Author.Needs.{needs}
 use Rattle.script.proofs.main.Statement.{statement}
 use Rattle.script.proofs.main.Tie as tie
@@ -20,13 +22,11 @@ slice-aggregate-run-reads-2 c = search needs
 
 run-reads-requires : tie.Need-run-reads-requires
 run-reads-requires c κs =
-    let s = c .before .before .start in
-    room-ready (s .result) (replicate 65536 0) (replicate 85006 0)
-    (record {
-      few = omega (arith, s .ensures .1);
-      store = omega (arith, length-replicate {A = ℕ} 65536 0);
-      output = omega (arith, length-replicate {A = ℕ} 85006 0);
-    })
+    let s = c .before .before .start in (
+      subst (λ (x : ScriptState). Serves x (replicate 65536 0)) (sym (s .ensures))
+          (start-serves (replicate 65536 0) (omega (arith, length-replicate {A = ℕ} 65536 0))),
+      omega (arith, length-replicate {A = ℕ} 150542 0),
+    )
 
 slice-aggregate-finish : tie.Need-slice-aggregate-finish
 slice-aggregate-finish c = search needs
@@ -44,16 +44,19 @@ written c = let p = c .finish in finish-written _ _ _ (p .result) (p .last .1 .0
 array-share-prefix-output : tie.Need-array-share-prefix-output
 array-share-prefix-output c = written (c .before .before)
 
-slice-aggregate-write-all : tie.Need-slice-aggregate-write-all
-slice-aggregate-write-all c =
+slice-aggregate-put : tie.Need-slice-aggregate-put
+slice-aggregate-put c =
     let p = c .before .before .before in sym (length-take-le (p .finish .result .written) (p .finish .last .1 .1 .0)
     (written p))
 
-write-all-requires : tie.Need-write-all-requires
-write-all-requires c κs = search needs
+put-requires : tie.Need-put-requires
+put-requires c κs = search needs
 
 returns : tie.Need-returns
 returns c = search needs
+
+returns-2 : tie.Need-returns-2
+returns-2 c = search needs
 
 pub main-spec : {M : Type 1} → statement M
 main-spec =
@@ -67,6 +70,7 @@ main-spec =
     slice-aggregate-finish-2
     finish-requires
     array-share-prefix-output
-    slice-aggregate-write-all
-    write-all-requires
-    returns)
+    slice-aggregate-put
+    put-requires
+    returns
+    returns-2)

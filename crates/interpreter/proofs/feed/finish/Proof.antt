@@ -1,15 +1,11 @@
 use mathlib.Core.Path.{_≡_, sym, _∙_}
 use mathlib.Core.Bool.{true}
 use borrow.Author.Tests.{not-true, not-false}
-use lib.ListN.{length}
 use Rattle.interpreter.specs.Feed.{ready}
 use Rattle.interpreter.specs.FeedLaws.{ready-room, ready-next, finish-unready, finish-still, finish-ended}
 use borrow.Author.Needs.{needs}
 use Rattle.interpreter.proofs.feed.finish.Statement.{statement}
 use Rattle.interpreter.proofs.feed.finish.Tie as tie
-
-whole : (c : tie.Start) → length (c .args .state .line) ≡ 80
-whole c = search needs
 
 -- the state and the slices serve
 fit : (c : tie.Else1) → let a = c .before .before .before .before .before .before .args in
@@ -39,16 +35,15 @@ same-length-4 c = search needs
 
 returns-2 : tie.Need-returns-2
 returns-2 c =
-    let a = c .before .before .before .before .before .before .before .before .args in (
-      finish-still (a .state) (a .store .now) (a .output .now) (fit (c .before .before)) (c .if2 .taken),
-      sym
-          (fit (c .before .before)),
-    )
+    let e = c .before .before in
+    let a = e .before .before .before .before .before .before .args in
+    (finish-still (a .state) (a .store .now) (a .output .now) (fit e) (c .if2 .taken), sym (fit e))
 
 end-line-requires : tie.Need-end-line-requires
 end-line-requires c κs =
-    let a = c .before .before .before .before .before .before .before .before .before .before .args in
-    ready-room (a .state) (a .store .now) (a .output .now) (fit (c .before .before .before .before))
+    let e = c .before .before .before .before in
+    let a = e .before .before .before .before .before .before .args in
+    ready-room (a .state) (a .store .now) (a .output .now) (fit e)
 
 same-length-5 : tie.Need-same-length-5
 same-length-5 c = search needs
@@ -58,16 +53,14 @@ same-length-6 c = search needs
 
 returns-3 : tie.Need-returns-3
 returns-3 c =
-    let q = c .before .before .before .before .before in
+    let q = c .before .before .before .before in
     let t = q .before .before .before in
-    let a = t .before .before .before .before .before .before .before .before .args in
+    let e = t .before .before in
+    let a = e .before .before .before .before .before .before .args in
     let n = q .end-line in (
-      finish-ended (a .state) (a .store .now) (a .output .now) (fit (t .before .before)) (n .result .state)
-          (n .last .1 .0)
-          (n .last .1 .1 .0) (n .result .written)
-          (whole (t .before .before .before .before .before .before .before .before)) (t .if2 .left) (n .ensures),
-      ready-next (a .state) (a .store .now) (a .output .now) (n .result .state) (n .last .1 .0) (n .last .1 .1 .0)
-          (n .result .written) (fit (t .before .before)) (n .ensures) (n .kept .1 .0) (n .kept .1 .1 .0),
+      finish-ended (a .state) (a .store .now) (a .output .now) (fit e) (t .if2 .left) ∙ n .ensures .0,
+      ready-next 0 (a .state) (a .store .now) (a .output .now) (n .result) (n .last .1 .1 .0) (n .last .1 .1 .1 .0)
+          (fit e) (n .ensures .0) (n .ensures .1) (n .kept .1 .1 .0) (n .kept .1 .1 .1 .0),
     )
 
 pub finish-spec : {M : Type 1} → statement M

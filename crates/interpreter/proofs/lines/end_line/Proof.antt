@@ -1,12 +1,11 @@
-use mathlib.Core.Path.{_≡_, refl, sym, ap, _∙_}
+use mathlib.Core.Path.{_≡_, ap, _∙_}
 use Prim.Native.Nat.{ℕ, _*_}
 use lib.ListN.{take}
 use Rattle.line.specs.declared.Command.{Command}
 use Rattle.interpreter.specs.Script.{runCommand}
-use Rattle.interpreter.specs.Machine.{commandAt, endLine}
-use Rattle.interpreter.specs.Feed.{pendingIn, stateOf}
+use Rattle.interpreter.specs.Feed.{pendingCommand}
 use Rattle.interpreter.specs.RunsLaws.{runs-as}
-use Rattle.interpreter.specs.HeldLaws.{ends-run}
+use Rattle.interpreter.specs.FeedLaws.{line-ends}
 use borrow.Author.Needs.{needs}
 use Rattle.interpreter.proofs.lines.end_line.Statement.{statement}
 use Rattle.interpreter.proofs.lines.end_line.Tie as tie
@@ -28,17 +27,20 @@ same-length-2 c = search needs
 
 returns : tie.Need-returns
 returns c =
-    let r = c .before .before .before .before in
+    let r = c .before .before .before .before .before in
     let p = r .before .before .before in
     let n = p .before in
     let a = n .before .before .before .args in
     let old = a .store .now in
     let part = take (512 * a .state .blocks) old in
-    ends-run (endLine (stateOf (a .state) old)) old _ _ (a .output .now) _ _ refl (n .wrapping-add-u64 .ensures)
-    (runs-as
+    let runs = runs-as
     (ap (λ (k : Command). runCommand k (n .wrapping-add-u64 .result) part) (p .pending-command .ensures)
-    ∙ ap (λ (m : ℕ). runCommand (commandAt (pendingIn (a .state))) m part) (n .wrapping-add-u64 .ensures))
-    (r .run-command .ensures))
+    ∙ ap (λ (m : ℕ). runCommand (pendingCommand (a .state)) m part) (n .wrapping-add-u64 .ensures))
+    (r .run-command .ensures) in (
+      line-ends (a .used) (a .state) old _ (r .run-command .result .blocks) (a .output .now) _
+          (r .run-command .result .written) (n .wrapping-add-u64 .result) (n .wrapping-add-u64 .ensures) runs,
+      runs .store .few,
+    )
 
 pub end-line-spec : {M : Type 1} → statement M
 end-line-spec =

@@ -1,0 +1,142 @@
+-- Each line of a script leaves a store that a script can have.
+use mathlib.Core.Path.{_≡_, refl, sym, ap, _∙_, subst}
+use mathlib.Core.Logic.{_≢_}
+use mathlib.Core.Bool.{Bool, true, false}
+use mathlib.Core.List.{List, [], _∷_}
+use Prim.Native.Nat.{ℕ, _*_, _/_, _≤_}
+use native.Mathlib.Omega.{arith}
+use lib.ListN.{length, replicate}
+use Rattle.lists.specs.Block.{blocks}
+use Rattle.line.specs.declared.Command.{Command}
+use Rattle.line.specs.FitsLaws.{CommandFits}
+use Rattle.model.specs.Index.{Job, idle, copying, clearing, Index}
+use Rattle.model.specs.Steps.{next, step}
+use Rattle.model.specs.Calls.{Result, done, refused, sizeOk, fillOk, budgetOk, format, formatted, insert, remove, work}
+use Rattle.model.specs.Machine.{Call, formatting, inserting, removing, looking, working, asking, CallFits, Ran}
+use Rattle.model.specs.Machine.{settled, workedIn, runIndex}
+use Rattle.model.specs.FormatLaws.{format-wf}
+use Rattle.model.specs.FrameLaws.{SameJob, insert-frame, remove-frame, begin-frame, job-frame}
+use Rattle.model.specs.StepLaws.{step-wf}
+use Rattle.model.specs.WorkLaws.{iterate-keeps}
+use Rattle.model.specs.MachineLaws.{never}
+use Rattle.image.specs.Layout.{encode}
+use Rattle.image.specs.Bridge.{encoding-is-sound}
+use Rattle.image.specs.Outcomes.{lengthOk, tested, formatIn, formatOutcome, insertOutcome, removeOutcome}
+use Rattle.image.specs.Outcomes.{workOutcome, runStore}
+use Rattle.image.specs.OutcomeIndexLaws.{run-encode, run-wf}
+use Rattle.image.specs.OutcomeSoundLaws.{legal-size}
+use Rattle.interpreter.specs.Script.{formatTurn, runCommand}
+use Rattle.interpreter.specs.Feed.{scriptBlocks}
+use Rattle.interpreter.specs.Stores.{Made, ScriptStore, empty, bytes}
+
+-- ---- a job of two buckets comes from no call: only a begin makes one
+
+abbrev Begun : Index → Type 0
+Begun x = x .job ≢ idle → 2 ≤ x .maxBucket
+
+begun-same : {x y : Index} → SameJob x y → Begun x → Begun y
+begun-same f h n = omega (arith, h (λ e. n (f .job ∙ e)), f .frame .maxBucket)
+
+begun-step : (x y : Index) → Begun x → step x ≡ next y → 1 ≤ x .maxBucket → Begun y
+begun-step x y h e one n = go (x .job) refl
+  where
+    busy : x .job ≢ idle → 2 ≤ y .maxBucket
+    busy ne = omega (arith, h ne, job-frame x y ne e .maxBucket)
+
+    go : (j : Job) → x .job ≡ j → 2 ≤ y .maxBucket
+    go idle q = omega (arith, begin-frame x y q e .maxBucket)
+    go copying q = busy (λ r. never (cc))
+    go clearing q = busy (λ r. never (cc))
+
+made-step : (x y : Index) → Made x → step x ≡ next y → Made y
+made-step x y m e =
+    record { wf = step-wf x y (m .wf) e; begun = begun-step x y (m .begun) e (m .wf .laid .two) }
+
+-- format of the model, by its tests
+abbrev formatAs : (size fill : Bool) → Index → Result
+formatAs = Rattle.model.specs.Calls.formatIn
+
+begun-format : (x : Index) (fill : ℕ) (y : Index) → formatted x fill ≡ done y → Begun y
+unfolding formatted format
+begun-format x fill y e = go (sizeOk (x .size)) (fillOk fill) e
+  where
+    go : (a b : Bool) → formatAs a b (format (x .size) fill) ≡ done y → Begun y
+    go false b e = never (cc)
+    go true false e = never (cc)
+    go true true e =
+        let q : format (x .size) fill ≡ y = cc in λ n. absurd (n (ap (λ (z : Index). z .job) (sym q)))
+
+made-settled : (x : Index) (r : Result) → Begun x → ((y : Index) → r ≡ done y → Begun y) → Begun (settled x r .state)
+made-settled x (done y) h f = f y refl
+made-settled x (refused r) h f = h
+
+made-run : (c : Call) → CallFits c → (x : Index) → Made x → Made (runIndex c x .state)
+unfolding runIndex work
+made-run (formatting fill) f x m =
+    record {
+      wf = run-wf (formatting fill) f x (m .wf);
+      begun = made-settled x (formatted x fill) (m .begun) (λ y e. begun-format x fill y e);
+    }
+made-run (inserting p) f x m =
+    record {
+      wf = run-wf (inserting p) f x (m .wf);
+      begun = made-settled x (insert x p) (m .begun) (λ y e. begun-same (insert-frame x p y e) (m .begun));
+    }
+made-run (removing p) f x m =
+    record {
+      wf = run-wf (removing p) f x (m .wf);
+      begun = made-settled x (remove x p) (m .begun) (λ y e. begun-same (remove-frame x p y e) (m .begun));
+    }
+made-run (looking h out) f x m = m
+made-run (working budget) f x m = go (budgetOk budget)
+  where
+    go : (b : Bool) → Made (workedIn b x (work budget x) .state)
+    go true = iterate-keeps step Made made-step budget x m
+    go false = m
+made-run asking f x m = m
+
+-- ---- the stores of a script
+
+-- a call on such a store
+call-store : (c : Call) → CallFits c → (s : List ℕ) → ScriptStore s
+    → runStore c [] .state ≡ [] → ScriptStore (runStore c s .state)
+call-store c f [] empty e = subst ScriptStore (sym e) empty
+call-store c f s (bytes x m) e =
+    subst ScriptStore (sym (ap (λ (r : Ran (List ℕ)). r .state) (run-encode c x (m .wf))))
+    (bytes (runIndex c x .state) (made-run c f x m))
+
+-- an accepted f makes one, and a refused one leaves what stands
+format-store : (line n fill : ℕ) (z s : List ℕ) → ScriptStore s
+    → let c = formatOutcome z fill in ScriptStore (formatTurn line n fill (c .answer) s (c .store) .store)
+unfolding formatOutcome format
+format-store line n fill z s p = go (lengthOk z) refl (fillOk fill) refl
+  where
+    go : (l : Bool) → lengthOk z ≡ l → (f : Bool) → fillOk fill ≡ f
+        → let c = formatIn l f z (encode (format (blocks z) fill)) in
+        ScriptStore (formatTurn line n fill (c .answer) s (c .store) .store)
+    go false h f k = p
+    go true h false k = p
+    go true h true k =
+        bytes (format (blocks z) fill)
+        (record { wf = format-wf (blocks z) fill (legal-size z h) k; begun = λ n. absurd (n refl) })
+
+pub store-after : (c : Command) → CommandFits c → (line : ℕ) (s : List ℕ)
+    → ScriptStore s → ScriptStore (runCommand c line s .store)
+unfolding runCommand runStore insertOutcome removeOutcome workOutcome tested lengthOk blocks
+store-after (Command.Format n fill) f line s p = format-store line n fill (replicate (512 * n) 0) s p
+store-after (Command.Insert h b o) f line s p =
+    call-store (inserting (record { hash = h; block = b; offset = o })) f s p refl
+store-after (Command.Remove h b o) f line s p =
+    call-store (removing (record { hash = h; block = b; offset = o })) f s p refl
+store-after (Command.Lookup h) f line s p = p
+store-after (Command.Work budget) f line s p = call-store (working budget) f s p refl
+store-after Command.Unreadable f line s p = p
+
+-- whole blocks, and no more than a script's
+pub store-size : (s : List ℕ) → ScriptStore s → (length s ≡ 512 * blocks s) × (blocks s ≤ scriptBlocks)
+unfolding blocks
+store-size [] empty = (refl, omega arith)
+store-size s (bytes x m) =
+    let g = encoding-is-sound x (m .wf) in
+    let few = m .wf .laid .size in
+    (omega (arith, g .size), omega (arith, g .size, few))
