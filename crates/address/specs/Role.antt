@@ -36,3 +36,11 @@ roleOf sp s k =
     roleFrom (eqb k 0)
     (find (λ b. eqb (bucketBlock sp b) k) (upFrom 0 (bucketsAt s)))
     (find (λ n. eqb (bitBlock sp s n) k) (upFrom 0 (getD sp s 0)))
+
+module _ (sp : List ℕ) (s : ℕ) where
+  -- what it is for block k to have a role
+  abbrev pub RoleIs : ℕ → Role → Type 0
+  RoleIs k meta = k ≡ 0
+  RoleIs k (bucketPage b) = (b < bucketsAt s) × (bucketBlock sp b ≡ k)
+  RoleIs k (bitPage m) = (m < getD sp s 0) × (bitBlock sp s m ≡ k)
+  RoleIs k unmade = made sp s ≤ k

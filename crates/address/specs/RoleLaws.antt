@@ -14,17 +14,9 @@ use Rattle.lists.specs.Lists.{find, upFrom}
 use Rattle.lists.specs.ListsLaws.{eqb-yes}
 use Rattle.lists.specs.RunLaws.{find-run, find-only, find-nowhere}
 use Rattle.address.specs.Address.{bucketsAt, groupOf, bucketBlock, bitGroup, bitBlock, made}
-use Rattle.address.specs.Role.{SparesOk, Role, meta, bucketPage, bitPage, unmade, roleFrom, roleOf}
+use Rattle.address.specs.Role.{SparesOk, Role, meta, bucketPage, bitPage, unmade, roleFrom, roleOf, RoleIs}
 use Rattle.address.specs.OverLaws.{over-unique, buckets-grow, buckets-mono, buckets-zero}
 use Rattle.address.specs.BlockLaws.{spares-mono, BitAt, bit-at, group-is, bit-pos, bucket-pos, bit-apart, bit-bucket-apart, bucket-apart, bit-made, bucket-made}
-
-module _ (sp : List ℕ) (s : ℕ) where
-  -- what it is for block k to have a role
-  abbrev pub RoleIs : ℕ → Role → Type 0
-  RoleIs k meta = k ≡ 0
-  RoleIs k (bucketPage b) = (b < bucketsAt s) × (bucketBlock sp b ≡ k)
-  RoleIs k (bitPage m) = (m < getD sp s 0) × (bitBlock sp s m ≡ k)
-  RoleIs k unmade = made sp s ≤ k
 
 module _ (sp : List ℕ) (s n : ℕ) (ok : SparesOk sp s n) (pos : 1 ≤ s) where
   pub data Made (k : ℕ) : Type 0 where

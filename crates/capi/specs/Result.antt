@@ -1,4 +1,4 @@
--- What standing writes: 28 bytes, little-endian, and nothing when it is refused.
+-- What standing (docs/RULES.md 6.6) writes: 28 bytes, little-endian, and nothing when it is refused.
 use mathlib.Core.Bool.{Bool, true, false}
 use mathlib.Core.List.{List, _++_}
 use Prim.Native.Nat.{ℕ, suc, _-_, _/_, _%_, _^_}

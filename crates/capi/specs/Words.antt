@@ -1,5 +1,5 @@
--- The 64-bit word that each call answers: its parts, and the word of each answer. Document 01's numbers of the cases
--- are definitions of crate `model`.
+-- The 64-bit word that each call answers: its parts, and the word of each answer. The numbers of the cases
+-- (docs/RULES.md 2.1) are definitions of crate `model`.
 use Prim.Native.Nat.{ℕ, _+_, _*_}
 use Rattle.model.specs.declared.Refusal.{Refusal}
 use Rattle.model.specs.declared.Answer.{Answer}

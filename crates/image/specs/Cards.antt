@@ -1,4 +1,4 @@
--- Bench cards A to K of document 01: one table, one claim. The stores are lists of bytes, and the calls on them are
+-- Bench cards A to K (docs/RULES.md 9): one table, one claim. The stores are lists of bytes, and the calls on them are
 -- those that the contracts cite.
 use mathlib.Core.Path.{_≡_}
 use mathlib.Core.List.{List, [], _∷_, _++_, map}
@@ -30,19 +30,19 @@ module _ (M : Machine) where
   replies (c ∷ cs) s = M .run c s .reply ∷ replies cs (M .run c s .state)
 
 -- a hash code, with one reading's place for all
-abbrev pub place : ℕ → Pair
-place h = record { hash = h; block = 9; offset = 1 }
+abbrev pub pairOf : ℕ → Pair
+pairOf h = record { hash = h; block = 9; offset = 1 }
 
 -- k even hash codes from 0 on
 abbrev pub evens : ℕ → List Call
-evens k = map (λ (i : ℕ). inserting (place (2 * i))) (upFrom 0 k)
+evens k = map (λ (i : ℕ). inserting (pairOf (2 * i))) (upFrom 0 k)
 
 -- E's 41 inserts, of which the last is hash 80; F's removal of that; G's three inserts, of hashes 0, 2, 4
 abbrev pub filledE : List Call
 filledE = formatting 40 ∷ evens 41
 
 abbrev pub filledF : List Call
-filledF = filledE ++ removing (place 80) ∷ []
+filledF = filledE ++ removing (pairOf 80) ∷ []
 
 abbrev pub filledG : List Call
 filledG = formatting 1 ∷ evens 3
@@ -105,7 +105,7 @@ module _ (fresh : ℕ → List ℕ) where
       ∷ (nos 4 (formatting 10 ∷ []) is (0 ∷ []))
       ∷ (nos 3 (formatting 10 ∷ []) is (1 ∷ []))
       -- D. N = 4, fill 40: even hashes, 40 accepted, 41st gets 7; an odd one is accepted.
-      ∷ (nos 4 (formatting 40 ∷ evens 41 ++ inserting (place 1) ∷ []) is (0 ∷ replicate 40 0 ++ 7 ∷ 0 ∷ []))
+      ∷ (nos 4 (formatting 40 ∷ evens 41 ++ inserting (pairOf 1) ∷ []) is (0 ∷ replicate 40 0 ++ 7 ∷ 0 ∷ []))
       -- E. Same with N = 5: the 41st goes to block 4, spares[1] = 2.
       ∷ (nos 5 filledE is (0 ∷ replicate 41 0))
       ∷ (hashesOn (block (storeAfter 5 filledE) 4) is (80 ∷ []))
@@ -113,7 +113,7 @@ module _ (fresh : ℕ → List ℕ) where
       -- F. E, then the 41st's page emptied: bit 1 is 0, first free 1, block 4 is used next.
       ∷ (hashesOn (block (storeAfter 5 filledF) 4) is [])
       ∷ ((bitAt (storeAfter 5 filledF) 1 ∷ metaAt (storeAfter 5 filledF) .free ∷ []) is (0 ∷ 1 ∷ []))
-      ∷ (hashesOn (block (storeAfter 5 (filledF ++ inserting (place 82) ∷ [])) 4) is (82 ∷ []))
+      ∷ (hashesOn (block (storeAfter 5 (filledF ++ inserting (pairOf 82) ∷ [])) 4) is (82 ∷ []))
       -- G. N = 6, fill 1, hashes 0, 2, 4: slack −1, `w 9` gives 5 steps, stop 9.
       ∷ record { gives = slackIn (runStore asking (storeAfter 6 filledG) .reply); said = minusOne ∷ [] }
       ∷ (gets 6 filledG (working 9) is (0 ∷ 5 ∷ 9 ∷ []))
@@ -121,8 +121,8 @@ module _ (fresh : ℕ → List ℕ) where
       ∷ (gets 5 filledG (working 9) is (0 ∷ 0 ∷ 7 ∷ []))
       -- I. G with `w 2`: hash 2 found once; removed; `w 9` gives 2 steps, stop 9.
       ∷ (gets 6 (filledG ++ working 2 ∷ []) (looking 2 (replicate 60 0)) is (0 ∷ 1 ∷ []))
-      ∷ (gets 6 (filledG ++ working 2 ∷ []) (removing (place 2)) is (0 ∷ []))
-      ∷ (gets 6 (filledG ++ working 2 ∷ removing (place 2) ∷ []) (working 9) is (0 ∷ 2 ∷ 9 ∷ []))
+      ∷ (gets 6 (filledG ++ working 2 ∷ []) (removing (pairOf 2)) is (0 ∷ []))
+      ∷ (gets 6 (filledG ++ working 2 ∷ removing (pairOf 2) ∷ []) (working 9) is (0 ∷ 2 ∷ 9 ∷ []))
       -- J. No match, output of 0 bytes: done, 0.
       ∷ (gets 4 (formatting 1 ∷ []) (looking 7 []) is (0 ∷ 0 ∷ []))
       -- K. Budget 0: 0 steps, stop 0.

@@ -33,7 +33,7 @@ use Rattle.image.specs.EncodeLaws.{block-encode}
 use Rattle.image.specs.EncodePages.{meta-encode, point-encode, spares-encode}
 use Rattle.image.specs.SoundStore.{Encodes}
 use Rattle.image.specs.OutcomeMachineLaws.{simulates}
-use Rattle.image.specs.Cards.{after, replies, place, evens, shown, slackIn, hashesOn, Card, storeAfter}
+use Rattle.image.specs.Cards.{after, replies, pairOf, evens, shown, slackIn, hashesOn, Card, storeAfter}
 use Rattle.image.specs.Cards.{nos, cards, Bench}
 
 -- ---- a store and the index whose bytes it is
@@ -73,7 +73,7 @@ replies-encode (c ∷ cs) f s x r =
 evens-fit : (k : ℕ) → k < 1000 → (cs : List Call) → Each CallFits cs → Each CallFits (evens k ++ cs)
 evens-fit k h cs f = go 0 k (omega arith)
   where
-    go : (i k : ℕ) → i + k < 1000 → Each CallFits (map (λ (i : ℕ). inserting (place (2 * i))) (upFrom i k) ++ cs)
+    go : (i k : ℕ) → i + k < 1000 → Each CallFits (map (λ (i : ℕ). inserting (pairOf (2 * i))) (upFrom i k) ++ cs)
     go i zero h = f
     go i (suc k) h = ((omega arith, omega arith, omega arith), go (suc i) k (omega arith))
 
@@ -143,17 +143,17 @@ module _ (fresh : ℕ → List ℕ) (e : (n : ℕ) → length (fresh n) ≡ 512 
       encodeEntry encodePage readEntry entryAt entriesFrom entriesOf
   calls =
       let E = store-is 5 40 refl refl 41 (omega arith) [] tt in
-      let F = store-is 5 40 refl refl 41 (omega arith) (removing (place 80) ∷ []) (omega arith) in
+      let F = store-is 5 40 refl refl 41 (omega arith) (removing (pairOf 80) ∷ []) (omega arith) in
       let F₂ =
-      store-is 5 40 refl refl 41 (omega arith) (removing (place 80) ∷ inserting (place 82) ∷ []) (omega arith) in
+      store-is 5 40 refl refl 41 (omega arith) (removing (pairOf 80) ∷ inserting (pairOf 82) ∷ []) (omega arith) in
       let G = reply-is 6 1 refl refl 3 (omega arith) [] tt in
       let H = reply-is 5 1 refl refl 3 (omega arith) [] tt in
       let I = reply-is 6 1 refl refl 3 (omega arith) (working 2 ∷ []) (omega arith) in
-      let I₂ = reply-is 6 1 refl refl 3 (omega arith) (working 2 ∷ removing (place 2) ∷ []) (omega arith) in
+      let I₂ = reply-is 6 1 refl refl 3 (omega arith) (working 2 ∷ removing (pairOf 2) ∷ []) (omega arith) in
       let J = reply-is 4 1 refl refl 0 (omega arith) [] tt in
       ap (map pos) (nos-are 4 10 refl refl 0 (omega arith) [] tt)
       also ap (map pos) refused-C
-      also ap (map pos) (nos-are 4 40 refl refl 41 (omega arith) (inserting (place 1) ∷ []) (omega arith))
+      also ap (map pos) (nos-are 4 40 refl refl 41 (omega arith) (inserting (pairOf 1) ∷ []) (omega arith))
       also ap (map pos) (nos-are 5 40 refl refl 41 (omega arith) [] tt)
       also ap page (block-is E 4 (omega arith))
       also ap (λ (m : Meta). pos (getD (m .spares) 1 0) ∷ []) (meta-is E)
@@ -164,7 +164,7 @@ module _ (fresh : ℕ → List ℕ) (e : (n : ℕ) → length (fresh n) ≡ 512 
       also ap reply (G (working 9) (omega arith))
       also ap reply (H (working 9) (omega arith))
       also ap reply (I (looking 2 (replicate 60 0)) (omega arith))
-      also ap reply (I (removing (place 2)) (omega arith))
+      also ap reply (I (removing (pairOf 2)) (omega arith))
       also ap reply (I₂ (working 9) (omega arith))
       also ap reply (J (looking 7 []) (omega arith))
       also ap reply (J (working 0) (omega arith))

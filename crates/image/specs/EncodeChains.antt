@@ -14,8 +14,8 @@ use Rattle.lists.specs.RunLaws.{all-put}
 use Rattle.lists.specs.Block.{blocks, block}
 use Rattle.endian.specs.Endian.{u16At}
 use Rattle.address.specs.Address.{point, bucketBlock, bitBlock}
-use Rattle.address.specs.Role.{Role, meta, bucketPage, bitPage, unmade, roleOf}
-use Rattle.address.specs.RoleLaws.{RoleIs, role-is}
+use Rattle.address.specs.Role.{Role, meta, bucketPage, bitPage, unmade, roleOf, RoleIs}
+use Rattle.address.specs.RoleLaws.{role-is}
 use Rattle.address.specs.BlockLaws.{point-pos}
 use Rattle.page.specs.Rule.{pageOk}
 use Rattle.store.specs.Store.{prevAt, nextAt, bucketAt, flagsAt}

@@ -13,8 +13,8 @@ use Rattle.lists.specs.ListsLaws.{and-both, each-find, find-no, find-yes}
 use Rattle.lists.specs.RunLaws.{all-put}
 use Rattle.lists.specs.Block.{blocks, block}
 use Rattle.address.specs.Address.{splitFrom, point, bucketBlock, bitBlock}
-use Rattle.address.specs.Role.{Role, meta, bucketPage, bitPage, unmade, roleOf}
-use Rattle.address.specs.RoleLaws.{RoleIs, role-is}
+use Rattle.address.specs.Role.{Role, meta, bucketPage, bitPage, unmade, roleOf, RoleIs}
+use Rattle.address.specs.RoleLaws.{role-is}
 use Rattle.address.specs.BlockLaws.{point-pos}
 use Rattle.address.specs.MaskLaws.{split-lt}
 use Rattle.store.specs.Store.{prevAt, nextAt, bucketAt, flagsAt, idAt}

@@ -13,14 +13,14 @@ use lib.Seq.{getD-append-seam}
 use Rattle.lists.specs.Lists.{b2n, tally, find, bind, Each}
 use Rattle.lists.specs.ListsLaws.{eqb-yes, eqb-no, tally-append}
 use Rattle.address.specs.Address.{bucketsAt, splitFrom, lastSplit, point, groupOf, bucketBlock, bitBlock}
-use Rattle.address.specs.Role.{SparesOk, Role, meta, bucketPage, bitPage, unmade, roleOf}
+use Rattle.address.specs.Role.{SparesOk, Role, meta, bucketPage, bitPage, unmade, roleOf, RoleIs}
 use mathlib.Core.Option.{some}
 use Rattle.address.specs.OverLaws.{buckets-mono}
 use Rattle.address.specs.MaskLaws.{split-lt}
 use Rattle.address.specs.BlockLaws.{point-is, point-pos}
 use Rattle.address.specs.GroupLaws.{group-le}
 use Rattle.address.specs.SparesLaws.{point-next, bucket-append, bit-append}
-use Rattle.address.specs.RoleLaws.{RoleIs, role-is, role-only}
+use Rattle.address.specs.RoleLaws.{role-is, role-only}
 use Rattle.page.specs.Entries.{encodePage}
 use Rattle.model.specs.Index.{Page, Chain, Job, idle, copying, Index, noChain, chain, topBit}
 use Rattle.model.specs.Pages.{bitsOf}

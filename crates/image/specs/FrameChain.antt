@@ -13,9 +13,9 @@ use lib.ListN.{length, getD, set}
 use Rattle.lists.specs.Lists.{b2n, any, tally, find}
 use Rattle.lists.specs.ListsLaws.{eqb-no, and-left, and-right, and-both, not-yes, any-no, zero-any}
 use Rattle.address.specs.Address.{lastSplit, point, bucketBlock}
-use Rattle.address.specs.Role.{Role, meta, bucketPage, bitPage, unmade, roleOf}
+use Rattle.address.specs.Role.{Role, meta, bucketPage, bitPage, unmade, roleOf, RoleIs}
 use Rattle.address.specs.BlockLaws.{point-pos}
-use Rattle.address.specs.RoleLaws.{RoleIs, role-is}
+use Rattle.address.specs.RoleLaws.{role-is}
 use Rattle.page.specs.declared.Entry.{Entry}
 use Rattle.page.specs.Entries.{encodePage}
 use Rattle.model.specs.Index.{Page, Chain, Index, noChain, chain, topBit, setChain}

@@ -13,10 +13,10 @@ use lib.Seq.{getD-set-same, getD-set-other}
 use Rattle.lists.specs.Lists.{b2n, find}
 use Rattle.lists.specs.ListsLaws.{eqb-yes, eqb-no}
 use Rattle.address.specs.Address.{bucketsAt, lastSplit, point, bucketBlock, bitBlock, bitGroup, made}
-use Rattle.address.specs.Role.{SparesOk, Role, meta, bucketPage, bitPage, unmade, roleOf}
+use Rattle.address.specs.Role.{SparesOk, Role, meta, bucketPage, bitPage, unmade, roleOf, RoleIs}
 use Rattle.address.specs.BlockLaws.{point-pos, spares-mono, BitAt, bit-at}
 use Rattle.address.specs.SparesLaws.{spares-more, bucket-spares, bit-spares}
-use Rattle.address.specs.RoleLaws.{RoleIs, role-is, role-only}
+use Rattle.address.specs.RoleLaws.{role-is, role-only}
 use Rattle.page.specs.declared.Entry.{Entry}
 use Rattle.page.specs.Entries.{encodePage}
 use Rattle.model.specs.Index.{Page, Chain, Index, chain, topBit, setChain}

@@ -11,10 +11,10 @@ use lib.ListN.{length, getD}
 use Rattle.lists.specs.Lists.{b2n, tally, find, bind}
 use Rattle.lists.specs.ListsLaws.{eqb-yes, tally-append}
 use Rattle.address.specs.Address.{bucketsAt, lastSplit, point, bucketBlock, made}
-use Rattle.address.specs.Role.{Role, meta, bucketPage, bitPage, unmade}
+use Rattle.address.specs.Role.{Role, meta, bucketPage, bitPage, unmade, RoleIs}
 use Rattle.address.specs.BlockLaws.{point-pos}
 use Rattle.address.specs.SparesLaws.{top-pos}
-use Rattle.address.specs.RoleLaws.{RoleIs, role-only}
+use Rattle.address.specs.RoleLaws.{role-only}
 use Rattle.page.specs.Entries.{encodePage}
 use Rattle.model.specs.Index.{Page, Chain, Index, noChain, chain, topBit}
 use Rattle.model.specs.Pages.{bitsOf}

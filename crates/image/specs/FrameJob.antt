@@ -8,9 +8,9 @@ use native.Mathlib.Omega.{arith}
 use lib.Dec.{leb}
 use Rattle.lists.specs.ListsLaws.{eqb-yes, eqb-no}
 use Rattle.address.specs.Address.{lastSplit, point, bucketBlock}
-use Rattle.address.specs.Role.{Role, meta, bucketPage, bitPage, unmade, roleOf}
+use Rattle.address.specs.Role.{Role, meta, bucketPage, bitPage, unmade, roleOf, RoleIs}
 use Rattle.address.specs.BlockLaws.{point-pos}
-use Rattle.address.specs.RoleLaws.{RoleIs, role-is}
+use Rattle.address.specs.RoleLaws.{role-is}
 use Rattle.page.specs.Entries.{encodePage}
 use Rattle.model.specs.Index.{Job, idle, copying, clearing, Index, chain, newBucket, oldBucket, setJob}
 use Rattle.model.specs.WellFormed.{Laid}

@@ -55,7 +55,8 @@ abbrev pub unlinked : (flags : ℕ) → List ℕ → Bool
 unlinked flags l =
     eqb (flagsAt l) flags && (eqb (idAt l) 0xFF80 && (eqb (prevAt l) noLink && (eqb (nextAt l) noLink && eqb (bucketAt l) noLink)))
 
--- "job flags stand only on max bucket (populated) and the bucket that it split off from (split .. or cleanup)"
+-- "job flags stand only on max bucket (populated) and the bucket that it split off from (split ..
+-- or cleanup alone)"
 abbrev pub bucketFlagsOk : (max b flags : ℕ) → Bool
 bucketFlagsOk max b f =
     eqb f 2 || ((eqb b max && eqb f 18) || (eqb b (splitFrom max) && (eqb f 34 || eqb f 66)))

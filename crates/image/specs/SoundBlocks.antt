@@ -14,8 +14,8 @@ use Rattle.lists.specs.Bytes.{Bytes}
 use Rattle.lists.specs.Block.{blocks, block}
 use Rattle.lists.specs.BlockLaws.{length-block, Bytes-block}
 use Rattle.address.specs.Address.{bucketsAt, splitFrom, bitBlock, made}
-use Rattle.address.specs.Role.{Role, meta, bucketPage, bitPage, unmade}
-use Rattle.address.specs.RoleLaws.{RoleIs, role-is, role-bucket}
+use Rattle.address.specs.Role.{Role, meta, bucketPage, bitPage, unmade, RoleIs}
+use Rattle.address.specs.RoleLaws.{role-is, role-bucket}
 use Rattle.address.specs.BlockLaws.{point-pos, point-is, bit-made, bucket-made}
 use Rattle.address.specs.MaskLaws.{split-lt}
 use Rattle.page.specs.PairLaws.{no-way}

@@ -13,8 +13,7 @@ use Rattle.lists.specs.ListsLaws.{and-left, and-right, each-find, find-no, find
 use Rattle.lists.specs.RunLaws.{all-get}
 use Rattle.lists.specs.Block.{blocks, block}
 use Rattle.address.specs.Address.{lastSplit, point, bitBlock}
-use Rattle.address.specs.Role.{Role, meta, bucketPage, bitPage, unmade}
-use Rattle.address.specs.RoleLaws.{RoleIs}
+use Rattle.address.specs.Role.{Role, meta, bucketPage, bitPage, unmade, RoleIs}
 use Rattle.page.specs.Entries.{encodePage}
 use Rattle.store.specs.Store.{prevAt, nextAt, bucketAt, flagsAt, idAt}
 use Rattle.model.specs.Index.{Chain, Index, chain}

@@ -44,7 +44,7 @@ scriptBlocks = 128
 abbrev pub storeBytes : ℕ
 storeBytes = 512 * scriptBlocks
 
--- a state that a script can have, and slices that are long enough
+-- a state within its bounds, and slices that are long enough
 abbrev pub ready : ScriptState → (store output : List ℕ) → Bool
 ready c store out =
     leb (c .seen) tooMany

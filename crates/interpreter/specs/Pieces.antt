@@ -2,7 +2,7 @@
 -- bytes or more; each feed is lent as many bytes of the script as its caller likes, and each call an output of 85,006
 -- bytes or more. Then what the calls write, one after the other, is what document 01 says that a script of the bytes
 -- that they used writes: however it is cut. The script has fewer than 2^64 bytes, so no line's number wraps.
--- That the functions give these outcomes is their contracts.
+-- That the functions give these outcomes is their contracts; by them a feed that is lent any bytes uses at least one.
 use mathlib.Core.Path.{_≡_, _∙_}
 use mathlib.Core.List.{List, []}
 use Prim.Native.Nat.{ℕ, _^_, _≤_, _<_}

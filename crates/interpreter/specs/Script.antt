@@ -1,4 +1,4 @@
--- Document 01, "The script": from the bytes of a script to the bytes that it writes.
+-- docs/RULES.md 8, "The script": from the bytes of a script to the bytes that it writes.
 use mathlib.Core.List.{List, [], _∷_, _++_}
 use Prim.Native.Nat.{ℕ, _+_, _*_}
 use lib.ListN.{replicate}

@@ -1,4 +1,4 @@
--- Document 01, "The script": the parts of a list of bytes between separators, and a word read as a number.
+-- docs/RULES.md 8.2: the parts of a list of bytes between separators, and a word read as a number.
 use mathlib.Core.Bool.{Bool, true, false, _&&_}
 use mathlib.Core.List.{List, [], _∷_, _++_}
 use Prim.Native.Nat.{ℕ, suc, _+_, _-_, _*_}

@@ -1,4 +1,5 @@
--- The moments of a list of calls on a machine: at the start, after each single step of a work call, after each call.
+-- The moments of a list of calls on a machine (docs/RULES.md 7.3): at the start, after each single step of a work call,
+-- after each call.
 use mathlib.Core.Path.{_≡_}
 use mathlib.Core.Bool.{Bool, true, false}
 use mathlib.Core.List.{List, [], _∷_, _++_}

@@ -1,4 +1,4 @@
--- No room: exactly when neither the chain nor the overflow bits nor the blocks past the made ones have any.
+-- No room (docs/RULES.md 6.3): exactly when neither the chain nor the overflow bits nor the blocks past the made ones have any.
 use mathlib.Core.Path.{_≡_, refl, sym, ap, subst}
 use mathlib.Core.Logic.{_↔_}
 use mathlib.Core.Bool.{Bool, true, false, not, _||_}

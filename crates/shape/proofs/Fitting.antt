@@ -10,12 +10,11 @@ use lib.Dec.{leb, eqb}
 use lib.ListN.{length}
 use Rattle.lists.specs.Block.{blocks, block}
 use Rattle.address.specs.Address.{splitFrom}
-use Rattle.address.specs.Role.{Role, meta, bucketPage, bitPage, unmade, roleOf}
+use Rattle.address.specs.Role.{Role, meta, bucketPage, bitPage, unmade, roleOf, RoleIs}
 use Rattle.address.specs.declared.BlockRole.{BlockRole}
 use Rattle.address.specs.BlockRole.{roleCase}
 use Rattle.store.specs.Store.{bucketAt, flagsAt, idAt}
 use Rattle.image.specs.declared.Meta.{Meta}
-use Rattle.address.specs.RoleLaws.{RoleIs}
 use Rattle.model.specs.declared.Phase.{Phase}
 use Rattle.image.specs.Decode.{maxAt, pointAt, sparesAt, roleAt, blockOf, newFlags, oldFlags, decode}
 use Rattle.image.specs.Rules.{unused, unlinked, bucketFlagsOk, fits, overflowAs, isOverflow}

@@ -13,8 +13,8 @@ use Rattle.lists.specs.ListsLaws.{and-left, and-right, each-append}
 use Rattle.lists.specs.RunLaws.{all-get}
 use Rattle.lists.specs.Block.{blocks, block}
 use Rattle.endian.specs.Endian.{u16At}
-use Rattle.address.specs.Role.{Role, meta, bucketPage, bitPage, unmade}
-use Rattle.address.specs.RoleLaws.{RoleIs, role-bucket}
+use Rattle.address.specs.Role.{Role, meta, bucketPage, bitPage, unmade, RoleIs}
+use Rattle.address.specs.RoleLaws.{role-bucket}
 use Rattle.address.specs.BlockLaws.{point-pos}
 use Rattle.page.specs.PairLaws.{no-way}
 use Rattle.store.specs.Store.{prevAt, nextAt, bucketAt}

@@ -7,9 +7,8 @@ use lib.ListN.{length, getD, take}
 use Rattle.lists.specs.Block.{blocks, block}
 use Rattle.lists.specs.BlockLaws.{length-block}
 use Rattle.address.specs.Address.{bucketsAt, point, bucketBlock, bitBlock, made}
-use Rattle.address.specs.Role.{SparesOk, roleOf}
+use Rattle.address.specs.Role.{SparesOk, roleOf, RoleIs}
 use Rattle.address.specs.BlockLaws.{point-pos}
-use Rattle.address.specs.RoleLaws.{RoleIs}
 use Rattle.address.specs.SparesLaws.{top-pos}
 use Rattle.address.specs.AgreeLaws.{bucket-same, bit-same, role-same, spares-front}
 use Rattle.model.specs.Calls.{maxBlocks}

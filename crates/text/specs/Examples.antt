@@ -1,4 +1,4 @@
--- The lines of document 01's whole case, to the byte.
+-- The lines of the whole case (docs/RULES.md 8.7), to the byte.
 use mathlib.Core.Path.{_≡_, refl}
 use mathlib.Core.List.{List, [], _∷_, _++_}
 use Prim.Native.Nat.{ℕ}

@@ -1,4 +1,4 @@
--- Document 01, "The script": the lines of output, each with its LF.
+-- docs/RULES.md 8.5 and 8.7: the lines of output, each with its LF.
 use mathlib.Core.Path.{_≡_}
 use mathlib.Core.List.{List, [], _∷_, _++_}
 use Prim.Native.Nat.{ℕ, _+_, _*_, _≤_}

@@ -6,9 +6,8 @@ use native.Mathlib.Omega.{arith}
 use lib.Dec.{eqb}
 use lib.ListN.{length}
 use Rattle.lists.specs.Block.{blocks, block}
-use Rattle.address.specs.Role.{bitPage}
+use Rattle.address.specs.Role.{bitPage, RoleIs}
 use Rattle.address.specs.declared.BlockRole.the-variants.{Bit}
-use Rattle.address.specs.RoleLaws.{RoleIs}
 use Rattle.store.specs.Store.{flagsAt}
 use Rattle.image.specs.Decode.{pointAt, sparesAt}
 use Rattle.image.specs.Rules.{overflowAs}
