@@ -6,11 +6,11 @@ use native.Mathlib.Omega.{arith}
 use native.Mathlib.Decide.{decLt}
 use lib.ListN.{getD, take}
 use Rattle.address.specs.Address.{bucketsAt, bucketBlock, bitGroup, made}
-use Rattle.address.specs.Role.{SparesOk, Role, bucketPage, bitPage, unmade, roleOf}
+use Rattle.address.specs.Role.{SparesOk, Role, bucketPage, bitPage, unmade, roleOf, RoleIs}
 use Rattle.address.specs.OverLaws.{buckets-mono, buckets-zero}
 use Rattle.address.specs.BlockLaws.{spares-mono, BitAt, bit-at, bucket-at}
 use Rattle.address.specs.GroupLaws.{group-only}
-use Rattle.address.specs.RoleLaws.{RoleIs, role-only}
+use Rattle.address.specs.RoleLaws.{role-only}
 use Rattle.address.specs.AgreeLaws.{role-same, spares-front, spares-point}
 
 -- the spares up to the overflow point

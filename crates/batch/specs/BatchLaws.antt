@@ -1,7 +1,6 @@
 -- A list of calls splits anywhere: the rest goes on from what its first calls leave, and its moments likewise. The
 -- store of a moment is the one that the calls before it leave, and each word stays as its call left it.
 use mathlib.Core.Path.{_≡_, refl, sym, ap, _∙_}
-use mathlib.Core.Bool.{Bool, true, false}
 use mathlib.Core.List.{List, [], _∷_, _++_, append-assoc}
 use mathlib.Core.Option.{Option, none, some}
 use Prim.Native.Nat.{ℕ, zero, suc, _+_, _*_, _≤_, _<_}
@@ -11,7 +10,8 @@ use lib.Seq.{getD-set-same, getD-set-other}
 use Rattle.lists.specs.Lists.{Each}
 use Rattle.model.specs.Machine.{Call, CallFits, accepted}
 use Rattle.model.specs.Book.{effect}
-use Rattle.model.specs.History.{Moment, marked, within, after, history, lastOf}
+use Rattle.model.specs.History.{Moment, within, after, history, lastOf}
+use Rattle.model.specs.HistoryLaws.{last-append, after-state}
 use Rattle.image.specs.Outcomes.{runStore, onStore}
 use Rattle.batch.specs.Batch.{wordOf, storeAfter, Small, callAt, Kept, ranAt, runs, also, callsIn}
 use Rattle.batch.specs.Batch.{momentsIn, momentAfter}
@@ -68,11 +68,6 @@ module _ (ws : List ℕ) where
 
 -- ---- the moments split
 
-last-append : (t : Moment onStore) (us : List (Moment onStore)) (v : Moment onStore) (vs : List (Moment onStore))
-    → lastOf onStore t (us ++ v ∷ vs) ≡ lastOf onStore v vs
-last-append t [] v vs = refl
-last-append t (u ∷ us) v vs = last-append u us v vs
-
 history-append : (cs ds : List Call) (t : Moment onStore)
     → history onStore (cs ++ ds) t
     ≡ history onStore cs t ++ history onStore ds (lastOf onStore t (history onStore cs t))
@@ -83,7 +78,7 @@ history-append (c ∷ cs) ds t =
     ap (λ (vs : List (Moment onStore)). us ++ u ∷ vs) (history-append cs ds u)
     ∙ sym (append-assoc us (u ∷ history onStore cs u) _)
     ∙ ap (λ (v : Moment onStore). (us ++ u ∷ history onStore cs u) ++ history onStore ds v)
-    (sym (last-append t us u (history onStore cs u)))
+    (sym (last-append onStore t us u (history onStore cs u)))
 
 pub moments-split : (ws : List ℕ) (m n i : ℕ) (k : Kept) (t : Moment onStore)
     → momentsIn ws (m + n) i k t
@@ -99,16 +94,6 @@ last-each P t [] h = h .0
 last-each P t (u ∷ us) h = last-each P u us (h .1)
 
 -- ---- the stores of the moments
-
--- the state after a call
-after-state : (c : Call) (t : Moment onStore) → after onStore c t .state ≡ runStore c (t .state) .state
-after-state c t =
-    let a : Bool = accepted (runStore c (t .state) .reply) in
-    go a (lastOf onStore t (within onStore a (effect c) t)) (runStore c (t .state) .state)
-  where
-    go : (a : Bool) (u : Moment onStore) (s : List ℕ) → marked onStore a (effect c) u s .state ≡ s
-    go true u s = refl
-    go false u s = refl
 
 ran-store : (ws : List ℕ) (i : ℕ) (k : Kept) → storeAfter (callAt ws i (k .output)) (k .store) ≡ ranAt ws i k .store
 unfolding ranAt
@@ -128,8 +113,9 @@ moment-store ws (suc n) i k t e =
     go none f ih = ih t (e ∙ f)
     go (some c) f ih =
         ap (λ (u : Moment onStore). u .state)
-        (last-append t (within onStore (accepted (runStore c (t .state) .reply)) (effect c) t) (after onStore c t) _)
-        ∙ ih (after onStore c t) (after-state c t ∙ ap (λ (s : List ℕ). runStore c s .state) e ∙ f)
+        (last-append onStore t (within onStore (accepted (runStore c (t .state) .reply)) (effect c) t)
+        (after onStore c t) _)
+        ∙ ih (after onStore c t) (after-state onStore c t ∙ ap (λ (s : List ℕ). runStore c s .state) e ∙ f)
 
 -- ---- the words
 

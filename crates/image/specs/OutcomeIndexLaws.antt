@@ -31,7 +31,7 @@ use Rattle.image.specs.Outcomes.{lengthOk, Tested, passed, failed, teste
 use Rattle.image.specs.Outcomes.{changed, insertOn, insertOutcome, removeOn, removeOutcome, lookupOn}
 use Rattle.image.specs.Outcomes.{lookupOutcome, standingOn, standingOutcome, stepOn, stepOutcome, WorkDone}
 use Rattle.image.specs.Outcomes.{workOn, workOutcome, runStore}
-pub use Rattle.image.specs.SoundStore.{Encodes}
+use Rattle.image.specs.SoundStore.{Encodes}
 use Rattle.image.specs.Bridge.{encoding-is-sound}
 use Rattle.image.specs.OutcomeLaws.{tested-number, tested-verdict}
 

@@ -1,7 +1,7 @@
 // The steps of a split, planned: its begin, one entry copied or cleared, and the ends of copying and clearing.
-pub mod search; // search.rt: the entry that a step moves
-pub mod job; // job.rt: the ends of copying and clearing
-pub mod begin; // begin.rt: the begin of a split
+mod search; // search.rt: the entry that a step moves
+mod job; // job.rt: the ends of copying and clearing
+mod begin; // begin.rt: the begin of a split
 pub mod step; // step.rt: one step
 
 use page::Entry;

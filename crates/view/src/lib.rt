@@ -2,8 +2,8 @@
 pub mod chains; // chains.rt: the chain of a bucket
 pub mod job; // job.rt: the pending job, standing
 pub mod held; // held.rt: the held entry of a pair
-pub mod matches; // matches.rt: the next match after a place
-pub mod counting; // counting.rt: the number of matches
+mod matches; // matches.rt: the next match after a place
+mod counting; // counting.rt: the number of matches
 pub mod lookup; // lookup.rt: the matches written out
 
 use page::Pair;
