@@ -1,5 +1,5 @@
--- The book of demand 3 (docs/RULES.md 7): "The book is a set of pairs. It is fed each call's arguments and whether the call was accepted
--- (gave 0), and nothing from the store." With it, what else the calls tell of a split.
+-- The book of demand 3 (docs/RULES.md 7): "The book is a set of pairs. It is fed each call's arguments and whether the
+-- call was accepted (gave 0), and nothing from the store." With it, what else the calls tell of a split.
 use mathlib.Core.Bool.{Bool, false, cond, not}
 use mathlib.Core.List.{List, []}
 use Prim.Native.Nat.{ℕ, suc}
