@@ -1,4 +1,4 @@
-/* Amiqsovik's hash index: the calls for C, in target/staticlib/libcapi.a (`rt staticlib capi`), for x86-64 Linux.
+/* Amiqsovik's hash index: the calls for C, in target/staticlib/libamiqsovik.a (`rt staticlib amiqsovik`), for x86-64 Linux.
  *
  * An index is a store: one byte array of N blocks of 512 bytes, N from 4 to 128, that the caller owns. It holds
  * pairs of a 32-bit hash code and a reading's place: a block number (32 bits) and an offset (16 bits). A pair is
@@ -17,7 +17,7 @@
  * - A refused call writes nothing: the store, the output and the result stay as they were.
  *
  * Each call's answer and the bytes afterwards are proved equal to what a definition gives, for all inputs:
- * crates/capi/src/lib.rt. That this header fits those functions is not proved.
+ * crates/amiqsovik/src/lib.rt. That this header fits those functions is not proved.
  */
 #ifndef AMIQSOVIK_H
 #define AMIQSOVIK_H

@@ -1,9 +1,9 @@
 /* A store on the stack: format it, put readings in, split buckets, look readings up.
  *
- * Make the archive first, at the top of the repository:   rt staticlib capi
+ * Make the archive first, at the top of the repository:   rt staticlib amiqsovik
  * Then, in this folder:
  *
- *     gcc -std=c99 -Wall -Wextra -O2 readings.c ../../target/staticlib/libcapi.a -o readings && ./readings
+ *     gcc -std=c99 -Wall -Wextra -O2 readings.c ../../target/staticlib/libamiqsovik.a -o readings && ./readings
  */
 #include <inttypes.h>
 #include <stdio.h>

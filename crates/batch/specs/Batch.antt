@@ -9,9 +9,9 @@ use lib.ListN.{length, getD, set, take, drop}
 use Rattle.model.specs.Machine.{Call, formatting, inserting, removing, looking, working, asking, Reply, plain, looked}
 use Rattle.model.specs.Machine.{worked, stands}
 use Rattle.model.specs.History.{Moment, history, lastOf}
-use Rattle.image.specs.Outcomes.{runStore, onStore}
-use Rattle.capi.specs.Words.{answerWord, lookupWord, workWord, standingWord, shortWord}
-use Rattle.capi.specs.Result.{shown}
+use Rattle.outcomes.specs.Outcomes.{runStore, onStore}
+use Rattle.amiqsovik.specs.Words.{answerWord, lookupWord, workWord, standingWord, shortWord}
+use Rattle.amiqsovik.specs.Result.{shown}
 
 -- ---- one call
 
@@ -59,7 +59,7 @@ outputAfter none n s out = out
 outputAfter (some c) n s out = replyOutput (runStore c s .reply) n out
 
 -- a call was run: w is its word, s′ and out′ what it left
-pub record Ran (c : Option Call) (lent : ℕ) (s out : List ℕ) (w : ℕ) (s′ out′ : List ℕ) : Type 0 where
+pub record Batched (c : Option Call) (lent : ℕ) (s out : List ℕ) (w : ℕ) (s′ out′ : List ℕ) : Type 0 where
   pub word : w ≡ wordOf c s
   pub store : s′ ≡ storeAfter c s
   pub output : out′ ≡ outputAfter c lent s out

@@ -12,7 +12,7 @@ use Rattle.model.specs.Machine.{Call, CallFits, accepted}
 use Rattle.model.specs.Book.{effect}
 use Rattle.model.specs.History.{Moment, within, after, history, lastOf}
 use Rattle.model.specs.HistoryLaws.{last-append, after-state}
-use Rattle.image.specs.Outcomes.{runStore, onStore}
+use Rattle.outcomes.specs.Outcomes.{runStore, onStore}
 use Rattle.batch.specs.Batch.{wordOf, storeAfter, Small, callAt, Kept, ranAt, runs, also, callsIn}
 use Rattle.batch.specs.Batch.{momentsIn, momentAfter}
 use Rattle.batch.specs.CallLaws.{MayFit, fits-call}

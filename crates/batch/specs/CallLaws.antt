@@ -12,11 +12,11 @@ use lib.ListN.{length, take, drop, take-append-drop, drop-of-length-le}
 use lib.Seq.{length-take-le, take-all, take-length, drop-length}
 use Rattle.page.specs.declared.Pair.{Pair}
 use Rattle.model.specs.Machine.{Call, formatting, inserting, removing, looking, working, CallFits}
-use Rattle.image.specs.Outcomes.{formatOutcome, insertOutcome, removeOutcome, lookupOutcome, standingOutcome}
-use Rattle.image.specs.Outcomes.{workOutcome, runStore}
-use Rattle.capi.specs.Words.{answerWord, lookupWord, workWord}
-use Rattle.capi.specs.Result.{toldIn, standingTold}
-use Rattle.batch.specs.Batch.{askingIn, callOf, Ran}
+use Rattle.outcomes.specs.Outcomes.{formatOutcome, insertOutcome, removeOutcome, lookupOutcome, standingOutcome}
+use Rattle.outcomes.specs.Outcomes.{workOutcome, runStore}
+use Rattle.amiqsovik.specs.Words.{answerWord, lookupWord, workWord}
+use Rattle.amiqsovik.specs.Result.{toldIn, standingTold}
+use Rattle.batch.specs.Batch.{askingIn, callOf, Batched}
 
 -- ---- the numbers fit
 
@@ -68,12 +68,12 @@ module _ (s : List ℕ) (kind a b c : ℕ) (out : List ℕ) where
   pair = record { hash = a; block = b; offset = c }
 
   -- where the call is d
-  of : (d : Option Call) → callOf kind a b c out ≡ d → {w : ℕ} {s′ out′ : List ℕ} → Ran d b s out w s′ out′
-      → Ran (callOf kind a b c out) b s out w s′ out′
-  of d e {w} {s′} {out′} r = subst (λ (d : Option Call). Ran d b s out w s′ out′) (sym e) r
+  of : (d : Option Call) → callOf kind a b c out ≡ d → {w : ℕ} {s′ out′ : List ℕ} → Batched d b s out w s′ out′
+      → Batched (callOf kind a b c out) b s out w s′ out′
+  of d e {w} {s′} {out′} r = subst (λ (d : Option Call). Batched d b s out w s′ out′) (sym e) r
 
   pub ran-format : {w : ℕ} {s′ : List ℕ} → kind ≡ 0 → w ≡ answerWord (formatOutcome s a .answer)
-      → s′ ≡ formatOutcome s a .store → Ran (callOf kind a b c out) b s out w s′ out
+      → s′ ≡ formatOutcome s a .store → Batched (callOf kind a b c out) b s out w s′ out
   unfolding callOf runStore
   ran-format k e f =
       of (some (formatting a)) (ap (λ (n : ℕ). callOf n a b c out) k) (record { word = e; store = f; output = refl })
@@ -81,7 +81,7 @@ module _ (s : List ℕ) (kind a b c : ℕ) (out : List ℕ) where
   pub ran-insert : {w : ℕ} {s′ : List ℕ} → kind ≡ 1
       → w ≡ answerWord (insertOutcome s (record { hash = a; block = b; offset = c }) .answer)
       → s′ ≡ insertOutcome s (record { hash = a; block = b; offset = c }) .store
-      → Ran (callOf kind a b c out) b s out w s′ out
+      → Batched (callOf kind a b c out) b s out w s′ out
   unfolding callOf runStore
   ran-insert k e f =
       of (some (inserting pair)) (ap (λ (n : ℕ). callOf n a b c out) k) (record { word = e; store = f; output = refl })
@@ -89,27 +89,27 @@ module _ (s : List ℕ) (kind a b c : ℕ) (out : List ℕ) where
   pub ran-remove : {w : ℕ} {s′ : List ℕ} → kind ≡ 2
       → w ≡ answerWord (removeOutcome s (record { hash = a; block = b; offset = c }) .answer)
       → s′ ≡ removeOutcome s (record { hash = a; block = b; offset = c }) .store
-      → Ran (callOf kind a b c out) b s out w s′ out
+      → Batched (callOf kind a b c out) b s out w s′ out
   unfolding callOf runStore
   ran-remove k e f =
       of (some (removing pair)) (ap (λ (n : ℕ). callOf n a b c out) k) (record { word = e; store = f; output = refl })
 
   pub ran-lookup : {w : ℕ} {out′ : List ℕ} → kind ≡ 3 → w ≡ lookupWord (lookupOutcome s a (take b out) .answer)
-      → out′ ≡ lookupOutcome s a (take b out) .output ++ drop b out → Ran (callOf kind a b c out) b s out w s out′
+      → out′ ≡ lookupOutcome s a (take b out) .output ++ drop b out → Batched (callOf kind a b c out) b s out w s out′
   unfolding callOf runStore
   ran-lookup k e f =
       of (some (looking a (take b out))) (ap (λ (n : ℕ). callOf n a b c out) k)
       (record { word = e; store = refl; output = f })
 
   pub ran-work : {w : ℕ} {s′ : List ℕ} → kind ≡ 4 → w ≡ workWord (workOutcome s a .answer)
-      → s′ ≡ workOutcome s a .store → Ran (callOf kind a b c out) b s out w s′ out
+      → s′ ≡ workOutcome s a .store → Batched (callOf kind a b c out) b s out w s′ out
   unfolding callOf runStore
   ran-work k e f =
       of (some (working a)) (ap (λ (n : ℕ). callOf n a b c out) k) (record { word = e; store = f; output = refl })
 
   pub ran-standing : {w : ℕ} {out′ : List ℕ} → kind ≢ 0 → kind ≢ 1 → kind ≢ 2 → kind ≢ 3 → kind ≢ 4
       → w ≡ standingTold s (take b out) .word → out′ ≡ standingTold s (take b out) .result ++ drop b out
-      → Ran (callOf kind a b c out) b s out w s out′
+      → Batched (callOf kind a b c out) b s out w s out′
   unfolding callOf runStore standingTold
   ran-standing {w} {out′} k0 k1 k2 k3 k4 e f =
       of (askingIn (ltb (length (take b out)) 28))
@@ -118,6 +118,6 @@ module _ (s : List ℕ) (kind a b c : ℕ) (out : List ℕ) where
     where
       go : (short : Bool) → w ≡ toldIn short (standingOutcome s) (take b out) .word
           → out′ ≡ toldIn short (standingOutcome s) (take b out) .result ++ drop b out
-          → Ran (askingIn short) b s out w s out′
+          → Batched (askingIn short) b s out w s out′
       go true e f = record { word = e; store = refl; output = f ∙ take-append-drop b out }
       go false e f = record { word = e; store = refl; output = f }

@@ -2,4 +2,4 @@ pub mod Batch
 pub mod CallLaws
 pub mod BatchLaws
 pub mod RunningLaws
-pub mod Demand3
+pub mod Demand3Theorem

@@ -5,7 +5,7 @@ use Prim.Native.Nat.{ℕ, suc, _+_, _-_, _≤_, _<_}
 use native.Mathlib.Numerals.{add-one}
 use native.Mathlib.Omega.{arith}
 use lib.ListN.{length, set, length-set}
-use Rattle.batch.specs.Batch.{callAt, lentAt, Ran, Kept, ranAt, runs}
+use Rattle.batch.specs.Batch.{callAt, lentAt, Batched, Kept, ranAt, runs}
 
 -- after i of n calls: what is left to run leaves what was asked, and no slice has another length
 pub record Running (ws : List ℕ) (n : ℕ) (k₀ k : Kept) (i : ℕ) : Type 0 where
@@ -28,7 +28,7 @@ running-none ws n k =
 
 module _ {ws : List ℕ} {n : ℕ} {k₀ k : Kept} {i : ℕ} (g : Running ws n k₀ k i) where
   pub running-next : i < n → {w : ℕ} {s out : List ℕ}
-      → Ran (callAt ws i (k .output)) (lentAt ws i) (k .store) (k .output) w s out
+      → Batched (callAt ws i (k .output)) (lentAt ws i) (k .store) (k .output) w s out
       → length s ≡ length (k .store) → length out ≡ length (k .output)
       → Running ws n k₀ (record { store = s; output = out; words = set (k .words) i w }) (i + 1)
   unfolding ranAt

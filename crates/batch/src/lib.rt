@@ -1,19 +1,19 @@
 // A list of calls, encoded as numbers, run one after the other through the public functions: what demand 3 says of
 // lists of calls after an accepted format, it says of this function (specs/Demand3.antt).
-use capi::amiqsovik_format;
-use capi::amiqsovik_insert;
-use capi::amiqsovik_lookup;
-use capi::amiqsovik_remove;
-use capi::amiqsovik_standing;
-use capi::amiqsovik_work;
+use amiqsovik::amiqsovik_format;
+use amiqsovik::amiqsovik_insert;
+use amiqsovik::amiqsovik_lookup;
+use amiqsovik::amiqsovik_remove;
+use amiqsovik::amiqsovik_standing;
+use amiqsovik::amiqsovik_work;
 ghost use mathlib.Core.Path.{_≡_};
 ghost use mathlib.Core.List.{_++_};
 ghost use Prim.Native.Nat.{_+_, _*_, _/_, _≤_, min};
 ghost use lib.ListN.{length, take, drop};
-ghost use Rattle.image.specs.Outcomes.{lookupOutcome};
-ghost use Rattle.capi.specs.Words.{lookupWord};
-ghost use Rattle.capi.specs.Result.{standingTold};
-ghost use Rattle.batch.specs.Batch.{callOf, callAt, lentAt, Ran, runs};
+ghost use Rattle.outcomes.specs.Outcomes.{lookupOutcome};
+ghost use Rattle.amiqsovik.specs.Words.{lookupWord};
+ghost use Rattle.amiqsovik.specs.Result.{standingTold};
+ghost use Rattle.batch.specs.Batch.{callOf, callAt, lentAt, Batched, runs};
 
 fn smaller(a: usize, b: usize) -> usize
     ensures { λ r. ⌜ r ≡ min a b ⌝ }
@@ -46,7 +46,7 @@ fn run_standing(store: &[u8], lent: u32, output: &mut [u8]) -> u64
 
 // Runs one call, and gives its word.
 fn run_call(store: &mut [u8], kind: u32, a: u32, b: u32, c: u32, output: &mut [u8]) -> u64
-    ensures { λ r. ⌜ Ran (callOf kind a b c (now (output .entry))) b (now (store .entry)) (now (output .entry))
+    ensures { λ r. ⌜ Batched (callOf kind a b c (now (output .entry))) b (now (store .entry)) (now (output .entry))
         r (now (store .exit)) (now (output .exit)) ⌝ }
 {
     match kind {
@@ -62,7 +62,7 @@ fn run_call(store: &mut [u8], kind: u32, a: u32, b: u32, c: u32, output: &mut [u
 // Runs call `i`.
 fn run_at(store: &mut [u8], calls: &[u32], i: usize, output: &mut [u8]) -> u64
     requires { ⌜ 4 * i + 4 ≤ length (now calls) ⌝ }
-    ensures { λ r. ⌜ Ran (callAt (now (calls .entry)) i (now (output .entry))) (lentAt (now (calls .entry)) i)
+    ensures { λ r. ⌜ Batched (callAt (now (calls .entry)) i (now (output .entry))) (lentAt (now (calls .entry)) i)
         (now (store .entry)) (now (output .entry)) r (now (store .exit)) (now (output .exit)) ⌝ }
 {
     let at = 4 * i;

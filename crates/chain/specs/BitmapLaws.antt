@@ -13,7 +13,7 @@ use lib.ListN.{getD}
 use Rattle.lists.specs.Lists.{find, upFrom}
 use Rattle.lists.specs.RunLaws.{find-run}
 use Rattle.image.specs.Decode.{bitOf}
-use Rattle.image.specs.FrameLists.{find-hit, find-pass}
+use Rattle.frame.specs.ListsLaws.{find-hit, find-pass}
 use Rattle.image.specs.Rules.{mapAt, bitAt}
 use Rattle.chain.specs.declared.Free.{Free}
 use Rattle.chain.specs.Bitmap.{freeAs, lowestFree, freeOr}

@@ -11,7 +11,7 @@ use lib.ListN.{length, getD, drop, drop-of-length-le}
 use lib.Seq.{drop-cons}
 use Rattle.lists.specs.Lists.{any, find, bind, Each, upFrom}
 use Rattle.lists.specs.TestLaws.{each-right}
-use Rattle.image.specs.FrameLists.{find-hit, find-pass}
+use Rattle.frame.specs.ListsLaws.{find-hit, find-pass}
 
 abbrev pub isSome : {A : Type 0} → Option A → Bool
 isSome none = false

@@ -19,9 +19,9 @@ use Rattle.model.specs.Pages.{freeBit, firstFree}
 use Rattle.model.specs.LaidLaws.{free-bit}
 use Rattle.image.specs.Decode.{metaAt, maxAt, blockOf, decode}
 use Rattle.image.specs.Rules.{mapAt, bitAt, topAt, freeAt, rule6}
-use Rattle.image.specs.SoundFields.{SoundBytes}
-use Rattle.image.specs.SoundChains.{PageRead, chain-read}
-use Rattle.image.specs.SoundBits.{free-read}
+use Rattle.image.specs.SoundFieldsLaws.{SoundBytes}
+use Rattle.image.specs.SoundChainsLaws.{PageRead, chain-read}
+use Rattle.image.specs.SoundBitsLaws.{free-read}
 use Rattle.chain.specs.declared.Walk.{Walk}
 use Rattle.chain.specs.declared.Free.{Free}
 use Rattle.chain.specs.Walk.{walk, blocksOf, Sized, Walked}

@@ -15,7 +15,7 @@ use Rattle.store.specs.Store.{nextAt}
 use Rattle.model.specs.Calls.{maxBlocks}
 use Rattle.image.specs.Layout.{noLink}
 use Rattle.image.specs.Decode.{follow, blockOf, trail}
-use Rattle.image.specs.Outcomes.{lengthOk}
+use Rattle.image.specs.Rules.{lengthOk}
 use Rattle.chain.specs.Walk.{walk, lastOf, Sized}
 
 module _ (s : List ℕ) where

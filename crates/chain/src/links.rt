@@ -3,7 +3,7 @@ use crate::MAX_BLOCKS;
 use crate::NO_LINK;
 use crate::Walk;
 use store::block_at;
-use store::next_of;
+use store::next_at;
 ghost use mathlib.Core.Path.{_≡_};
 ghost use Rattle.lists.specs.Block.{block};
 ghost use Rattle.store.specs.Store.{nextAt};
@@ -16,7 +16,7 @@ pub fn next_block(store: &[u8], k: u32) -> u32
 {
     let at = k as usize;
     if at < store.len() / 512 {
-        next_of(block_at(store, at))
+        next_at(block_at(store, at))
     } else {
         0
     }

@@ -18,7 +18,7 @@ enum Place {
     Absent(usize),
 }
 
-fn find_place(change: Change, k: u32) -> Place
+fn find_image(change: Change, k: u32) -> Place
     requires { ⌜ change .count ≤ 8 ⌝ }
     ensures { λ r. ⌜ PlaceOf (change .numbers) (change .count) k r ⌝ }
 {
@@ -84,7 +84,7 @@ pub fn open_block(store: &[u8], change: Change, images: &mut [u8], k: u32) -> Op
     requires { ⌜ ((d : List ℕ) × Ready (now store) change (now images) d k) ⌝ }
     ensures { λ r. ⌜ Opens (now (store .entry)) change (now (images .entry)) k r (now (images .exit)) ⌝ }
 {
-    let place = find_place(change, k);
+    let place = find_image(change, k);
     match place {
         Place::Listed(at) => Opened { change, at },
         Place::Absent(at) => {

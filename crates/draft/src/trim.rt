@@ -13,7 +13,7 @@ ghost use Rattle.draft.specs.Draft.{Draft};
 ghost use Rattle.draft.specs.Trim.{alike, Kept, Trimmed};
 
 // Whether two blocks are the same but for their checks.
-fn is_same(a: &[u8], b: &[u8]) -> bool
+fn same_bytes(a: &[u8], b: &[u8]) -> bool
     requires { ⌜ (length (now a) ≡ 512) × (length (now b) ≡ 512) ⌝ }
     ensures { λ r. ⌜ r ≡ alike (covered (now (a .entry))) (covered (now (b .entry))) ⌝ }
 {
@@ -57,7 +57,7 @@ pub fn drop_unchanged(store: &[u8], change: Change, images: &mut [u8]) -> Change
     let mut i = 0;
     while i < count {
         let k = numbers[i];
-        if !is_same(block_at(store, k as usize), block_at(images, i)) {
+        if !same_bytes(block_at(store, k as usize), block_at(images, i)) {
             kept = keep_image(kept, images, i, k);
         }
         i += 1;

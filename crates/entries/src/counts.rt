@@ -11,7 +11,7 @@ use shape::links::walk_bucket;
 use shape::roles::page_of;
 use shape::roles::phase_of;
 use store::block_at;
-use store::prev_of;
+use store::prev_at;
 ghost use mathlib.Core.Path.{_≡_};
 ghost use Prim.Native.Nat.{_≤_};
 ghost use Rattle.lists.specs.Lists.{all, tally, bind};
@@ -33,7 +33,7 @@ fn check_prevs(store: &[u8], m: Meta) -> bool
     let max = m.max;
     let mut b = 0;
     while b <= max {
-        if prev_of(page_of(store, m, b)) != last_split(max, b) {
+        if prev_at(page_of(store, m, b)) != last_split(max, b) {
             return false;
         }
         b += 1;

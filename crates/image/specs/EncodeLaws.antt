@@ -47,7 +47,7 @@ use Rattle.image.specs.Layout.{
   encodeBlock,
   encode,
 }
-use Rattle.image.specs.Outcomes.{lengthOk}
+use Rattle.image.specs.Rules.{lengthOk}
 use Rattle.image.specs.PagedLaws.{
   length-paged,
   checked-paged,

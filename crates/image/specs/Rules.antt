@@ -3,7 +3,7 @@
 use mathlib.Core.Bool.{Bool, true, false, cond, not, _&&_, _||_, Bool·beq}
 use mathlib.Core.List.{List, [], _∷_}
 use mathlib.Core.Option.{Option, none, some, Option·getD}
-use Prim.Native.Nat.{ℕ, zero, suc, _-_}
+use Prim.Native.Nat.{ℕ, zero, suc, _-_, _%_}
 use lib.Dec.{leb, ltb, eqb}
 use lib.ListN.{length, getD, drop}
 use Rattle.lists.specs.Lists.{b2n, any, all, tally, find, bind, upFrom}
@@ -18,10 +18,14 @@ use Rattle.page.specs.Rule.{pageOk}
 use Rattle.store.specs.Store.{prevAt, nextAt, bucketAt, flagsAt, idAt, checked}
 use Rattle.model.specs.Index.{Job, idle, copying, clearing, Index, entriesAt, bucket, newBucket, oldBucket}
 use Rattle.model.specs.Held.{count}
-use Rattle.model.specs.Calls.{fillOk}
+use Rattle.model.specs.Calls.{sizeOk, fillOk}
 use Rattle.image.specs.declared.Meta.{Meta}
 use Rattle.image.specs.Layout.{noLink}
 use Rattle.image.specs.Decode.{bitOf, metaAt, maxAt, pointAt, sparesAt, roleAt, blockOf, trail, newFlags, oldFlags, decode}
+
+-- "store not a multiple of 512 bytes, or N outside 4..128"
+unfoldable pub lengthOk : List ℕ → Bool
+lengthOk s = eqb (length s % 512) 0 && sizeOk (blocks s)
 
 -- ---- rules 1 and 2, of the meta block's bytes and fields
 

@@ -8,8 +8,7 @@ use Rattle.lists.specs.Bytes.{Bytes}
 use Rattle.model.specs.Index.{Index}
 use Rattle.model.specs.WellFormed.{WF}
 use Rattle.image.specs.Layout.{encode}
-use Rattle.image.specs.Rules.{sound, verdict}
-use Rattle.image.specs.Outcomes.{lengthOk}
+use Rattle.image.specs.Rules.{sound, verdict, lengthOk}
 
 -- s is the bytes of the well-formed index x
 abbrev pub Encodes : List ℕ → Index → Type 0

@@ -13,7 +13,7 @@ use Rattle.endian.specs.Endian.{le16, le32}
 use Rattle.store.specs.Store.{sealed, seals, stored, commits, Fits}
 use Rattle.store.specs.ChangeLaws.{block-seals}
 use Rattle.image.specs.Layout.{noLink}
-use Rattle.image.specs.Format.{formatMeta, formatBlock}
+use Rattle.outcomes.specs.Format.{formatMeta, formatBlock}
 use Rattle.image.specs.PagedLaws.{length-paged, length-blank}
 
 -- ---- one block

@@ -12,8 +12,8 @@ use Rattle.model.specs.declared.Refusal.{Refusal}
 use Rattle.model.specs.Steps.{Worked, iterate}
 use Rattle.model.specs.Calls.{pairOk, budgetOk, insert, remove}
 use Rattle.image.specs.Decode.{decode}
-use Rattle.image.specs.Outcomes.{Tested, passed, failed, tested, refusing, changed, insertOn, insertOutcome}
-use Rattle.image.specs.Outcomes.{removeOn, removeOutcome, stepOutcome, workOn, workOutcome}
+use Rattle.outcomes.specs.Outcomes.{Tested, passed, failed, tested, refusing, changed, insertOn, insertOutcome}
+use Rattle.outcomes.specs.Outcomes.{removeOn, removeOutcome, stepOutcome, workOn, workOutcome}
 use Rattle.index.specs.Sound.{workedBy}
 
 -- a pair whose offset fits its field

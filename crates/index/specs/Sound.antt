@@ -6,7 +6,7 @@ use Rattle.model.specs.declared.Stop.{Stop}
 use Rattle.model.specs.declared.WorkAnswer.{WorkAnswer}
 use Rattle.model.specs.Steps.{next, stopped, Worked}
 use Rattle.image.specs.Decode.{metaAt}
-use Rattle.image.specs.Outcomes.{stepOutcome, WorkDone}
+use Rattle.outcomes.specs.Outcomes.{stepOutcome, WorkDone}
 use Rattle.view.specs.Reads.{Reads}
 use Rattle.plan.specs.declared.Advance.{Advance}
 

@@ -18,7 +18,7 @@ use Rattle.model.specs.StepLaws.{step-wf}
 use Rattle.model.specs.MachineLaws.{never}
 use Rattle.image.specs.Layout.{encode}
 use Rattle.image.specs.Decode.{decode}
-use Rattle.image.specs.Outcomes.{changed, stepOn, stepOutcome}
+use Rattle.outcomes.specs.Outcomes.{changed, stepOn, stepOutcome}
 use Rattle.draft.specs.Finish.{finished}
 use Rattle.draft.specs.FinishLaws.{finished-none}
 use Rattle.plan.specs.declared.Advance.{Advance}

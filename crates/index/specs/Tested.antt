@@ -1,5 +1,5 @@
 -- The tests before a call, as the code's enum has them.
-use Rattle.image.specs.Outcomes.{Tested, passed, failed}
+use Rattle.outcomes.specs.Outcomes.{Tested, passed, failed}
 use Rattle.index.specs.declared.Test.{Test}
 
 abbrev pub testOf : Tested → Test

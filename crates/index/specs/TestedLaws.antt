@@ -17,8 +17,9 @@ use Rattle.image.specs.declared.Meta.{Meta}
 use Rattle.image.specs.declared.Verdict.{Verdict}
 use Rattle.image.specs.Decode.{metaAt, decode}
 use Rattle.image.specs.Rules.{Judged, damaged, notIndex, sound, verdict}
-use Rattle.image.specs.Bridge.{sound-is-encoding}
-use Rattle.image.specs.Outcomes.{Tested, passed, failed, judged, testedIn, tested, lengthOk, verdictOf, verifyOutcome}
+use Rattle.image.specs.BridgeTheorem.{sound-is-encoding}
+use Rattle.outcomes.specs.Outcomes.{Tested, passed, failed, judged, testedIn, tested, verdictOf, verifyOutcome}
+use Rattle.image.specs.Rules.{lengthOk}
 use Rattle.chain.specs.WalkLaws.{lengthOk-sized}
 use Rattle.view.specs.Reads.{Reads}
 use Rattle.view.specs.ReadsLaws.{sound-reads}

@@ -8,7 +8,7 @@ use page::Pair;
 ghost use mathlib.Core.Path.{_≡_};
 ghost use Prim.Native.Nat.{ℕ};
 ghost use Rattle.model.specs.Calls.{pairOk};
-ghost use Rattle.image.specs.Outcomes.{insertOutcome, removeOutcome};
+ghost use Rattle.outcomes.specs.Outcomes.{insertOutcome, removeOutcome};
 
 // Refusal 2 of a pair.
 fn check_pair(block: u32, offset: u32) -> bool

@@ -20,8 +20,8 @@ ghost use Rattle.lists.specs.Block.{blocks, setBlock};
 ghost use Rattle.store.specs.Store.{sealed};
 ghost use Rattle.model.specs.Calls.{fillOk};
 ghost use Rattle.image.specs.Layout.{noLink, paged};
-ghost use Rattle.image.specs.Format.{formatMeta, formatBlock};
-ghost use Rattle.image.specs.Outcomes.{formatOutcome};
+ghost use Rattle.outcomes.specs.Format.{formatMeta, formatBlock};
+ghost use Rattle.outcomes.specs.Outcomes.{formatOutcome};
 ghost use Rattle.chain.specs.Walk.{Sized};
 
 // Refusal 2.

@@ -8,7 +8,7 @@ use store::block_at;
 use view::job::standing_of;
 use view::lookup::lookup_in;
 ghost use mathlib.Core.Path.{_≡_};
-ghost use Rattle.image.specs.Outcomes.{lookupOutcome, standingOutcome};
+ghost use Rattle.outcomes.specs.Outcomes.{lookupOutcome, standingOutcome};
 
 // The places of the readings held under a hash code, six bytes each, ascending.
 pub fn lookup(store: &[u8], hash: u32, output: &mut [u8]) -> LookupAnswer

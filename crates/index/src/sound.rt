@@ -13,7 +13,7 @@ ghost use mathlib.Core.Path.{_≡_};
 ghost use mathlib.Core.Bool.{true};
 ghost use Rattle.model.specs.Calls.{pairOk, insert, remove};
 ghost use Rattle.image.specs.Decode.{metaAt, decode};
-ghost use Rattle.image.specs.Outcomes.{changed};
+ghost use Rattle.outcomes.specs.Outcomes.{changed};
 ghost use Rattle.index.specs.Sound.{Sound, Stepped};
 
 // The fields of the meta block.

@@ -6,7 +6,7 @@ use verify::check_length;
 use verify::verify;
 ghost use mathlib.Core.Path.{_≡_};
 ghost use mathlib.Core.Bool.{true};
-ghost use Rattle.image.specs.Outcomes.{tested};
+ghost use Rattle.outcomes.specs.Outcomes.{tested};
 ghost use Rattle.index.specs.Tested.{testOf};
 
 // Whether the store has a legal length and is sound.

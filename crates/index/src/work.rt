@@ -8,7 +8,7 @@ use plan::Advance;
 ghost use mathlib.Core.Path.{_≡_};
 ghost use Prim.Native.Nat.{_≤_};
 ghost use Rattle.model.specs.Steps.{iterate};
-ghost use Rattle.image.specs.Outcomes.{stepOutcome, workOutcome};
+ghost use Rattle.outcomes.specs.Outcomes.{stepOutcome, workOutcome};
 ghost use Rattle.index.specs.Sound.{Sound, workedBy};
 
 // Steps on a sound store, until the budget is spent, which is tested first, or a step stops. It counts the steps.

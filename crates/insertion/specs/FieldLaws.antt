@@ -12,7 +12,7 @@ use Rattle.model.specs.Held.{count}
 use Rattle.image.specs.declared.Meta.{Meta}
 use Rattle.image.specs.Layout.{padded, metaOf}
 use Rattle.image.specs.Decode.{decode}
-use Rattle.image.specs.FrameFresh.{moreSpares}
+use Rattle.frame.specs.FreshLaws.{moreSpares}
 use Rattle.view.specs.Reads.{Reads}
 use Rattle.view.specs.ReadsLaws.{reads-laid, reads-meta}
 use Rattle.plan.specs.FieldLaws.{read-point, read-spares}

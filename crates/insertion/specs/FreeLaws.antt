@@ -21,7 +21,7 @@ use Rattle.image.specs.BitmapLaws.{bitOf-mapFront}
 use Rattle.image.specs.BoundLaws.{top-small}
 use Rattle.image.specs.EncodeLaws.{mapBit-lt}
 use Rattle.image.specs.FreeLaws.{first-zero}
-use Rattle.image.specs.FrameChain.{Free, free-yes}
+use Rattle.frame.specs.ChainLaws.{Free, free-yes}
 use Rattle.chain.specs.declared.Free as chain
 use Rattle.chain.specs.Bitmap.{freeAs, lowestFree, freeOr}
 use Rattle.chain.specs.BitmapLaws.{lowestFree-bit}

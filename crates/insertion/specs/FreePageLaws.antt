@@ -23,12 +23,12 @@ use Rattle.image.specs.Decode.{decode}
 use Rattle.image.specs.BitmapLaws.{length-mapFront}
 use Rattle.image.specs.BoundLaws.{top-small}
 use Rattle.image.specs.EncodeLaws.{mapBit-lt, bit-inside}
-use Rattle.image.specs.Frame.{blockOfBit, mapBlock, pageBlock, lastPlace}
-use Rattle.image.specs.FrameApart.{page-unused, page-map}
-use Rattle.image.specs.FrameChain.{Free}
-use Rattle.image.specs.FrameImages.{top-one, map-image}
-use Rattle.image.specs.FramePages.{taken-map}
-use Rattle.image.specs.FramePut.{frame-again}
+use Rattle.frame.specs.Frame.{blockOfBit, mapBlock, pageBlock, lastPlace}
+use Rattle.frame.specs.ApartLaws.{page-unused, page-map}
+use Rattle.frame.specs.ChainLaws.{Free}
+use Rattle.frame.specs.ImagesLaws.{top-one, map-image}
+use Rattle.frame.specs.PagesLaws.{taken-map}
+use Rattle.frame.specs.PutLaws.{frame-again}
 use Rattle.chain.specs.Bitmap.{freeOr, lowestFree}
 use Rattle.view.specs.Reads.{Reads}
 use Rattle.view.specs.ReadsLaws.{reads-laid, reads-size, reads-max}

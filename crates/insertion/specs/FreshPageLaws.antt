@@ -19,11 +19,11 @@ use Rattle.image.specs.declared.Meta.{Meta}
 use Rattle.image.specs.Layout.{noLink, metaFront, mapFront, mapBit, encodeBlock}
 use Rattle.image.specs.Decode.{decode}
 use Rattle.image.specs.BitmapLaws.{length-mapFront}
-use Rattle.image.specs.Frame.{Apart, blockOfBit, mapBlock, pageBlock, lastPlace}
-use Rattle.image.specs.FrameApart.{page-map}
-use Rattle.image.specs.FrameChain.{Free}
-use Rattle.image.specs.FrameFresh.{moreSpares, next-block, frame-fresh, fresh-blocks}
-use Rattle.image.specs.FrameImages.{top-one, map-image}
+use Rattle.frame.specs.Frame.{Apart, blockOfBit, mapBlock, pageBlock, lastPlace}
+use Rattle.frame.specs.ApartLaws.{page-map}
+use Rattle.frame.specs.ChainLaws.{Free}
+use Rattle.frame.specs.FreshLaws.{moreSpares, next-block, frame-fresh, fresh-blocks}
+use Rattle.frame.specs.ImagesLaws.{top-one, map-image}
 use Rattle.chain.specs.declared.Free as chain
 use Rattle.chain.specs.Bitmap.{freeOr, lowestFree}
 use Rattle.view.specs.Reads.{Reads}

@@ -25,10 +25,10 @@ use Rattle.model.specs.PlacedLaws.{held-zero}
 use Rattle.model.specs.HeldIn.{heldIn}
 use Rattle.model.specs.HeldLaws.{is-parts, held-no}
 use Rattle.model.specs.InsertLaws.{insert-wf}
-use Rattle.model.specs.Views.{unmovedEntry}
+use Rattle.model.specs.ViewLaws.{unmovedEntry}
 use Rattle.image.specs.declared.Meta.{Meta}
 use Rattle.image.specs.Decode.{decode}
-use Rattle.image.specs.FrameMeta.{insert-count}
+use Rattle.frame.specs.MetaLaws.{insert-count}
 use Rattle.view.specs.Reads.{Reads}
 use Rattle.view.specs.ReadsLaws.{reads-laid, reads-max, reads-count}
 use Rattle.plan.specs.Plan.{Settles, accepted, declined, Places, placed, full}

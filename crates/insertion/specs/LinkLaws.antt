@@ -21,11 +21,11 @@ use Rattle.image.specs.declared.Meta.{Meta}
 use Rattle.image.specs.Layout.{noLink, encodeBlock}
 use Rattle.image.specs.Decode.{decode}
 use Rattle.image.specs.PageOkLaws.{length-pageFront}
-use Rattle.image.specs.Frame.{blockOfBit, chainBlocks, pageBlock, pageEntries, pageWith, lastPlace}
+use Rattle.frame.specs.Frame.{blockOfBit, chainBlocks, pageBlock, pageEntries, pageWith, lastPlace}
 use Rattle.image.specs.BoundLaws.{max-under}
-use Rattle.image.specs.FrameApart.{page-meta}
-use Rattle.image.specs.FrameImages.{page-made, page-block}
-use Rattle.image.specs.FramePages.{last-image, new-image}
+use Rattle.frame.specs.ApartLaws.{page-meta}
+use Rattle.frame.specs.ImagesLaws.{page-made, page-block}
+use Rattle.frame.specs.PagesLaws.{last-image, new-image}
 use Rattle.model.specs.Pages.{addPage}
 use Rattle.view.specs.Reads.{Reads}
 use Rattle.view.specs.ReadsLaws.{reads-laid, reads-size}

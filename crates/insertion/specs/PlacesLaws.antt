@@ -16,9 +16,9 @@ use Rattle.model.specs.WellFormed.{Laid, WF}
 use Rattle.image.specs.declared.Meta.{Meta}
 use Rattle.image.specs.Layout.{mapBit}
 use Rattle.image.specs.Decode.{bitOf, decode}
-use Rattle.image.specs.Frame.{mapBlock, pageBlock, roomPlace, lastPlace}
-use Rattle.image.specs.FrameChain.{Free as IsFree}
-use Rattle.image.specs.FrameFresh.{moreSpares}
+use Rattle.frame.specs.Frame.{mapBlock, pageBlock, roomPlace, lastPlace}
+use Rattle.frame.specs.ChainLaws.{Free as IsFree}
+use Rattle.frame.specs.FreshLaws.{moreSpares}
 use Rattle.chain.specs.declared.Free.{Free}
 use Rattle.chain.specs.declared.Room.{Room}
 use Rattle.chain.specs.Bitmap.{lowestFree}

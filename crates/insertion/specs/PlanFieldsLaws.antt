@@ -17,8 +17,8 @@ use Rattle.image.specs.declared.Meta.{Meta}
 use Rattle.image.specs.Layout.{noLink, paged, metaFront, metaOf, encodeBlock}
 use Rattle.image.specs.Decode.{decode}
 use Rattle.image.specs.BoundLaws.{length-meta}
-use Rattle.image.specs.Frame.{Apart}
-use Rattle.image.specs.FrameImages.{meta-image}
+use Rattle.frame.specs.Frame.{Apart}
+use Rattle.frame.specs.ImagesLaws.{meta-image}
 use Rattle.view.specs.Reads.{Reads}
 use Rattle.view.specs.ReadsLaws.{reads-laid, reads-size}
 use Rattle.draft.specs.Draft.{Draft, Ready, Edited}

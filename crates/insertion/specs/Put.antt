@@ -18,7 +18,7 @@ use Rattle.model.specs.WellFormed.{WF}
 use Rattle.image.specs.declared.Meta.{Meta}
 use Rattle.image.specs.Layout.{noLink}
 use Rattle.image.specs.Decode.{decode}
-use Rattle.image.specs.Frame.{pageBlock, roomPlace, lastPlace}
+use Rattle.frame.specs.Frame.{pageBlock, roomPlace, lastPlace}
 use Rattle.view.specs.Reads.{Reads}
 use Rattle.plan.specs.Shape.{Shaped}
 use Rattle.plan.specs.Sketch.{Sketch}

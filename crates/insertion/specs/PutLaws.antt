@@ -27,13 +27,13 @@ use Rattle.image.specs.declared.Meta.{Meta}
 use Rattle.image.specs.Layout.{noLink, paged, metaFront, flagsOf, encodeBlock}
 use Rattle.image.specs.Decode.{decode}
 use Rattle.image.specs.PageOkLaws.{length-pageFront}
-use Rattle.image.specs.Frame.{blockOfBit, mapBlock, chainBlocks, pageBlock, pageEntries, prevIn, flagsFor, pageWith}
-use Rattle.image.specs.Frame.{entriesAfter, roomPlace}
-use Rattle.image.specs.FrameApart.{page-meta}
-use Rattle.image.specs.FrameFresh.{moreSpares}
-use Rattle.image.specs.FrameMeta.{room-free}
-use Rattle.image.specs.FramePages.{RoomAt, room-at, room-image}
-use Rattle.image.specs.FramePut.{frame-room}
+use Rattle.frame.specs.Frame.{blockOfBit, mapBlock, chainBlocks, pageBlock, pageEntries, prevIn, flagsFor, pageWith}
+use Rattle.frame.specs.Frame.{entriesAfter, roomPlace}
+use Rattle.frame.specs.ApartLaws.{page-meta}
+use Rattle.frame.specs.FreshLaws.{moreSpares}
+use Rattle.frame.specs.MetaLaws.{room-free}
+use Rattle.frame.specs.PagesLaws.{RoomAt, room-at, room-image}
+use Rattle.frame.specs.PutLaws.{frame-room}
 use Rattle.view.specs.Reads.{Reads}
 use Rattle.view.specs.ReadsLaws.{reads-laid, reads-size, reads-max}
 use Rattle.view.specs.ChainLaws.{pages-read, page-read}

@@ -7,7 +7,8 @@ use Rattle.line.specs.Words.{numberOf}
 use Rattle.line.specs.Command.{readLine}
 use Rattle.text.specs.Digits.{digits}
 use Rattle.text.specs.Text.{storeText, refusedText}
-use Rattle.image.specs.Outcomes.{lengthOk, tested, formatOutcome, insertOutcome, lookupOutcome, workOutcome}
+use Rattle.outcomes.specs.Outcomes.{tested, formatOutcome, insertOutcome, lookupOutcome, workOutcome}
+use Rattle.image.specs.Rules.{lengthOk}
 use Rattle.interpreter.specs.Script.{runCommand, scriptOutput}
 
 -- A script and what it writes.

@@ -117,13 +117,13 @@ pub record Lent : Type 0 where
   pub output : List ℕ
 
 -- What calls used of their inputs, and what they wrote.
-pub record Told : Type 0 where
+pub record Handled : Type 0 where
   pub used : List ℕ
   pub text : List ℕ
 
 -- a feed for each of `calls`, and a finish that is lent `last`; each call is handed the state and the store that the
 -- one before it left
-abbrev pub feeds : ScriptState → (store : List ℕ) → (calls : List Lent) → (last : List ℕ) → Told
+abbrev pub feeds : ScriptState → (store : List ℕ) → (calls : List Lent) → (last : List ℕ) → Handled
 feeds c store [] last =
     let f = finishOutcome c store last in record { used = []; text = take (f .fed .written) (f .output) }
 feeds c store (l ∷ ls) last =

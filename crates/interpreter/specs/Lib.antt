@@ -1,6 +1,6 @@
 pub mod Script
 pub mod Feed
-pub mod Pieces
+pub mod PiecesTheorem
 pub mod Machine
 pub mod MachineLaws
 pub mod Runs

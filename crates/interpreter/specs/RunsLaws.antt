@@ -20,8 +20,9 @@ use Rattle.model.specs.Index.{Index}
 use Rattle.model.specs.Held.{matches}
 use Rattle.model.specs.Calls.{maxBlocks, sizeOk, fillOk, format, listed, lookup}
 use Rattle.image.specs.Layout.{encode}
-use Rattle.image.specs.Outcomes.{Tested, passed, failed, tested, lengthOk, Changed, formatIn, formatOutcome}
-use Rattle.image.specs.Outcomes.{lookupOn, lookupOutcome}
+use Rattle.outcomes.specs.Outcomes.{Tested, passed, failed, tested, Changed, formatOn, formatOutcome}
+use Rattle.image.specs.Rules.{lengthOk}
+use Rattle.outcomes.specs.Outcomes.{lookupOn, lookupOutcome}
 use Rattle.interpreter.specs.Script.{Turn, formatTurn, runCommand}
 use Rattle.interpreter.specs.Feed.{scriptBlocks, over}
 use Rattle.interpreter.specs.Runs.{Stands, Runs, Room, Roomy}
@@ -87,7 +88,7 @@ format-turn s t line n fill old e =
     ∙ ap (λ (k : ℕ). turn (eqb (k % 512) 0 && sizeOk (k / 512)) (fillOk fill) t (encode (format (k / 512) fill))) e
   where
     turn : (l f : Bool) → List ℕ → List ℕ → Turn
-    turn l f x y = let c = formatIn l f x y in formatTurn line n fill (c .answer) old (c .store)
+    turn l f x y = let c = formatOn l f x y in formatTurn line n fill (c .answer) old (c .store)
 
     both : (l f : Bool) (y : List ℕ) → turn l f s y ≡ turn l f t y
     both false f y = refl
@@ -115,7 +116,7 @@ pub format-kept : (s : List ℕ) (fill : ℕ) (r : Refusal) → formatOutcome s 
 unfolding formatOutcome
 format-kept s fill r e = go (lengthOk s) (fillOk fill) (encode (format (blocks s) fill)) e
   where
-    go : (l f : Bool) (y : List ℕ) → formatIn l f s y .answer ≡ Answer.Refused r → formatIn l f s y .store ≡ s
+    go : (l f : Bool) (y : List ℕ) → formatOn l f s y .answer ≡ Answer.Refused r → formatOn l f s y .store ≡ s
     go false f y q = refl
     go true false y q = refl
     go true true y q = let z : _≡_ {A = ℕ} 0 1 = cc in absurd (omega arith)
@@ -137,5 +138,5 @@ pub format-large : (line n fill : ℕ) (old : List ℕ) → 128 < n
 unfolding formatOutcome lengthOk blocks runCommand
 format-large line n fill old h =
     let z = replicate {A = ℕ} (512 * n) 0 in
-    let c : Bool → Changed = λ l. formatIn l (fillOk fill) z (encode (format (blocks z) fill)) in
+    let c : Bool → Changed = λ l. formatOn l (fillOk fill) z (encode (format (blocks z) fill)) in
     ap (λ (l : Bool). formatTurn line n fill (c l .answer) old (c l .store)) (sym (unfit n h))

@@ -10,7 +10,7 @@ use Rattle.model.specs.declared.Answer.{Answer}
 use Rattle.model.specs.declared.LookupAnswer.{LookupAnswer}
 use Rattle.model.specs.declared.WorkAnswer.{WorkAnswer}
 use Rattle.model.specs.Answers.{refusalNo, stopNo}
-use Rattle.image.specs.Outcomes.{formatOutcome, insertOutcome, removeOutcome, lookupOutcome, workOutcome}
+use Rattle.outcomes.specs.Outcomes.{formatOutcome, insertOutcome, removeOutcome, lookupOutcome, workOutcome}
 
 -- ---- answers as text. "Each refusal is shown as in line 4 below."
 

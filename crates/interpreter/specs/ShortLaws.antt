@@ -16,8 +16,9 @@ use Rattle.model.specs.declared.LookupAnswer.{LookupAnswer}
 use Rattle.model.specs.Held.{matches}
 use Rattle.model.specs.Calls.{Looked, listed, lookup}
 use Rattle.model.specs.MachineLaws.{never}
-use Rattle.image.specs.Outcomes.{lengthOk, tested, lookupOutcome}
-use Rattle.image.specs.OutcomeIndexLaws.{lookup-encode}
+use Rattle.outcomes.specs.Outcomes.{tested, lookupOutcome}
+use Rattle.image.specs.Rules.{lengthOk}
+use Rattle.outcomes.specs.OutcomeIndexLaws.{lookup-encode}
 use Rattle.interpreter.specs.Script.{lent, runCommand, lines}
 use Rattle.interpreter.specs.Stores.{ScriptStore, empty, bytes, standsAt, NotShort}
 use Rattle.interpreter.specs.StoresLaws.{store-after}

@@ -10,7 +10,7 @@ use Rattle.model.specs.declared.LookupAnswer.{LookupAnswer}
 use Rattle.model.specs.Index.{idle, Index}
 use Rattle.model.specs.WellFormed.{WF}
 use Rattle.image.specs.Layout.{encode}
-use Rattle.image.specs.Outcomes.{lookupOutcome}
+use Rattle.outcomes.specs.Outcomes.{lookupOutcome}
 use Rattle.interpreter.specs.declared.ScriptState.{ScriptState}
 use Rattle.interpreter.specs.Script.{lent, runCommand}
 use Rattle.interpreter.specs.Feed.{tooMany, scriptBlocks, storeBytes}

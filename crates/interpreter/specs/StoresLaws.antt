@@ -20,11 +20,12 @@ use Rattle.model.specs.StepLaws.{step-wf}
 use Rattle.model.specs.WorkLaws.{iterate-keeps}
 use Rattle.model.specs.MachineLaws.{never}
 use Rattle.image.specs.Layout.{encode}
-use Rattle.image.specs.Bridge.{encoding-is-sound}
-use Rattle.image.specs.Outcomes.{lengthOk, tested, formatIn, formatOutcome, insertOutcome, removeOutcome}
-use Rattle.image.specs.Outcomes.{workOutcome, runStore}
-use Rattle.image.specs.OutcomeIndexLaws.{run-encode, run-wf}
-use Rattle.image.specs.OutcomeSoundLaws.{legal-size}
+use Rattle.image.specs.BridgeTheorem.{encoding-is-sound}
+use Rattle.outcomes.specs.Outcomes.{tested, formatOn, formatOutcome, insertOutcome, removeOutcome}
+use Rattle.image.specs.Rules.{lengthOk}
+use Rattle.outcomes.specs.Outcomes.{workOutcome, runStore}
+use Rattle.outcomes.specs.OutcomeIndexLaws.{run-encode, run-wf}
+use Rattle.outcomes.specs.OutcomeSoundLaws.{legal-size}
 use Rattle.interpreter.specs.Script.{formatTurn, runCommand}
 use Rattle.interpreter.specs.Feed.{scriptBlocks}
 use Rattle.interpreter.specs.Stores.{Made, ScriptStore, empty, bytes}
@@ -112,7 +113,7 @@ unfolding formatOutcome format
 format-store line n fill z s p = go (lengthOk z) refl (fillOk fill) refl
   where
     go : (l : Bool) → lengthOk z ≡ l → (f : Bool) → fillOk fill ≡ f
-        → let c = formatIn l f z (encode (format (blocks z) fill)) in
+        → let c = formatOn l f z (encode (format (blocks z) fill)) in
         ScriptStore (formatTurn line n fill (c .answer) s (c .store) .store)
     go false h f k = p
     go true h false k = p

@@ -23,7 +23,7 @@ use Rattle.model.specs.HeldIn.{heldIn}
 use Rattle.model.specs.PlacedLaws.{held-new}
 use Rattle.model.specs.HeldLaws.{is-parts, heldIn-held}
 use Rattle.model.specs.LaidLaws.{chain-wider}
-use Rattle.model.specs.Views.{Beginning, inGroup, newGroup, Stepping, began, copied, copiedAll, cleared, clearedAll, step-view}
+use Rattle.model.specs.ViewLaws.{Beginning, inGroup, newGroup, Stepping, began, copied, copiedAll, cleared, clearedAll, step-view}
 use Rattle.model.specs.StepLaws.{widen-becomes}
 use Rattle.model.specs.SortedLaws.{tally-keep-pair, any-keep-pair, length-is}
 use Rattle.model.specs.StepsLeft.{copiesLeft, oldEntries, stepsLeft}

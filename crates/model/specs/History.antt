@@ -54,9 +54,9 @@ module _ (M : Machine) where
   stepped t s = stepIn (phaseAt (t .state)) t s
 
   -- after each single step of a work call
-  abbrev pub trail : (budget : ℕ) → Moment → List Moment
-  trail zero t = []
-  trail (suc n) t = elim (M .step (t .state)) [ next s ↦ stepped t s ∷ trail n (stepped t s) | stopped r ↦ [] ]
+  abbrev pub stages : (budget : ℕ) → Moment → List Moment
+  stages zero t = []
+  stages (suc n) t = elim (M .step (t .state)) [ next s ↦ stepped t s ∷ stages n (stepped t s) | stopped r ↦ [] ]
 
   abbrev pub lastOf : Moment → List Moment → Moment
   lastOf t [] = t
@@ -69,7 +69,7 @@ module _ (M : Machine) where
   within true (puts p) t = []
   within true (takes p) t = []
   within true leaves t = []
-  within true (hasSteps budget) t = trail budget t
+  within true (hasSteps budget) t = stages budget t
 
   -- the moment after a call that left the state s; a refused call leaves all but the state alone
   abbrev pub marked : (accepted : Bool) → Effect → Moment → State → Moment

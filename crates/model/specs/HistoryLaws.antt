@@ -11,7 +11,7 @@ use Rattle.model.specs.declared.Phase.{Phase}
 use Rattle.model.specs.Steps.{Step, next, stopped}
 use Rattle.model.specs.Machine.{Call, formatting, CallFits, accepted, Machine}
 use Rattle.model.specs.Book.{Effect, empties, puts, takes, leaves, hasSteps, effect, noted}
-use Rattle.model.specs.History.{Moment, phaseAt, stepIn, stepped, trail, lastOf, within, marked, after, history}
+use Rattle.model.specs.History.{Moment, phaseAt, stepIn, stepped, stages, lastOf, within, marked, after, history}
 use Rattle.model.specs.History.{start, Always}
 
 pub always-map : {M : Machine} (P Q : Moment M → Type 0) → ((t : Moment M) → P t → Q t) → Always M P → Always M Q
@@ -37,9 +37,9 @@ module _ (M : Machine) where
       go false u = refl
 
   -- steps leave the book alone
-  trail-book : (n : ℕ) (t : Moment M) → lastOf M t (trail M n t) .book ≡ t .book
-  trail-book zero t = refl
-  trail-book (suc n) t = go (M .step (t .state)) refl (trail-book n)
+  stages-book : (n : ℕ) (t : Moment M) → lastOf M t (stages M n t) .book ≡ t .book
+  stages-book zero t = refl
+  stages-book (suc n) t = go (M .step (t .state)) refl (stages-book n)
     where
       kept : (ph : Phase) (s : M .State) → stepIn M ph t s .book ≡ t .book
       kept Phase.None s = refl
@@ -47,10 +47,10 @@ module _ (M : Machine) where
       kept (Phase.Clearing o n) s = refl
 
       go : (r : Step (M .State)) → M .step (t .state) ≡ r
-          → ((u : Moment M) → lastOf M u (trail M n u) .book ≡ u .book)
-          → lastOf M t (trail M (suc n) t) .book ≡ t .book
-      go (next s) e ih = rw (e, trail) (ih (stepped M t s) ∙ kept (phaseAt M (t .state)) s)
-      go (stopped c) e ih = rw (e, trail) refl
+          → ((u : Moment M) → lastOf M u (stages M n u) .book ≡ u .book)
+          → lastOf M t (stages M (suc n) t) .book ≡ t .book
+      go (next s) e ih = rw (e, stages) (ih (stepped M t s) ∙ kept (phaseAt M (t .state)) s)
+      go (stopped c) e ih = rw (e, stages) refl
 
   -- its book is what the call's effect makes of the book before, if the call was accepted
   pub after-book : (c : Call) (t : Moment M)
@@ -65,7 +65,7 @@ module _ (M : Machine) where
       go true (puts p) = refl
       go true (takes p) = refl
       go true leaves = refl
-      go true (hasSteps budget) = trail-book budget t
+      go true (hasSteps budget) = stages-book budget t
 
 -- ---- what each call and each step keeps holds at every moment
 
@@ -83,16 +83,16 @@ module _ (M : Machine) (P : M .State → Type 0)
       go (Phase.Copying o n) = p
       go (Phase.Clearing o n) = p
 
-  trail-keeps : (n : ℕ) (t : Moment M) → At t → Each At (trail M n t)
-  trail-keeps zero t p = tt
-  trail-keeps (suc n) t p = go (M .step (t .state)) refl (trail-keeps n)
+  stages-keep : (n : ℕ) (t : Moment M) → At t → Each At (stages M n t)
+  stages-keep zero t p = tt
+  stages-keep (suc n) t p = go (M .step (t .state)) refl (stages-keep n)
     where
-      go : (r : Step (M .State)) → M .step (t .state) ≡ r → ((u : Moment M) → At u → Each At (trail M n u))
-          → Each At (trail M (suc n) t)
+      go : (r : Step (M .State)) → M .step (t .state) ≡ r → ((u : Moment M) → At u → Each At (stages M n u))
+          → Each At (stages M (suc n) t)
       go (next s) e ih =
           let q = stepped-keeps t s (steps (t .state) s p e) in
-          rw (e, trail) (q, ih (stepped M t s) q)
-      go (stopped c) e ih = rw (e, trail) tt
+          rw (e, stages) (q, ih (stepped M t s) q)
+      go (stopped c) e ih = rw (e, stages) tt
 
   within-keeps : (a : Bool) (f : Effect) (t : Moment M) → At t → Each At (within M a f t)
   within-keeps false f t p = tt
@@ -100,7 +100,7 @@ module _ (M : Machine) (P : M .State → Type 0)
   within-keeps true (puts q) t p = tt
   within-keeps true (takes q) t p = tt
   within-keeps true leaves t p = tt
-  within-keeps true (hasSteps budget) t p = trail-keeps budget t p
+  within-keeps true (hasSteps budget) t p = stages-keep budget t p
 
   marked-keeps : (a : Bool) (f : Effect) (t : Moment M) (s : M .State) → P s → At (marked M a f t s)
   marked-keeps true f t s p = p

@@ -23,8 +23,8 @@ use Rattle.model.specs.PlacedLaws.{held-zero, turned-same, insert-placed
 use Rattle.model.specs.StandLaws.{having, marked, number-here, number-there, number-same}
 use Rattle.model.specs.HeldLaws.{old-new, home-range, is-parts, held-no, heldIn-held, held-is}
 use Rattle.model.specs.LaidLaws.{put-laid}
-use Rattle.model.specs.Views.{unmovedEntry, put-as, Inserting, inserted, insert-view}
-use Rattle.model.specs.Becomes.{TurnedTo, withPair, Becomes, becomes}
+use Rattle.model.specs.ViewLaws.{unmovedEntry, put-as, Inserting, inserted, insert-view}
+use Rattle.model.specs.BecomesLaws.{TurnedTo, withPair, Becomes, becomes}
 
 -- an entry more in bucket b's chain changes nothing for another pair
 pub put-other : (x : Index) (w : WF x) (b : ℕ) → b < length (x .chains) → (e : Entry) (sp : List ℕ) (c : Chain)

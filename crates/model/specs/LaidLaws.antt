@@ -27,7 +27,7 @@ use Rattle.model.specs.WellFormed.{EntryOk, ChainOk, uses, Laid}
 use Rattle.model.specs.ChainLaws.{bits-add, bits-page, bits-without}
 use Rattle.model.specs.ChainOkLaws.{addEntry-ok, addPage-ok, without-ok}
 use Rattle.model.specs.StandLaws.{chain-here, chain-there}
-use Rattle.model.specs.Views.{Putting, inPage, inNew, Beginning, inGroup, newGroup}
+use Rattle.model.specs.ViewLaws.{Putting, inPage, inNew, Beginning, inGroup, newGroup}
 
 -- ---- a chain set anew
 

@@ -13,8 +13,8 @@ use Rattle.model.specs.Steps.{Step, next, stopped, Worked, step, iterate
 use Rattle.model.specs.Calls.{work}
 use Rattle.model.specs.Machine.{working, worked, Ran, Machine, workedIn, runIndex, onIndex}
 use Rattle.model.specs.Demand.{afterSteps, WorkIs}
-use Rattle.model.specs.Views.{Stepping, resting, unbegun, began, uncopied, copied, copiedAll, cleared}
-use Rattle.model.specs.Views.{clearedAll, step-view}
+use Rattle.model.specs.ViewLaws.{Stepping, resting, unbegun, began, uncopied, copied, copiedAll, cleared}
+use Rattle.model.specs.ViewLaws.{clearedAll, step-view}
 
 -- from two constructors that would be equal, by `never (cc)`
 pub never : {A : Type 0} → _≡_ {A = ℕ} 0 1 → A

@@ -21,8 +21,8 @@ use Rattle.model.specs.PlacedLaws.{idle-copying, clearing-copying, turne
 use Rattle.model.specs.StandLaws.{having, marked, cut-same, cut-here, cut-less}
 use Rattle.model.specs.HeldLaws.{old-new, home-range, old-range, new-range, heldIn-held, held-is}
 use Rattle.model.specs.LaidLaws.{cut-laid}
-use Rattle.model.specs.Views.{Removing, removed, remove-view}
-use Rattle.model.specs.Becomes.{TurnedTo, withoutPair, Becomes, becomes}
+use Rattle.model.specs.ViewLaws.{Removing, removed, remove-view}
+use Rattle.model.specs.BecomesLaws.{TurnedTo, withoutPair, Becomes, becomes}
 
 module _ (x : Index) (w : WF x) (q : Pair) where
   -- where the pair's bucket is its only place

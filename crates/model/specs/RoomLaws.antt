@@ -28,9 +28,9 @@ use Rattle.model.specs.WellFormed.{uses}
 use Rattle.model.specs.Room.{NoPage, NoGroup, NoStep}
 use Rattle.model.specs.TallyLaws.{or-left, or-right, tally-upFrom}
 use Rattle.model.specs.LaidLaws.{TakenAs, nothing, again, fresh, take-view}
-use Rattle.model.specs.Views.{Putting, full, inPage, inNew, put-view, Inserting, already, noRoom, inserted}
-use Rattle.model.specs.Views.{insert-view, Beginning, noGroup, inGroup, newGroup, Stepping, resting, unbegun}
-use Rattle.model.specs.Views.{began, uncopied, copied, copiedAll, cleared, clearedAll, step-view}
+use Rattle.model.specs.ViewLaws.{Putting, full, inPage, inNew, put-view, Inserting, already, noRoom, inserted}
+use Rattle.model.specs.ViewLaws.{insert-view, Beginning, noGroup, inGroup, newGroup, Stepping, resting, unbegun}
+use Rattle.model.specs.ViewLaws.{began, uncopied, copied, copiedAll, cleared, clearedAll, step-view}
 
 -- ---- the chain
 

@@ -26,8 +26,8 @@ use Rattle.model.specs.ChainOkLaws.{found-ok}
 use Rattle.model.specs.StandLaws.{having, marked, number-here, number-there, number-same, cut-same, cut-there, cut-less}
 use Rattle.model.specs.HeldLaws.{old-new, old-range, new-range, stands-none, none-stands, stands-passed, found-stands, moves-yes, heldIn-held, held-is}
 use Rattle.model.specs.LaidLaws.{cut-laid, put-laid, job-laid, chain-wider, begin-laid}
-use Rattle.model.specs.Views.{movedEntry, Putting, put-as, Beginning, inGroup, newGroup, Stepping, began, copied, copiedAll, cleared, clearedAll, step-view}
-use Rattle.model.specs.Becomes.{TurnedTo, unchanged, Becomes, becomes, placed-at, heldIn-at}
+use Rattle.model.specs.ViewLaws.{movedEntry, Putting, put-as, Beginning, inGroup, newGroup, Stepping, began, copied, copiedAll, cleared, clearedAll, step-view}
+use Rattle.model.specs.BecomesLaws.{TurnedTo, unchanged, Becomes, becomes, placed-at, heldIn-at}
 use Rattle.model.specs.InsertLaws.{put-other}
 
 -- ---- begin

@@ -21,7 +21,7 @@ use Rattle.model.specs.TallyLaws.{tally-parts, any-more}
 use Rattle.model.specs.ChainLaws.{tally-without}
 use Rattle.model.specs.StandLaws.{number-here, chain-there}
 use Rattle.model.specs.HeldLaws.{old-new, old-range, new-range, is-parts}
-use Rattle.model.specs.Views.{movedEntry, PutAs, put-as, Stepping, began, copied, copiedAll, cleared, clearedAll, step-view}
+use Rattle.model.specs.ViewLaws.{movedEntry, PutAs, put-as, Stepping, began, copied, copiedAll, cleared, clearedAll, step-view}
 use Rattle.model.specs.StepsLeft.{copiesLeft, oldEntries, stepsIn, stepsLeft}
 
 -- ---- one entry less

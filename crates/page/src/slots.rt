@@ -36,7 +36,7 @@ pub fn get_entry(p: &[u8], k: usize) -> Entry
     }
 }
 
-fn flags_of(moved: bool) -> u16
+fn entry_flags(moved: bool) -> u16
     ensures { λ r. ⌜ r ≡ entryFlags moved ⌝ }
 {
     if moved { 0x2000 } else { 0 }
@@ -51,5 +51,5 @@ pub fn put_entry(p: &mut [u8], k: usize, e: Entry)
     put_u32(p, at, e.pair.hash);
     put_u32(p, at + 4, e.pair.block);
     put_u16(p, at + 8, e.pair.offset);
-    put_u16(p, at + 10, flags_of(e.moved));
+    put_u16(p, at + 10, entry_flags(e.moved));
 }

@@ -14,7 +14,7 @@ use Rattle.image.specs.declared.Meta.{Meta}
 use Rattle.image.specs.Layout.{padded, metaOf}
 use Rattle.image.specs.Decode.{decode}
 use Rattle.image.specs.EncodeLaws.{bit-inside}
-use Rattle.image.specs.Frame.{blockOfBit}
+use Rattle.frame.specs.Frame.{blockOfBit}
 use Rattle.view.specs.Reads.{Reads}
 use Rattle.view.specs.ReadsLaws.{reads-laid, reads-meta}
 

@@ -16,8 +16,8 @@ use Rattle.model.specs.WellFormed.{Laid}
 use Rattle.image.specs.declared.Meta.{Meta}
 use Rattle.image.specs.Layout.{encodeBlock, encode}
 use Rattle.image.specs.Decode.{decode}
-use Rattle.image.specs.Frame.{Apart}
-use Rattle.image.specs.FrameCommit.{in-or-apart}
+use Rattle.frame.specs.Frame.{Apart}
+use Rattle.frame.specs.CommitLaws.{in-or-apart}
 use Rattle.image.specs.EncodeLaws.{block-encode}
 use Rattle.view.specs.Reads.{Reads}
 use Rattle.view.specs.ReadsLaws.{reads-size, reads-sized}

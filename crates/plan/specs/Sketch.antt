@@ -5,7 +5,7 @@ use Prim.Native.Nat.{ℕ, _≤_, _<_}
 use Rattle.lists.specs.Lists.{Each}
 use Rattle.lists.specs.Block.{blocks, block}
 use Rattle.store.specs.declared.Change.{Change}
-use Rattle.image.specs.Frame.{Apart}
+use Rattle.frame.specs.Frame.{Apart}
 use Rattle.draft.specs.Draft.{Draft, Listed}
 
 -- the draft d of the change c lists at most n blocks, those of ks among them, and every other block is the store's

@@ -11,7 +11,7 @@ use Rattle.page.specs.declared.Entry.{Entry}
 use Rattle.page.specs.Entries.{encodePage}
 use Rattle.page.specs.SublistLaws.{each-map}
 use Rattle.store.specs.declared.Change.{Change}
-use Rattle.image.specs.Frame.{Apart}
+use Rattle.frame.specs.Frame.{Apart}
 use Rattle.draft.specs.Draft.{Draft, Listed, Ready, Lists, Edited, PageEdited}
 use Rattle.draft.specs.DraftLaws.{length-draft}
 use Rattle.plan.specs.Sketch.{Sketch}

@@ -19,9 +19,9 @@ use Rattle.image.specs.BitmapLaws.{length-mapFront}
 use Rattle.image.specs.PageOkLaws.{length-pageFront}
 use Rattle.image.specs.BoundLaws.{length-meta}
 use Rattle.image.specs.EncodeLaws.{bit-inside, block-encode, checked-encode, Bytes-encode}
-use Rattle.image.specs.Frame.{mapBlock, chainBlocks, pageBlock, entriesAfter, placeEntries, pageEntries, prevIn}
-use Rattle.image.specs.Frame.{flagsFor, pageWith}
-use Rattle.image.specs.FrameImages.{top-one, page-inside, page-image, meta-image, map-image}
+use Rattle.frame.specs.Frame.{mapBlock, chainBlocks, pageBlock, entriesAfter, placeEntries, pageEntries, prevIn}
+use Rattle.frame.specs.Frame.{flagsFor, pageWith}
+use Rattle.frame.specs.ImagesLaws.{top-one, page-inside, page-image, meta-image, map-image}
 use Rattle.view.specs.Reads.{Reads}
 use Rattle.view.specs.ReadsLaws.{reads-laid, reads-size, reads-max, reads-sized}
 use Rattle.draft.specs.Finish.{Sealed}

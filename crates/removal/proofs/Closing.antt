@@ -20,8 +20,8 @@ use Rattle.image.specs.Layout.{noLink, paged, metaFront, metaOf, mapFront, isFr
 use Rattle.image.specs.Decode.{decode}
 use Rattle.image.specs.BitmapLaws.{length-mapFront}
 use Rattle.image.specs.BoundLaws.{length-meta}
-use Rattle.image.specs.Frame.{mapBlock}
-use Rattle.image.specs.FrameImages.{meta-image, map-image}
+use Rattle.frame.specs.Frame.{mapBlock}
+use Rattle.frame.specs.ImagesLaws.{meta-image, map-image}
 use Rattle.view.specs.ReadsLaws.{reads-laid, reads-size}
 use Rattle.draft.specs.Draft.{Draft, Ready, Edited}
 use Rattle.draft.specs.Trim.{Trimmed}

@@ -17,11 +17,11 @@ use Rattle.model.specs.LaidLaws.{cut-laid}
 use Rattle.model.specs.MachineLaws.{never}
 use Rattle.image.specs.Layout.{metaOf, mapBit}
 use Rattle.image.specs.BoundLaws.{top-small}
-use Rattle.image.specs.Frame.{morePlace, freesAt}
-use Rattle.image.specs.FrameImages.{noPage, page-made}
-use Rattle.image.specs.FrameCut.{frees-none}
-use Rattle.image.specs.FrameFreed.{freed-map}
-use Rattle.image.specs.FrameMeta.{thin-free}
+use Rattle.frame.specs.Frame.{morePlace, freesAt}
+use Rattle.frame.specs.ImagesLaws.{noPage, page-made}
+use Rattle.frame.specs.CutLaws.{frees-none}
+use Rattle.frame.specs.FreedLaws.{freed-map}
+use Rattle.frame.specs.MetaLaws.{thin-free}
 use Rattle.removal.specs.declared.Freed.{Freed}
 use Rattle.removal.specs.Freeing.{freedIf, freedAt, clears, lowers, Below}
 use Rattle.removal.specs.Ending.{fieldsAfter}

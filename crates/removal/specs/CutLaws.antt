@@ -29,10 +29,10 @@ use Rattle.image.specs.declared.Meta.{Meta}
 use Rattle.image.specs.Layout.{paged, flagsOf, encodeBlock}
 use Rattle.image.specs.BoundLaws.{max-under}
 use Rattle.image.specs.PageOkLaws.{length-pageFront}
-use Rattle.image.specs.Frame.{chainBlocks, pageBlock, pageEntries, prevIn, flagsFor, pageWith}
-use Rattle.image.specs.Frame.{pairPlace, freesAt}
-use Rattle.image.specs.FrameImages.{noPage, page-made, page-block}
-use Rattle.image.specs.FrameCutPages.{thin-image}
+use Rattle.frame.specs.Frame.{chainBlocks, pageBlock, pageEntries, prevIn, flagsFor, pageWith}
+use Rattle.frame.specs.Frame.{pairPlace, freesAt}
+use Rattle.frame.specs.ImagesLaws.{noPage, page-made, page-block}
+use Rattle.frame.specs.CutPagesLaws.{thin-image}
 use Rattle.view.specs.HeldLaws.{FoundAt, findAt-at}
 use Rattle.draft.specs.Draft.{Draft, PageEdited}
 use Rattle.draft.specs.ShapeLaws.{held-page}

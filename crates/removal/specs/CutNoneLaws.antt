@@ -12,7 +12,7 @@ use Rattle.page.specs.Pair.{is}
 use Rattle.model.specs.Index.{Chain, Index, noChain, onPages, chain, entriesAt, setChain}
 use Rattle.model.specs.Pages.{without, cut}
 use Rattle.model.specs.WellFormed.{Laid}
-use Rattle.image.specs.FrameCut.{thin-none, pages-none, frees-none}
+use Rattle.frame.specs.CutLaws.{thin-none, pages-none, frees-none}
 use Rattle.removal.specs.declared.Freed.{Freed}
 use Rattle.removal.specs.Freeing.{freedIf, freedAt}
 

@@ -16,7 +16,7 @@ use Rattle.model.specs.WellFormed.{Laid}
 use Rattle.image.specs.declared.Meta.{Meta}
 use Rattle.image.specs.Layout.{flagsOf, encodeBlock}
 use Rattle.image.specs.Decode.{decode}
-use Rattle.image.specs.Frame.{mapBlock, chainBlocks, pageBlock, pageEntries, prevIn, flagsFor}
+use Rattle.frame.specs.Frame.{mapBlock, chainBlocks, pageBlock, pageEntries, prevIn, flagsFor}
 use Rattle.chain.specs.declared.Found.{Found}
 use Rattle.view.specs.Reads.{Reads}
 use Rattle.view.specs.Places.{findAt}

@@ -10,7 +10,7 @@ use Rattle.model.specs.WellFormed.{Laid}
 use Rattle.image.specs.declared.Meta.{Meta}
 use Rattle.image.specs.Layout.{noLink, metaOf, mapFront, mapBit, encodeBlock}
 use Rattle.image.specs.Decode.{decode}
-use Rattle.image.specs.Frame.{Apart, mapBlock}
+use Rattle.frame.specs.Frame.{Apart, mapBlock}
 use Rattle.draft.specs.Draft.{Listed}
 use Rattle.view.specs.Reads.{Reads}
 use Rattle.plan.specs.Shape.{Shaped}

@@ -17,7 +17,7 @@ use Rattle.model.specs.WellFormed.{Laid}
 use Rattle.image.specs.Layout.{mapBit}
 use Rattle.image.specs.BoundLaws.{top-small}
 use Rattle.image.specs.FreeLaws.{first-zero}
-use Rattle.image.specs.FrameLists.{find-hit, find-pass}
+use Rattle.frame.specs.ListsLaws.{find-hit, find-pass}
 use Rattle.removal.specs.declared.Freed.{Freed}
 use Rattle.removal.specs.Freeing.{clears, lowers}
 

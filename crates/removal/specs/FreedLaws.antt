@@ -19,8 +19,8 @@ use Rattle.image.specs.declared.Meta.{Meta}
 use Rattle.image.specs.Layout.{noLink, encodeBlock}
 use Rattle.image.specs.PagedLaws.{prev-paged, next-paged}
 use Rattle.image.specs.PageOkLaws.{length-pageFront}
-use Rattle.image.specs.Frame.{mapBlock, pageBlock, pageEntries, pageWith, morePlace, freesAt}
-use Rattle.image.specs.FrameFreed.{before-image, after-image, freed-image}
+use Rattle.frame.specs.Frame.{mapBlock, pageBlock, pageEntries, pageWith, morePlace, freesAt}
+use Rattle.frame.specs.FreedLaws.{before-image, after-image, freed-image}
 use Rattle.view.specs.ReadsLaws.{reads-sized}
 use Rattle.draft.specs.ShapeLaws.{sealed-blank}
 use Rattle.plan.specs.ShapeLaws.{shaped-sealed, shaped-prev, shaped-next}

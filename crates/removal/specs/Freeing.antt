@@ -15,8 +15,8 @@ use Rattle.store.specs.declared.Change.{Change}
 use Rattle.store.specs.Store.{prevAt, nextAt}
 use Rattle.model.specs.Index.{Page, Index, chain}
 use Rattle.image.specs.Layout.{noLink}
-use Rattle.image.specs.Frame.{morePlace, freesAt}
-use Rattle.image.specs.FrameImages.{noPage}
+use Rattle.frame.specs.Frame.{morePlace, freesAt}
+use Rattle.frame.specs.ImagesLaws.{noPage}
 use Rattle.plan.specs.Sketch.{Sketch}
 use Rattle.removal.specs.declared.Freed.{Freed}
 

@@ -21,10 +21,10 @@ use Rattle.model.specs.Pages.{thinEntries, thin, inUse}
 use Rattle.model.specs.WellFormed.{PageOk, MoreOk, ChainOk}
 use Rattle.model.specs.TallyLaws.{length-parts}
 use Rattle.model.specs.MachineLaws.{never}
-use Rattle.image.specs.Frame.{entriesAfter, placeEntries, onPage, morePlace, pairPlace, frees}
-use Rattle.image.specs.FrameImages.{noPage}
-use Rattle.image.specs.FrameLists.{getD-map}
-use Rattle.image.specs.FrameCut.{frees-none}
+use Rattle.frame.specs.Frame.{entriesAfter, placeEntries, onPage, morePlace, pairPlace, frees}
+use Rattle.frame.specs.ImagesLaws.{noPage}
+use Rattle.frame.specs.ListsLaws.{getD-map}
+use Rattle.frame.specs.CutLaws.{frees-none}
 use Rattle.removal.specs.Freeing.{emptied, freedIf}
 
 -- ---- in a page

@@ -21,7 +21,7 @@ use Rattle.model.specs.RemoveLaws.{remove-wf}
 use Rattle.model.specs.MachineLaws.{never}
 use Rattle.image.specs.declared.Meta.{Meta}
 use Rattle.image.specs.Decode.{decode}
-use Rattle.image.specs.FrameMeta.{remove-count}
+use Rattle.frame.specs.MetaLaws.{remove-count}
 use Rattle.chain.specs.declared.Found.{Found}
 use Rattle.view.specs.declared.Sources.{Sources}
 use Rattle.view.specs.Reads.{Reads}

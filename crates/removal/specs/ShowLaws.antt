@@ -27,13 +27,13 @@ use Rattle.image.specs.Layout.{noLink, paged, flagsOf, encodeBlock}
 use Rattle.image.specs.Decode.{decode}
 use Rattle.image.specs.PagedLaws.{paged-parts}
 use Rattle.image.specs.PageOkLaws.{length-pageFront}
-use Rattle.image.specs.Frame.{blockOfBit, mapBlock, chainBlocks, pageBlock, pageEntries, pageWith, placeImage}
-use Rattle.image.specs.Frame.{Apart, placeBlock, placeEntries, pairPlace, freesAt, mapBlocks, pairBlocks, pageImage}
+use Rattle.frame.specs.Frame.{blockOfBit, mapBlock, chainBlocks, pageBlock, pageEntries, pageWith, placeImage}
+use Rattle.frame.specs.Frame.{Apart, placeBlock, placeEntries, pairPlace, freesAt, mapBlocks, pairBlocks, pageImage}
 use Rattle.image.specs.EncodeLaws.{bit-inside}
-use Rattle.image.specs.FrameImages.{top-one, page-inside, page-image}
-use Rattle.image.specs.FrameCommit.{in-or-apart}
-use Rattle.image.specs.FrameRemove.{frame-cut}
-use Rattle.image.specs.FrameApart.{page-same, page-meta, page-map}
+use Rattle.frame.specs.ImagesLaws.{top-one, page-inside, page-image}
+use Rattle.frame.specs.CommitLaws.{in-or-apart}
+use Rattle.frame.specs.RemoveLaws.{frame-cut}
+use Rattle.frame.specs.ApartLaws.{page-same, page-meta, page-map}
 use Rattle.chain.specs.declared.Found.{Found}
 use Rattle.view.specs.Places.{findAt}
 use Rattle.view.specs.ReadsLaws.{reads-laid, reads-size, reads-sized, reads-max}

@@ -19,8 +19,8 @@ use Rattle.model.specs.StandLaws.{chain-there}
 use Rattle.image.specs.declared.Meta.{Meta}
 use Rattle.image.specs.Layout.{mapBit}
 use Rattle.image.specs.Decode.{decode}
-use Rattle.image.specs.Frame.{cutBlocks}
-use Rattle.image.specs.FrameRemove.{stands-once, frame-cut}
+use Rattle.frame.specs.Frame.{cutBlocks}
+use Rattle.frame.specs.RemoveLaws.{stands-once, frame-cut}
 use Rattle.view.specs.Reads.{Reads}
 use Rattle.view.specs.ReadsLaws.{reads-laid, reads-size, reads-max, reads-meta}
 use Rattle.draft.specs.Draft.{Draft}

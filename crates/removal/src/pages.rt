@@ -14,8 +14,8 @@ use page::Pair;
 use page::slots::count_entries;
 use store::Change;
 use store::block_at;
-use store::next_of;
-use store::prev_of;
+use store::next_at;
+use store::prev_at;
 use view::chains::find_in;
 ghost use mathlib.Core.Path.{_≡_};
 ghost use mathlib.Core.List.{List};
@@ -66,8 +66,8 @@ fn free_page(store: &[u8], change: Change, images: &mut [u8], k: u32) -> Change
         → Freeing (now (store .entry)) r (now (images .exit)) k d n) ⌝ }
 {
     let page = block_at(store, k as usize);
-    let prev = prev_of(page);
-    let next = next_of(page);
+    let prev = prev_at(page);
+    let next = next_at(page);
     let passed = put_next(store, change, images, prev, next);
     let linked = link_back(store, passed, images, next, prev);
     clear_block(store, linked, images, k)

@@ -5,8 +5,7 @@ use mathlib.Core.List.{List}
 use Prim.Native.Nat.{ℕ}
 use Rattle.image.specs.declared.Meta.{Meta}
 use Rattle.image.specs.Decode.{metaAt}
-use Rattle.image.specs.Rules.{rule2, rule3, rule4, rule5}
-use Rattle.image.specs.Outcomes.{lengthOk}
+use Rattle.image.specs.Rules.{rule2, rule3, rule4, rule5, lengthOk}
 
 pub record Known2 (s : List ℕ) (m : Meta) : Type 0 where
   pub whole : lengthOk s ≡ true

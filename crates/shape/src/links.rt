@@ -7,8 +7,8 @@ use chain::links::walk_chain;
 use image::Meta;
 use page::slots::count_entries;
 use store::block_at;
-use store::bucket_of;
-use store::prev_of;
+use store::bucket_at;
+use store::prev_at;
 ghost use mathlib.Core.Path.{_≡_};
 ghost use Prim.Native.Nat.{_≤_};
 ghost use Rattle.lists.specs.Lists.{tally, upFrom};
@@ -37,10 +37,10 @@ fn check_link(store: &[u8], m: Meta, b: u32, k: u32, j: u32) -> bool
         return false;
     }
     let part = block_at(store, j as usize);
-    if prev_of(part) != k {
+    if prev_at(part) != k {
         return false;
     }
-    if bucket_of(part) != b {
+    if bucket_at(part) != b {
         return false;
     }
     0 < count_entries(part)

@@ -7,11 +7,11 @@ use image::Meta;
 use model::Phase;
 use page::rule::is_zero;
 use store::block_at;
-use store::bucket_of;
-use store::flags_of;
-use store::id_of;
-use store::next_of;
-use store::prev_of;
+use store::bucket_at;
+use store::flags_at;
+use store::id_at;
+use store::next_at;
+use store::prev_at;
 ghost use mathlib.Core.Path.{_≡_};
 ghost use Prim.Native.Nat.{_≤_};
 ghost use lib.ListN.{length};
@@ -61,7 +61,7 @@ pub fn is_overflow(store: &[u8], m: Meta, k: u32) -> bool
     match role_at(m, k) {
         BlockRole::Meta => false,
         BlockRole::Bucket(_) => false,
-        BlockRole::Bit(n) => n != 0 && flags_of(block_at(store, k as usize)) == 1,
+        BlockRole::Bit(n) => n != 0 && flags_at(block_at(store, k as usize)) == 1,
         BlockRole::Unmade => false,
     }
 }
@@ -73,10 +73,10 @@ pub fn phase_of(store: &[u8], m: Meta) -> Phase
 {
     let new = m.max;
     let old = parent_of(new);
-    if flags_of(page_of(store, m, new)) == 18 {
+    if flags_at(page_of(store, m, new)) == 18 {
         return Phase::Copying { old, new };
     }
-    if flags_of(page_of(store, m, old)) == 66 {
+    if flags_at(page_of(store, m, old)) == 66 {
         return Phase::Clearing { old, new };
     }
     Phase::None
@@ -94,19 +94,19 @@ fn is_unlinked(part: &[u8], flags: u16) -> bool
     requires { ⌜ length (now part) ≡ 512 ⌝ }
     ensures { λ r. ⌜ r ≡ unlinked flags (now (part .entry)) ⌝ }
 {
-    if flags_of(part) != flags {
+    if flags_at(part) != flags {
         return false;
     }
-    if id_of(part) != 0xFF80 {
+    if id_at(part) != 0xFF80 {
         return false;
     }
-    if prev_of(part) != 0xFFFF_FFFF {
+    if prev_at(part) != 0xFFFF_FFFF {
         return false;
     }
-    if next_of(part) != 0xFFFF_FFFF {
+    if next_at(part) != 0xFFFF_FFFF {
         return false;
     }
-    bucket_of(part) == 0xFFFF_FFFF
+    bucket_at(part) == 0xFFFF_FFFF
 }
 
 // Whether the page of bucket `b` may have these flags.
@@ -129,13 +129,13 @@ fn fits_bucket(part: &[u8], max: u32, b: u32) -> bool
     if max < b {
         return is_unused(part);
     }
-    if !may_flag(max, b, flags_of(part)) {
+    if !may_flag(max, b, flags_at(part)) {
         return false;
     }
-    if id_of(part) != 0xFF80 {
+    if id_at(part) != 0xFF80 {
         return false;
     }
-    bucket_of(part) == b
+    bucket_at(part) == b
 }
 
 // The block of overflow bit `n` against its role.
@@ -146,13 +146,13 @@ fn fits_bit(part: &[u8], max: u32, n: u32) -> bool
     if n == 0 {
         return is_unlinked(part, 4);
     }
-    if flags_of(part) != 1 {
+    if flags_at(part) != 1 {
         return is_unused(part);
     }
-    if id_of(part) != 0xFF80 {
+    if id_at(part) != 0xFF80 {
         return false;
     }
-    bucket_of(part) <= max
+    bucket_at(part) <= max
 }
 
 // A block against its role.
@@ -193,7 +193,7 @@ pub fn check_roles(store: &[u8], m: Meta) -> bool
     if !check_fits(store, m) {
         return false;
     }
-    let populated = flags_of(page_of(store, m, m.max)) == 18;
-    let split = flags_of(page_of(store, m, parent_of(m.max))) == 34;
+    let populated = flags_at(page_of(store, m, m.max)) == 18;
+    let split = flags_at(page_of(store, m, parent_of(m.max))) == 34;
     populated == split
 }

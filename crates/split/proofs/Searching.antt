@@ -8,7 +8,7 @@ use native.Mathlib.Omega.{arith}
 use lib.ListN.{getD, drop}
 use Rattle.lists.specs.Lists.{find, bind}
 use Rattle.page.specs.declared.Entry.{Entry}
-use Rattle.image.specs.FrameLists.{find-left, find-right}
+use Rattle.frame.specs.ListsLaws.{find-left, find-right}
 use Rattle.chain.specs.declared.Walk.{Walk}
 use Rattle.chain.specs.Walk.{blocksOf}
 use Rattle.chain.specs.Search.{entriesOn, Within}

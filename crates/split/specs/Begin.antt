@@ -12,7 +12,7 @@ use Rattle.store.specs.Store.{trailer}
 use Rattle.model.specs.Index.{chain}
 use Rattle.image.specs.Layout.{noLink}
 use Rattle.image.specs.Decode.{decode}
-use Rattle.image.specs.Frame.{pageBlock}
+use Rattle.frame.specs.Frame.{pageBlock}
 use Rattle.plan.specs.Shape.{Shaped}
 use Rattle.plan.specs.Sketch.{Sketch}
 use Rattle.split.specs.Job.{bucketAt}

@@ -25,14 +25,14 @@ use Rattle.model.specs.Pages.{bitsOf, bitsUsed, freeBit, firstFree}
 use Rattle.model.specs.Held.{count}
 use Rattle.model.specs.Steps.{widen, begin}
 use Rattle.model.specs.WellFormed.{Laid}
-use Rattle.model.specs.Views.{Beginning, noGroup, inGroup, newGroup, begin-view}
+use Rattle.model.specs.ViewLaws.{Beginning, noGroup, inGroup, newGroup, begin-view}
 use Rattle.model.specs.TallyLaws.{any-more}
 use Rattle.model.specs.LaidLaws.{begin-laid}
 use Rattle.image.specs.declared.Meta.{Meta}
 use Rattle.image.specs.Layout.{padded, metaOf}
 use Rattle.image.specs.BoundLaws.{max-under}
 use Rattle.image.specs.EncodeLaws.{bucket-inside}
-use Rattle.image.specs.FrameBegin.{Stays, stays-group, stays-more}
+use Rattle.frame.specs.BeginLaws.{Stays, stays-group, stays-more}
 use Rattle.chain.specs.FindLaws.{isSome}
 
 module _ (x : Index) (l : Laid x) where

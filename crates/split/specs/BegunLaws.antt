@@ -21,18 +21,18 @@ use Rattle.model.specs.Index.{idle, Index, chain}
 use Rattle.model.specs.Held.{count, wanted}
 use Rattle.model.specs.Steps.{orFull, begin}
 use Rattle.model.specs.BoundLaws.{laid-size}
-use Rattle.model.specs.Views.{Beginning, begin-view}
+use Rattle.model.specs.ViewLaws.{Beginning, begin-view}
 use Rattle.model.specs.MachineLaws.{never}
 use Rattle.image.specs.declared.Meta.{Meta}
 use Rattle.image.specs.Layout.{noLink, paged, metaFront, padded, metaOf}
 use Rattle.image.specs.Decode.{decode}
 use Rattle.image.specs.BoundLaws.{length-meta}
 use Rattle.image.specs.PageOkLaws.{length-pageFront}
-use Rattle.image.specs.Frame.{pageBlock, beginBlocks}
-use Rattle.image.specs.FrameImages.{meta-image}
-use Rattle.image.specs.FrameMeta.{step-count}
-use Rattle.image.specs.FrameBegin.{frame-begin}
-use Rattle.image.specs.FrameBeginPages.{begin-new, begin-old}
+use Rattle.frame.specs.Frame.{pageBlock, beginBlocks}
+use Rattle.frame.specs.ImagesLaws.{meta-image}
+use Rattle.frame.specs.MetaLaws.{step-count}
+use Rattle.frame.specs.BeginLaws.{frame-begin}
+use Rattle.frame.specs.BeginPagesLaws.{begin-new, begin-old}
 use Rattle.draft.specs.Draft.{Draft, Edited}
 use Rattle.draft.specs.SetLaws.{read-same}
 use Rattle.draft.specs.Trim.{Trimmed}

@@ -14,12 +14,12 @@ use Rattle.model.specs.Pages.{put, cut}
 use Rattle.model.specs.Held.{count}
 use Rattle.model.specs.Steps.{next, orFull, moves, toCopy, step}
 use Rattle.model.specs.WellFormed.{WF}
-use Rattle.model.specs.Views.{movedEntry}
+use Rattle.model.specs.ViewLaws.{movedEntry}
 use Rattle.model.specs.HeldLaws.{found-stands, stands-none}
 use Rattle.model.specs.StepLaws.{step-wf}
 use Rattle.image.specs.declared.Meta.{Meta}
 use Rattle.image.specs.Decode.{decode}
-use Rattle.image.specs.FrameMeta.{step-count}
+use Rattle.frame.specs.MetaLaws.{step-count}
 use Rattle.view.specs.Reads.{Reads}
 use Rattle.view.specs.ReadsLaws.{reads-max, reads-count}
 use Rattle.split.specs.StepLaws.{step-copies, step-clears}

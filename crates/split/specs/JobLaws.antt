@@ -28,9 +28,9 @@ use Rattle.image.specs.Decode.{decode}
 use Rattle.image.specs.BoundLaws.{max-under}
 use Rattle.image.specs.PageOkLaws.{length-pageFront}
 use Rattle.image.specs.EncodeLaws.{bucket-inside}
-use Rattle.image.specs.Frame.{Apart, pageBlock}
-use Rattle.image.specs.FrameMeta.{step-meta}
-use Rattle.image.specs.FrameJob.{frame-copied, frame-cleared, job-image, flags-old, flags-done}
+use Rattle.frame.specs.Frame.{Apart, pageBlock}
+use Rattle.frame.specs.MetaLaws.{step-meta}
+use Rattle.frame.specs.JobLaws.{frame-copied, frame-cleared, job-image, flags-old, flags-done}
 use Rattle.draft.specs.Draft.{Draft, Edited}
 use Rattle.draft.specs.SetLaws.{length-put, read-same, read-other}
 use Rattle.draft.specs.Trim.{Trimmed}

@@ -45,35 +45,35 @@ pub fn put_block(store: &mut [u8], k: usize, image: &[u8])
 
 // The fields of a block's trailer.
 
-pub fn prev_of(part: &[u8]) -> u32
+pub fn prev_at(part: &[u8]) -> u32
     requires { ⌜ length (now part) ≡ 512 ⌝ }
     ensures { λ r. ⌜ r ≡ prevAt (now (part .entry)) ⌝ }
 {
     get_u32(part, 492)
 }
 
-pub fn next_of(part: &[u8]) -> u32
+pub fn next_at(part: &[u8]) -> u32
     requires { ⌜ length (now part) ≡ 512 ⌝ }
     ensures { λ r. ⌜ r ≡ nextAt (now (part .entry)) ⌝ }
 {
     get_u32(part, 496)
 }
 
-pub fn bucket_of(part: &[u8]) -> u32
+pub fn bucket_at(part: &[u8]) -> u32
     requires { ⌜ length (now part) ≡ 512 ⌝ }
     ensures { λ r. ⌜ r ≡ bucketAt (now (part .entry)) ⌝ }
 {
     get_u32(part, 500)
 }
 
-pub fn flags_of(part: &[u8]) -> u16
+pub fn flags_at(part: &[u8]) -> u16
     requires { ⌜ length (now part) ≡ 512 ⌝ }
     ensures { λ r. ⌜ r ≡ flagsAt (now (part .entry)) ⌝ }
 {
     get_u16(part, 504)
 }
 
-pub fn id_of(part: &[u8]) -> u16
+pub fn id_at(part: &[u8]) -> u16
     requires { ⌜ length (now part) ≡ 512 ⌝ }
     ensures { λ r. ⌜ r ≡ idAt (now (part .entry)) ⌝ }
 {

@@ -15,8 +15,9 @@ use Rattle.store.specs.Store.{checked}
 use Rattle.image.specs.declared.Verdict.{Verdict}
 use Rattle.image.specs.Decode.{decode}
 use Rattle.image.specs.Rules.{lowestDamaged, lowestBroken, judge, verdict}
-use Rattle.image.specs.Outcomes.{lengthOk, verdictOf}
-use Rattle.image.specs.FrameLists.{find-hit, find-pass}
+use Rattle.outcomes.specs.Outcomes.{verdictOf}
+use Rattle.image.specs.Rules.{lengthOk}
+use Rattle.frame.specs.ListsLaws.{find-hit, find-pass}
 use Rattle.verify.specs.Tests.{brokenAs}
 use Rattle.shape.specs.LoopLaws.{run-turn, run-done}
 

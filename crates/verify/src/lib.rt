@@ -16,7 +16,8 @@ use store::check_block;
 ghost use mathlib.Core.Path.{_≡_};
 ghost use mathlib.Core.Bool.{true};
 ghost use Rattle.image.specs.Rules.{rule1, lowestBroken, verdict};
-ghost use Rattle.image.specs.Outcomes.{lengthOk, verdictOf, verifyOutcome};
+ghost use Rattle.outcomes.specs.Outcomes.{verdictOf, verifyOutcome};
+ghost use Rattle.image.specs.Rules.{lengthOk};
 ghost use Rattle.shape.specs.Known.{Known2};
 ghost use Rattle.verify.specs.Tests.{brokenAs};
 

@@ -15,13 +15,13 @@ use Rattle.model.specs.Index.{Page, Chain, Index, chain, entriesAt}
 use Rattle.image.specs.declared.Meta.{Meta}
 use Rattle.image.specs.Layout.{noLink, encode}
 use Rattle.image.specs.Decode.{maxAt, blockOf, trail, readPage, readChain, decode}
-use Rattle.image.specs.Frame.{blockOfBit, blocksAfter, chainBlocks, pageBlock, placeEntries, pageEntries}
+use Rattle.frame.specs.Frame.{blockOfBit, blocksAfter, chainBlocks, pageBlock, placeEntries, pageEntries}
 use Rattle.lists.specs.TestLaws.{each-all}
-use Rattle.image.specs.EncodePages.{max-encode}
-use Rattle.image.specs.EncodeDecode.{trail-encode}
-use Rattle.image.specs.EncodeChains.{pagesRule, pages-encode}
-use Rattle.image.specs.FrameLists.{getD-map}
-use Rattle.image.specs.FrameImages.{page-inside}
+use Rattle.image.specs.EncodePagesLaws.{max-encode}
+use Rattle.image.specs.EncodeDecodeLaws.{trail-encode}
+use Rattle.image.specs.EncodeChainsLaws.{pagesRule, pages-encode}
+use Rattle.frame.specs.ListsLaws.{getD-map}
+use Rattle.frame.specs.ImagesLaws.{page-inside}
 use Rattle.chain.specs.declared.Walk.{Walk}
 use Rattle.chain.specs.Walk.{walk, blocksOf, Walked}
 use Rattle.chain.specs.WalkLaws.{walk-trail}

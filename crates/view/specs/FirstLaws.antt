@@ -8,7 +8,7 @@ use native.Mathlib.Omega.{arith}
 use lib.ListN.{length, getD}
 use lib.Seq.{drop-cons}
 use Rattle.lists.specs.Lists.{any, find}
-use Rattle.image.specs.Frame.{firstPlace}
+use Rattle.frame.specs.Frame.{firstPlace}
 
 -- a place of the list whatever the default
 pub getD-default : {A : Type 0} (xs : List A) (i : ℕ) (d e : A) → i < length xs → getD xs i d ≡ getD xs i e

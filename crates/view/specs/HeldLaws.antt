@@ -13,7 +13,7 @@ use Rattle.model.specs.Held.{sources, held}
 use Rattle.model.specs.WellFormed.{unmovedAt, movedAt, WF}
 use Rattle.model.specs.HeldIn.{heldNo, heldIn}
 use Rattle.model.specs.HeldLaws.{is-parts, stands-none, held-is}
-use Rattle.image.specs.Frame.{pageBlock, pageEntries, pairPlace}
+use Rattle.frame.specs.Frame.{pageBlock, pageEntries, pairPlace}
 use Rattle.chain.specs.declared.Found.{Found}
 use Rattle.chain.specs.Search.{isFound}
 use Rattle.view.specs.declared.Sources.{Sources}

@@ -12,7 +12,7 @@ use Rattle.page.specs.Pair.{is}
 use Rattle.page.specs.Entries.{placeOf}
 use Rattle.model.specs.Index.{Job, idle, copying, clearing, Index, chain, entriesAt, newBucket, oldBucket}
 use Rattle.model.specs.Pages.{chainRoom}
-use Rattle.image.specs.Frame.{chainBlocks, pageBlock, pageEntries, pairPlace, roomPlace, lastPlace}
+use Rattle.frame.specs.Frame.{chainBlocks, pageBlock, pageEntries, pairPlace, roomPlace, lastPlace}
 use Rattle.chain.specs.declared.Walk.{Walk}
 use Rattle.chain.specs.declared.Found.{Found}
 use Rattle.chain.specs.declared.Room.{Room}

@@ -22,13 +22,12 @@ use Rattle.model.specs.WellFormed.{WF, Laid}
 use Rattle.image.specs.declared.Meta.{Meta}
 use Rattle.image.specs.Layout.{metaOf, encode}
 use Rattle.image.specs.Decode.{metaAt, maxAt, pointAt, sparesAt, blockOf, jobFrom, decode}
-use Rattle.image.specs.Rules.{sound, verdict}
-use Rattle.image.specs.Outcomes.{lengthOk}
+use Rattle.image.specs.Rules.{sound, verdict, lengthOk}
 use Rattle.image.specs.BoundLaws.{max-small, max-under}
 use Rattle.image.specs.EncodeLaws.{bucket-inside, lengthOk-encode}
-use Rattle.image.specs.EncodePages.{meta-encode}
-use Rattle.image.specs.EncodeDecode.{decode-encode}
-use Rattle.image.specs.Bridge.{sound-is-encoding}
+use Rattle.image.specs.EncodePagesLaws.{meta-encode}
+use Rattle.image.specs.EncodeDecodeLaws.{decode-encode}
+use Rattle.image.specs.BridgeTheorem.{sound-is-encoding}
 use Rattle.chain.specs.Walk.{Sized}
 use Rattle.chain.specs.WalkLaws.{lengthOk-sized}
 use Rattle.view.specs.Reads.{Reads, phaseOf}

@@ -9,7 +9,7 @@ use chain::search::first_room;
 use image::Meta;
 use page::Pair;
 use store::block_at;
-use store::flags_of;
+use store::flags_at;
 ghost use mathlib.Core.Path.{_≡_};
 ghost use Prim.Native.Nat.{_≤_};
 ghost use Rattle.lists.specs.Block.{block};
@@ -31,7 +31,7 @@ pub fn bucket_flags(store: &[u8], m: Meta, b: u32) -> u16
     requires { ⌜ (Reads (now store) m) × (b ≤ m .max) ⌝ }
     ensures { λ r. ⌜ r ≡ flagsAt (block (now (store .entry)) (blockOf (now (store .entry)) b)) ⌝ }
 {
-    flags_of(bucket_page(store, m, b))
+    flags_at(bucket_page(store, m, b))
 }
 
 // The blocks of bucket `b`'s chain.

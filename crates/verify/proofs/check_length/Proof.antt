@@ -5,7 +5,7 @@ use borrow.Author.Tests.{eq-eqb, ne-eqb, le-leb, lt-leb}
 use lib.Dec.{eqb, leb}
 use lib.ListN.{length}
 use Rattle.lists.specs.Block.{blocks}
-use Rattle.image.specs.Outcomes.{lengthOk}
+use Rattle.image.specs.Rules.{lengthOk}
 use Rattle.verify.proofs.check_length.Statement.{statement}
 use Rattle.verify.proofs.check_length.Tie as tie
 

@@ -9,8 +9,7 @@ use lib.ListN.{length}
 use Rattle.lists.specs.Block.{blocks, block}
 use Rattle.lists.specs.BlockLaws.{length-block}
 use Rattle.image.specs.Decode.{readMeta, metaAt}
-use Rattle.image.specs.Rules.{frontOk, metaOk, rule1, rule2, rules, lowestBroken}
-use Rattle.image.specs.Outcomes.{lengthOk}
+use Rattle.image.specs.Rules.{frontOk, metaOk, rule1, rule2, rules, lowestBroken, lengthOk}
 use Rattle.chain.specs.WalkLaws.{lengthOk-sized}
 use Rattle.verify.proofs.Judging.{first-whole}
 use Rattle.verify.proofs.judge_rules.Statement.{statement}

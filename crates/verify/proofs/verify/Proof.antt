@@ -2,7 +2,8 @@ use mathlib.Core.Path.{_≡_, sym, ap, _∙_}
 use mathlib.Core.Bool.{true, false}
 use borrow.Author.Needs.{needs}
 use borrow.Author.Tests.{not-true, not-false}
-use Rattle.image.specs.Outcomes.{lengthOk, verifyOutcome}
+use Rattle.outcomes.specs.Outcomes.{verifyOutcome}
+use Rattle.image.specs.Rules.{lengthOk}
 use Rattle.verify.proofs.verify.Statement.{statement}
 use Rattle.verify.proofs.verify.Tie as tie
 

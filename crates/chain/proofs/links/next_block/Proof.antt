@@ -11,12 +11,12 @@ use Rattle.chain.proofs.links.next_block.Tie as tie
 block-at-requires : tie.Need-block-at-requires
 block-at-requires c κs = omega arith
 
-next-of-requires : tie.Need-next-of-requires
-next-of-requires c κs =
+next-at-requires : tie.Need-next-at-requires
+next-at-requires c κs =
     ap length (c .block-at .ensures) ∙ length-block _ _ (omega arith)
 
 returns : tie.Need-returns
-returns c = c .next-of .ensures ∙ ap nextAt (c .before .block-at .ensures)
+returns c = c .next-at .ensures ∙ ap nextAt (c .before .block-at .ensures)
 
 returns-2 : tie.Need-returns-2
 unfolding blocks
@@ -25,4 +25,4 @@ returns-2 c =
     sym (next-past (s .args .store .now) (s .args .k) (c .if1 .left) (s .pre .whole))
 
 pub next-block-spec : {M : Type 1} → statement M
-next-block-spec = tie.close (tie.spec block-at-requires next-of-requires returns returns-2)
+next-block-spec = tie.close (tie.spec block-at-requires next-at-requires returns returns-2)

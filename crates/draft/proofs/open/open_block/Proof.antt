@@ -21,7 +21,7 @@ listed-at : (c : tie.After-place)
 listed-at c =
     let a = c .before .before .before .before .before .args in
     subst (PlaceOf (a .change .numbers) (a .change .count) (a .k)) (c .place .given .1)
-    (c .before .before .find-place .ensures)
+    (c .before .before .find-image .ensures)
 
 -- the place at which it is put in
 absent-at : (c : tie.After-place2)
@@ -31,7 +31,7 @@ absent-at : (c : tie.After-place2)
 absent-at c =
     let a = c .before .before .before .before .before .args in
     subst (PlaceOf (a .change .numbers) (a .change .count) (a .k)) (c .place2 .given .1)
-    (c .before .before .find-place .ensures)
+    (c .before .before .find-image .ensures)
 
 few : (c : tie.After-place2) → c .before .before .before .before .before .args .change .count < 8
 few c =
@@ -39,8 +39,8 @@ few c =
     let a = s .args in
     room-absent (s .pre .1 .draft) (a .k) (c .place2 .given .0 .0) (absent-at c) (s .pre .1 .room)
 
-find-place-requires : tie.Need-find-place-requires
-find-place-requires c κs = search needs
+find-image-requires : tie.Need-find-image-requires
+find-image-requires c κs = search needs
 
 enum-known-place : tie.Need-enum-known-place
 enum-known-place c = search needs
@@ -125,7 +125,7 @@ pub open-block-spec : {M : Type 1} → statement M
 open-block-spec =
     tie.close
     (tie.spec
-    find-place-requires
+    find-image-requires
     enum-known-place
     enum-known-place-2
     shift-images-requires

@@ -64,22 +64,22 @@ block-at-requires c κs = inside c
 block-at-requires-2 : tie.Need-block-at-requires-2 Inv-loop μ-loop
 block-at-requires-2 c κs = image-inside (c .before .before)
 
-is-same-requires : tie.Need-is-same-requires Inv-loop μ-loop
-is-same-requires c κs =
+same-bytes-requires : tie.Need-same-bytes-requires Inv-loop μ-loop
+same-bytes-requires c κs =
     let m = c .before .before .before in
     let s = m .before .before .before .before .before .before in (
       ap length (c .before .before .block-at .ensures) ∙ length-block (s .args .store .now) _ (inside m),
       ap length (c .block-at2 .ensures) ∙ length-block (m .before .loop .images) (m .before .loop .i) (image-inside m),
     )
 
-tested : (c : tie.After-is-same Inv-loop μ-loop) → c .is-same .result
+tested : (c : tie.After-same-bytes Inv-loop μ-loop) → c .same-bytes .result
     ≡ stands (c .before .before .before .before .before .before .before .before .before .before .args .store .now)
     (c .before .before .before .before .before .before .before .before .before .before .args .change .numbers)
     (c .before .before .before .before .before .before .before .before .before .before .args .images .now)
     (c .before .before .before .before .before .loop .i)
 tested c =
     let l = c .before .before .before .before .before .loop in
-    c .is-same .ensures
+    c .same-bytes .ensures
     ∙ ap₂ (λ (x y : List ℕ). alike (covered x) (covered y)) (c .before .before .before .block-at .ensures)
     (c .before .block-at2 .ensures
     ∙ l .inv .1 .rest (l .i) (omega arith) (c .before .before .before .before .loop-test .taken))
@@ -108,13 +108,13 @@ loop-again c =
       omega arith,
       rw (w .5, w .6)
           (sort-keep (a .images .now) (s .pre .0) small (l .inv .1) (w .2 .last .1 .0)
-          (sym (tested m) ∙ not-yes (m .is-same .result) (w .0 .taken)) (w .2 .ensures .0) (w .2 .ensures .1)),
+          (sym (tested m) ∙ not-yes (m .same-bytes .result) (w .0 .taken)) (w .2 .ensures .0) (w .2 .ensures .1)),
     ))
     (λ w. (
       omega arith,
       rw (w .1, w .2)
           (sort-drop (a .images .now) (s .pre .0) small (l .inv .1)
-          (sym (tested m) ∙ not-false (m .is-same .result) (w .0 .left))),
+          (sym (tested m) ∙ not-false (m .same-bytes .result) (w .0 .left))),
     ))
     (c .if1 .came)
 
@@ -141,7 +141,7 @@ drop-unchanged-spec =
     cast-block-at
     block-at-requires
     block-at-requires-2
-    is-same-requires
+    same-bytes-requires
     keep-image-requires
     add-i
     loop-less

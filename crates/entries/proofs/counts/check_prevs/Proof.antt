@@ -23,9 +23,9 @@ Inv-loop store m max b₀ b = (b ≤ suc (maxAt store)) × (left (prevOk store) 
 abbrev μ-loop : tie.MeasureT-loop
 μ-loop store m max b₀ b = max + 1 - b
 
-prev : (c : tie.After-last-split Inv-loop μ-loop) → c .before .prev-of .result
+prev : (c : tie.After-last-split Inv-loop μ-loop) → c .before .prev-at .result
     ≡ prevAt (block (c .before .before .before .before .before .before .args .store .now) (blockOf (c .before .before .before .before .before .before .args .store .now) (c .before .before .before .before .loop .b)))
-prev c = c .before .prev-of .ensures ∙ ap prevAt (c .before .before .page-of .ensures)
+prev c = c .before .prev-at .ensures ∙ ap prevAt (c .before .before .page-of .ensures)
 
 last : (c : tie.After-last-split Inv-loop μ-loop)
     → c .last-split .result ≡ lastSplit (maxAt (c .before .before .before .before .before .before .args .store .now)) (c .before .before .before .before .loop .b)
@@ -42,8 +42,8 @@ loop-holds c = let s = c .before .args .store .now in (omega arith, left-start (
 page-of-requires : tie.Need-page-of-requires Inv-loop μ-loop
 page-of-requires c κs = (c .before .before .before .pre, c .loop-test .taken)
 
-prev-of-requires : tie.Need-prev-of-requires Inv-loop μ-loop
-prev-of-requires c κs =
+prev-at-requires : tie.Need-prev-at-requires Inv-loop μ-loop
+prev-at-requires c κs =
     let l = c .before .before in
     page-full (l .before .before .pre) (c .page-of .result .now) (l .loop .b) (c .page-of .ensures) (c .before .loop-test .taken)
 
@@ -90,7 +90,7 @@ check-prevs-spec =
     μ-loop
     loop-holds
     page-of-requires
-    prev-of-requires
+    prev-at-requires
     last-split-requires
     returns
     add-b

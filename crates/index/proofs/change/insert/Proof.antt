@@ -6,7 +6,7 @@ use Rattle.lists.specs.Bytes.{Bytes}
 use Rattle.page.specs.declared.Pair.{Pair}
 use Rattle.model.specs.Calls.{pairOk}
 use Rattle.image.specs.Decode.{decode}
-use Rattle.image.specs.Outcomes.{Changed, passed, failed, tested}
+use Rattle.outcomes.specs.Outcomes.{Changed, passed, failed, tested}
 use Rattle.index.specs.declared.Test.{Test}
 use Rattle.index.specs.Tested.{testOf}
 use Rattle.index.specs.TestedLaws.{fails, passes-numbers, passes-call, passes-index, passes-sound}

@@ -1,7 +1,7 @@
 use mathlib.Core.Path.{sym, ap, _∙_}
 use native.Mathlib.Omega.{arith}
-use Rattle.image.specs.Format.{formatBlock}
-use Rattle.image.specs.FormatLaws.{format-unused}
+use Rattle.outcomes.specs.Format.{formatBlock}
+use Rattle.outcomes.specs.FormatLaws.{format-unused}
 use Rattle.index.proofs.Bodies.{sealed-zeros}
 use borrow.Author.Needs.{needs}
 use Rattle.index.proofs.format.build_body.Statement.{statement}

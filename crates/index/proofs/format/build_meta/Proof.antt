@@ -6,7 +6,7 @@ use lib.Seq.{sets}
 use Rattle.endian.specs.Endian.{le16, le32}
 use Rattle.store.specs.Store.{trailer, sealed}
 use Rattle.image.specs.Layout.{noLink, metaFront}
-use Rattle.image.specs.Format.{formatMeta}
+use Rattle.outcomes.specs.Format.{formatMeta}
 use Rattle.index.proofs.Bodies.{sealed-trailer}
 use borrow.Author.Needs.{needs}
 use Rattle.index.proofs.format.build_meta.Statement.{statement}

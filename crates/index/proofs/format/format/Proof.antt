@@ -6,8 +6,9 @@ use lib.Dec.{leb}
 use Rattle.lists.specs.ListsLaws.{and-right}
 use Rattle.lists.specs.Block.{blocks}
 use Rattle.model.specs.Calls.{fillOk}
-use Rattle.image.specs.Outcomes.{lengthOk, formatOutcome}
-use Rattle.image.specs.FormatLaws.{format-bytes}
+use Rattle.outcomes.specs.Outcomes.{formatOutcome}
+use Rattle.image.specs.Rules.{lengthOk}
+use Rattle.outcomes.specs.FormatLaws.{format-bytes}
 use Rattle.chain.specs.WalkLaws.{lengthOk-sized}
 use borrow.Author.Needs.{needs}
 use Rattle.index.proofs.format.format.Statement.{statement}

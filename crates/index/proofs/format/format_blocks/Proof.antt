@@ -3,7 +3,7 @@ use Prim.Native.Nat.{ℕ, _-_, _≤_, _<_}
 use native.Mathlib.Omega.{arith}
 use lib.ListN.{length}
 use Rattle.lists.specs.Block.{blocks, block}
-use Rattle.image.specs.Format.{formatBlock}
+use Rattle.outcomes.specs.Format.{formatBlock}
 use Rattle.index.proofs.Blocks.{turn, written, length-formatBlock}
 use Rattle.index.proofs.format.format_blocks.Statement.{statement}
 use Rattle.index.proofs.format.format_blocks.Tie as tie

@@ -4,7 +4,7 @@ use native.Mathlib.Omega.{arith}
 use lib.ListN.{length}
 use borrow.Author.Needs.{needs}
 use Rattle.lists.specs.BlockLaws.{length-block}
-use Rattle.image.specs.Outcomes.{standingOn, standingOutcome}
+use Rattle.outcomes.specs.Outcomes.{standingOn, standingOutcome}
 use Rattle.model.specs.declared.StandingAnswer.{StandingAnswer}
 use Rattle.image.specs.Decode.{readMeta}
 use Rattle.index.specs.TestedLaws.{Passes, passes, fails, passes-room}

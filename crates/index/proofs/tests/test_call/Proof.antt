@@ -4,7 +4,8 @@ use mathlib.Core.List.{List}
 use Prim.Native.Nat.{ℕ}
 use borrow.Author.Needs.{needs}
 use Rattle.image.specs.Rules.{verdict}
-use Rattle.image.specs.Outcomes.{lengthOk, testedIn, tested}
+use Rattle.outcomes.specs.Outcomes.{testedIn, tested}
+use Rattle.image.specs.Rules.{lengthOk}
 use Rattle.index.specs.declared.Test.{Test}
 use Rattle.index.specs.Tested.{testOf}
 use Rattle.index.proofs.tests.test_call.Statement.{statement}

@@ -3,7 +3,7 @@ use native.Mathlib.Omega.{arith}
 use borrow.Author.Needs.{needs}
 use Rattle.lists.specs.Bytes.{Bytes}
 use Rattle.model.specs.Calls.{budgetOk}
-use Rattle.image.specs.Outcomes.{WorkDone, tested}
+use Rattle.outcomes.specs.Outcomes.{WorkDone, tested}
 use Rattle.index.specs.declared.Test.{Test}
 use Rattle.index.specs.Tested.{testOf}
 use Rattle.index.specs.TestedLaws.{fails, passes-call, passes-index, passes-sound}

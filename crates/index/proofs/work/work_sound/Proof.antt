@@ -4,7 +4,7 @@ use native.Mathlib.Omega.{arith}
 use borrow.Author.Needs.{needs}
 use lib.ListN.{length}
 use Rattle.model.specs.Steps.{iterate}
-use Rattle.image.specs.Outcomes.{stepOutcome}
+use Rattle.outcomes.specs.Outcomes.{stepOutcome}
 use Rattle.index.specs.Sound.{Sound}
 use Rattle.index.specs.SoundLaws.{Working, working-next, working-stop, working-spent, working-none}
 use Rattle.index.proofs.work.work_sound.Statement.{statement}

@@ -3,8 +3,8 @@ use borrow.Author.Needs.{needs}
 use native.Mathlib.Omega.{arith}
 use Rattle.lists.specs.Block.{block}
 use Rattle.image.specs.Decode.{decode}
-use Rattle.image.specs.Frame.{mapBlock}
-use Rattle.image.specs.FrameImages.{top-one}
+use Rattle.frame.specs.Frame.{mapBlock}
+use Rattle.frame.specs.ImagesLaws.{top-one}
 use Rattle.chain.specs.Bitmap.{lowestFree}
 use Rattle.view.specs.ReadsLaws.{reads-laid, reads-size, reads-whole, reads-block}
 use Rattle.plan.specs.StoreLaws.{map-inside}

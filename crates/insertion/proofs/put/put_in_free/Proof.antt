@@ -4,8 +4,8 @@ use native.Mathlib.Omega.{arith}
 use borrow.Author.Needs.{needs}
 use Rattle.lists.specs.Block.{blocks, block}
 use Rattle.image.specs.Decode.{decode}
-use Rattle.image.specs.Frame.{blockOfBit, mapBlock}
-use Rattle.image.specs.FrameImages.{top-one}
+use Rattle.frame.specs.Frame.{blockOfBit, mapBlock}
+use Rattle.frame.specs.ImagesLaws.{top-one}
 use Rattle.view.specs.ReadsLaws.{reads-laid, reads-sized, reads-size, reads-whole, reads-block}
 use Rattle.plan.specs.StoreLaws.{map-inside}
 use Rattle.plan.specs.FieldLaws.{point-low, read-top, read-bit, bit-fits}

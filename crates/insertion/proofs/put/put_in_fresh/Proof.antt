@@ -6,7 +6,7 @@ use lib.ListN.{getD, set}
 use Rattle.model.specs.Index.{topBit}
 use Rattle.image.specs.Decode.{decode}
 use Rattle.image.specs.BoundLaws.{top-small}
-use Rattle.image.specs.Frame.{blockOfBit}
+use Rattle.frame.specs.Frame.{blockOfBit}
 use Rattle.view.specs.ReadsLaws.{reads-laid, reads-sized, reads-size}
 use Rattle.plan.specs.FieldLaws.{point-low, read-top, read-made}
 use Rattle.insertion.specs.LinkLaws.{linked-at, last-under}

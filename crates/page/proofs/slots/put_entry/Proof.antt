@@ -32,8 +32,8 @@ put-u16-requires c κs = omega arith
 add-put-u16-2 : tie.Need-add-put-u16-2
 add-put-u16-2 c = omega arith
 
-flags-of-requires : tie.Need-flags-of-requires
-flags-of-requires c κs = omega arith
+entry-flags-requires : tie.Need-entry-flags-requires
+entry-flags-requires c κs = omega arith
 
 put-u16-requires-2 : tie.Need-put-u16-requires-2
 put-u16-requires-2 c κs = omega arith
@@ -53,7 +53,7 @@ returns c =
     let l₂ = second .put-u322 .ensures ∙ ap (λ (l : List ℕ). sets l (at + 4) (le32 (a .e .pair .block))) (first .put-u32 .ensures) in
     let l₃ = third .put-u16 .ensures ∙ ap (λ (l : List ℕ). sets l (at + 8) (le16 (a .e .pair .offset))) l₂ in
     fourth .put-u162 .ensures
-    ∙ ap₂ (λ (l : List ℕ) (v : ℕ). sets l (at + 10) (le16 v)) l₃ (flags .flags-of .ensures)
+    ∙ ap₂ (λ (l : List ℕ) (v : ℕ). sets l (at + 10) (le16 v)) l₃ (flags .entry-flags .ensures)
     ∙ sets-encodeEntry (a .p .now) at (a .e)
 
 pub put-entry-spec : {M : Type 1} → statement M
@@ -68,7 +68,7 @@ put-entry-spec =
     add-put-u16
     put-u16-requires
     add-put-u16-2
-    flags-of-requires
+    entry-flags-requires
     put-u16-requires-2
     same-length
     returns)

@@ -3,7 +3,7 @@ use native.Mathlib.Omega.{arith}
 use borrow.Author.Needs.{needs}
 use Rattle.model.specs.Index.{Index}
 use Rattle.image.specs.Decode.{decode}
-use Rattle.image.specs.Frame.{mapBlock}
+use Rattle.frame.specs.Frame.{mapBlock}
 use Rattle.view.specs.ReadsLaws.{reads-laid}
 use Rattle.plan.specs.StoreLaws.{map-inside}
 use Rattle.removal.specs.Ending.{fieldsAfter, Ending}

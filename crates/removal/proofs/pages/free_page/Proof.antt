@@ -22,20 +22,20 @@ full c =
     ap length (c .block-at .ensures)
     ∙ length-block (s .args .store .now) (s .args .k) (omega (arith, a .inside, a .sketch .draft .whole))
 
-prev-of-requires : tie.Need-prev-of-requires
-prev-of-requires c κs = full c
+prev-at-requires : tie.Need-prev-at-requires
+prev-at-requires c κs = full c
 
-next-of-requires : tie.Need-next-of-requires
-next-of-requires c κs = full (c .before)
+next-at-requires : tie.Need-next-at-requires
+next-at-requires c κs = full (c .before)
 
 -- the links of the page
-prev-is : (c : tie.After-next-of) → prevAt (block (c .before .before .before .before .before .args .store .now)
-    (c .before .before .before .before .before .args .k)) ≡ c .before .prev-of .result
-prev-is c = sym (c .before .prev-of .ensures ∙ ap prevAt (c .before .before .block-at .ensures))
+prev-is : (c : tie.After-next-at) → prevAt (block (c .before .before .before .before .before .args .store .now)
+    (c .before .before .before .before .before .args .k)) ≡ c .before .prev-at .result
+prev-is c = sym (c .before .prev-at .ensures ∙ ap prevAt (c .before .before .block-at .ensures))
 
-next-is : (c : tie.After-next-of) → nextAt (block (c .before .before .before .before .before .args .store .now)
-    (c .before .before .before .before .before .args .k)) ≡ c .next-of .result
-next-is c = sym (c .next-of .ensures ∙ ap nextAt (c .before .before .block-at .ensures))
+next-is : (c : tie.After-next-at) → nextAt (block (c .before .before .before .before .before .args .store .now)
+    (c .before .before .before .before .before .args .k)) ≡ c .next-at .result
+next-is c = sym (c .next-at .ensures ∙ ap nextAt (c .before .before .block-at .ensures))
 
 put-next-requires : tie.Need-put-next-requires
 put-next-requires c κs =
@@ -77,8 +77,8 @@ free-page-spec =
     tie.close
     (tie.spec
     block-at-requires
-    prev-of-requires
-    next-of-requires
+    prev-at-requires
+    next-at-requires
     put-next-requires
     link-back-requires
     clear-block-requires

@@ -29,7 +29,7 @@ back : (c : tie.Else2)
     (c .before .before .before .before .before .before .args .j))) (c .before .before .before .before .before .before .args .k) ≡ true
 back c =
     let b = c .before .before in
-    eq-eqb _ _ (sym (c .before .prev-of .ensures ∙ ap prevAt (b .block-at .ensures)) ∙ c .if2 .left)
+    eq-eqb _ _ (sym (c .before .prev-at .ensures ∙ ap prevAt (b .block-at .ensures)) ∙ c .if2 .left)
 
 is-overflow-requires : tie.Need-is-overflow-requires
 is-overflow-requires c κs = c .before .pre
@@ -46,27 +46,27 @@ block-at-requires c κs =
     let s = c .before .before .before in
     block-whole (s .pre) (s .args .j) (overflow-inside (s .pre) (s .args .j) (page c))
 
-prev-of-requires : tie.Need-prev-of-requires
-prev-of-requires c κs = ap length (c .block-at .ensures) ∙ full (c .before)
+prev-at-requires : tie.Need-prev-at-requires
+prev-at-requires c κs = ap length (c .block-at .ensures) ∙ full (c .before)
 
 returns-2 : tie.Need-returns-2
 returns-2 c =
     let b = c .before .before in
     let a = b .before .before .before .before .args in
-    let prev = c .before .prev-of .ensures ∙ ap prevAt (b .block-at .ensures) in
+    let prev = c .before .prev-at .ensures ∙ ap prevAt (b .block-at .ensures) in
     let other : eqb (prevAt (block (a .store .now) (a .j))) (a .k) ≡ false =
     ne-eqb (prevAt (block (a .store .now) (a .j))) (a .k) (λ e. c .if2 .taken (prev ∙ e)) in
     rw (page (b .before), other)
 
-bucket-of-requires : tie.Need-bucket-of-requires
-bucket-of-requires c κs = ap length (c .before .before .block-at .ensures) ∙ full (c .before .before .before)
+bucket-at-requires : tie.Need-bucket-at-requires
+bucket-at-requires c κs = ap length (c .before .before .block-at .ensures) ∙ full (c .before .before .before)
 
 returns-3 : tie.Need-returns-3
 returns-3 c =
     let e = c .before .before in
     let b = e .before .before in
     let a = b .before .before .before .before .args in
-    let bucket = c .before .bucket-of .ensures ∙ ap bucketAt (b .block-at .ensures) in
+    let bucket = c .before .bucket-at .ensures ∙ ap bucketAt (b .block-at .ensures) in
     let other : eqb (bucketAt (block (a .store .now) (a .j))) (a .b) ≡ false =
     ne-eqb (bucketAt (block (a .store .now) (a .j))) (a .b) (λ q. c .if3 .taken (bucket ∙ q)) in
     rw (page (b .before), back e, other)
@@ -81,7 +81,7 @@ returns-4 c =
     let e = f .before .before in
     let b = e .before .before in
     let a = b .before .before .before .before .args in
-    let bucket = f .before .bucket-of .ensures ∙ ap bucketAt (b .block-at .ensures) in
+    let bucket = f .before .bucket-at .ensures ∙ ap bucketAt (b .block-at .ensures) in
     let own : eqb (bucketAt (block (a .store .now) (a .j))) (a .b) ≡ true =
     eq-eqb (bucketAt (block (a .store .now) (a .j))) (a .b) (sym bucket ∙ f .if3 .left) in
     rw (page (b .before), back e, own)
@@ -94,9 +94,9 @@ check-link-spec =
     is-overflow-requires
     returns
     block-at-requires
-    prev-of-requires
+    prev-at-requires
     returns-2
-    bucket-of-requires
+    bucket-at-requires
     returns-3
     count-entries-requires
     returns-4)

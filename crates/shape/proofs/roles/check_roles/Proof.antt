@@ -32,8 +32,8 @@ returns c =
 page-of-requires : tie.Need-page-of-requires
 page-of-requires c κs = search needs
 
-flags-of-requires : tie.Need-flags-of-requires
-flags-of-requires c κs =
+flags-at-requires : tie.Need-flags-at-requires
+flags-at-requires c κs =
     let s = c .before .before .before .before in
     page-full (s .pre) (c .page-of .result .now) (s .args .m .max) (c .page-of .ensures) (omega arith)
 
@@ -43,8 +43,8 @@ parent-of-requires c κs = search needs
 page-of-requires-2 : tie.Need-page-of-requires-2
 page-of-requires-2 c κs = (c .before .before .before .before .before .before .pre, low c)
 
-flags-of-requires-2 : tie.Need-flags-of-requires-2
-flags-of-requires-2 c κs =
+flags-at-requires-2 : tie.Need-flags-at-requires-2
+flags-at-requires-2 c κs =
     let p = c .before in
     let s = p .before .before .before .before .before .before in
     page-full (s .pre) (c .page-of2 .result .now) (p .parent-of .result) (c .page-of2 .ensures) (low p)
@@ -56,11 +56,11 @@ returns-2 c =
     let e = p .before .before .before in
     let f = e .before .check-fits in
     let s = e .before .before .before in
-    let new : p .before .flags-of .result ≡ newFlags (s .args .store .now) =
-    p .before .flags-of .ensures
+    let new : p .before .flags-at .result ≡ newFlags (s .args .store .now) =
+    p .before .flags-at .ensures
     ∙ new-flags (s .pre) (p .before .before .page-of .result .now) (s .args .m .max) (p .before .before .page-of .ensures) refl in
-    let old : c .flags-of2 .result ≡ oldFlags (s .args .store .now) =
-    c .flags-of2 .ensures
+    let old : c .flags-at2 .result ≡ oldFlags (s .args .store .now) =
+    c .flags-at2 .ensures
     ∙ old-flags (s .pre) (c .before .page-of2 .result .now) (p .parent-of .result) (c .before .page-of2 .ensures) (p .parent-of .ensures) in
     ap₂ (λ (x y : ℕ). Bool·beq (eqb x 18) (eqb y 34)) new old
     ∙ ap (λ (b : Bool). b && Bool·beq (eqb (newFlags (s .args .store .now)) 18) (eqb (oldFlags (s .args .store .now)) 34))
@@ -73,8 +73,8 @@ check-roles-spec =
     check-fits-requires
     returns
     page-of-requires
-    flags-of-requires
+    flags-at-requires
     parent-of-requires
     page-of-requires-2
-    flags-of-requires-2
+    flags-at-requires-2
     returns-2)

@@ -16,8 +16,8 @@ returns c =
     let a = c .before .before .before .args in
     c .is-unlinked .ensures ∙ sym (fits-first (a .max) (a .part .now) (a .n) (c .before .if1 .taken))
 
-flags-of-requires : tie.Need-flags-of-requires
-flags-of-requires c κs = search needs
+flags-at-requires : tie.Need-flags-at-requires
+flags-at-requires c κs = search needs
 
 is-unused-requires : tie.Need-is-unused-requires
 is-unused-requires c κs = search needs
@@ -27,11 +27,11 @@ returns-2 c =
     let t = c .before in
     let e₁ = t .before .before in
     let a = e₁ .before .before .args in
-    let odd = ne-eqb (flagsAt (a .part .now)) 1 (λ e. t .if2 .taken (t .before .flags-of .ensures ∙ e)) in
+    let odd = ne-eqb (flagsAt (a .part .now)) 1 (λ e. t .if2 .taken (t .before .flags-at .ensures ∙ e)) in
     c .is-unused .ensures ∙ sym (fits-later (a .max) (a .part .now) (a .n) (e₁ .if1 .left) ∙ rw odd)
 
-id-of-requires : tie.Need-id-of-requires
-id-of-requires c κs = search needs
+id-at-requires : tie.Need-id-at-requires
+id-at-requires c κs = search needs
 
 returns-3 : tie.Need-returns-3
 returns-3 c =
@@ -39,11 +39,11 @@ returns-3 c =
     let e₁ = e₂ .before .before in
     let a = e₁ .before .before .args in
     let one = eq-eqb (flagsAt (a .part .now)) 1 (cc) in
-    let odd = ne-eqb (idAt (a .part .now)) 0xFF80 (λ e. c .if3 .taken (c .before .id-of .ensures ∙ e)) in
+    let odd = ne-eqb (idAt (a .part .now)) 0xFF80 (λ e. c .if3 .taken (c .before .id-at .ensures ∙ e)) in
     sym (fits-later (a .max) (a .part .now) (a .n) (e₁ .if1 .left) ∙ rw (one, odd))
 
-bucket-of-requires : tie.Need-bucket-of-requires
-bucket-of-requires c κs = search needs
+bucket-at-requires : tie.Need-bucket-at-requires
+bucket-at-requires c κs = search needs
 
 returns-4 : tie.Need-returns-4
 returns-4 c =
@@ -51,7 +51,7 @@ returns-4 c =
     let a = e₁ .before .before .args in
     let one = eq-eqb (flagsAt (a .part .now)) 1 (cc) in
     let id = eq-eqb (idAt (a .part .now)) 0xFF80 (cc) in
-    ap (λ (x : ℕ). leb x (a .max)) (c .bucket-of .ensures)
+    ap (λ (x : ℕ). leb x (a .max)) (c .bucket-at .ensures)
     ∙ sym (fits-later (a .max) (a .part .now) (a .n) (e₁ .if1 .left) ∙ rw (one, id))
 
 pub fits-bit-spec : {M : Type 1} → statement M
@@ -60,10 +60,10 @@ fits-bit-spec =
     (tie.spec
     is-unlinked-requires
     returns
-    flags-of-requires
+    flags-at-requires
     is-unused-requires
     returns-2
-    id-of-requires
+    id-at-requires
     returns-3
-    bucket-of-requires
+    bucket-at-requires
     returns-4)

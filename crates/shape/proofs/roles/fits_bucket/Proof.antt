@@ -19,8 +19,8 @@ returns c =
     let a = c .before .before .before .args in
     rw (lt-leb (a .b) (a .max) (c .before .if1 .taken)) (c .is-unused .ensures)
 
-flags-of-requires : tie.Need-flags-of-requires
-flags-of-requires c κs = search needs
+flags-at-requires : tie.Need-flags-at-requires
+flags-at-requires c κs = search needs
 
 may-flag-requires : tie.Need-may-flag-requires
 may-flag-requires c κs = search needs
@@ -34,19 +34,19 @@ returns-2 c =
     cc (not-true (c .before .may-flag .result) (c .if2 .taken)) in
     rw (le-leb (a .b) (a .max) (e₁ .if1 .left), t)
 
-id-of-requires : tie.Need-id-of-requires
-id-of-requires c κs = search needs
+id-at-requires : tie.Need-id-at-requires
+id-at-requires c κs = search needs
 
 returns-3 : tie.Need-returns-3
 unfolding fits
 returns-3 c =
     let e₁ = c .before .before .before .before .before in
     let a = e₁ .before .before .args in
-    let t = ne-eqb (idAt (a .part .now)) 0xFF80 (λ e. c .if3 .taken (c .before .id-of .ensures ∙ e)) in
+    let t = ne-eqb (idAt (a .part .now)) 0xFF80 (λ e. c .if3 .taken (c .before .id-at .ensures ∙ e)) in
     simp (le-leb (a .b) (a .max) (e₁ .if1 .left), t, and-false)
 
-bucket-of-requires : tie.Need-bucket-of-requires
-bucket-of-requires c κs = search needs
+bucket-at-requires : tie.Need-bucket-at-requires
+bucket-at-requires c κs = search needs
 
 returns-4 : tie.Need-returns-4
 unfolding fits
@@ -57,7 +57,7 @@ returns-4 c =
     let t₁ : bucketFlagsOk (a .max) (a .b) (flagsAt (a .part .now)) ≡ true =
     cc (not-false (e₂ .before .may-flag .result) (e₂ .if2 .left)) in
     let t₂ = eq-eqb (idAt (a .part .now)) 0xFF80 (cc) in
-    rw (le-leb (a .b) (a .max) (e₁ .if1 .left), t₁, t₂) (ap (λ (x : ℕ). eqb x (a .b)) (c .bucket-of .ensures))
+    rw (le-leb (a .b) (a .max) (e₁ .if1 .left), t₁, t₂) (ap (λ (x : ℕ). eqb x (a .b)) (c .bucket-at .ensures))
 
 pub fits-bucket-spec : {M : Type 1} → statement M
 fits-bucket-spec =
@@ -65,10 +65,10 @@ fits-bucket-spec =
     (tie.spec
     is-unused-requires
     returns
-    flags-of-requires
+    flags-at-requires
     may-flag-requires
     returns-2
-    id-of-requires
+    id-at-requires
     returns-3
-    bucket-of-requires
+    bucket-at-requires
     returns-4)

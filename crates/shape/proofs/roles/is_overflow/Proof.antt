@@ -39,8 +39,8 @@ enum-known-n c = search needs
 block-at-requires : tie.Need-block-at-requires
 block-at-requires c κs = let s = c .before .before .before .before .before .before in block-whole (s .pre) (s .args .k) (inside (c .before))
 
-flags-of-requires : tie.Need-flags-of-requires
-flags-of-requires c κs =
+flags-at-requires : tie.Need-flags-at-requires
+flags-at-requires c κs =
     let s = c .before .before .before .before .before .before .before in
     ap length (c .block-at .ensures) ∙ block-full (s .pre) (s .args .k) (inside (c .before .before))
 
@@ -67,7 +67,7 @@ returns-3 c =
     let r = t .before .before .before .before in
     let s = r .before .before in
     let l = block (s .args .store .now) (s .args .k) in
-    ap (λ (x : ℕ). eqb x 1) (c .flags-of .ensures ∙ ap flagsAt (c .before .block-at .ensures))
+    ap (λ (x : ℕ). eqb x 1) (c .flags-at .ensures ∙ ap flagsAt (c .before .block-at .ensures))
     ∙ sym (overflow-later l _ (t .if1 .taken))
     ∙ sym (overflow-found (s .pre) (s .args .k) (r .role-at .result) (r .role-at .ensures) _ (t .before .before .n .given .1))
 
@@ -97,7 +97,7 @@ is-overflow-spec =
     enum-told-2
     enum-known-n
     block-at-requires
-    flags-of-requires
+    flags-at-requires
     enum-told-3
     returns
     returns-2

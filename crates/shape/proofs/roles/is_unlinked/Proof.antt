@@ -9,40 +9,40 @@ use borrow.Author.Needs.{needs}
 use Rattle.shape.proofs.roles.is_unlinked.Statement.{statement}
 use Rattle.shape.proofs.roles.is_unlinked.Tie as tie
 
-flags-of-requires : tie.Need-flags-of-requires
-flags-of-requires c κs = search needs
+flags-at-requires : tie.Need-flags-at-requires
+flags-at-requires c κs = search needs
 
 returns : tie.Need-returns
 returns c =
     let a = c .before .before .before .args in
-    simp (ne-eqb (flagsAt (a .part .now)) (a .flags) (λ e. c .if1 .taken (c .before .flags-of .ensures ∙ e)))
+    simp (ne-eqb (flagsAt (a .part .now)) (a .flags) (λ e. c .if1 .taken (c .before .flags-at .ensures ∙ e)))
 
-id-of-requires : tie.Need-id-of-requires
-id-of-requires c κs = search needs
+id-at-requires : tie.Need-id-at-requires
+id-at-requires c κs = search needs
 
 returns-2 : tie.Need-returns-2
 returns-2 c =
     let l = c .before .before .before .before .before .args .part .now in
-    simp (ne-eqb (idAt l) 0xFF80 (λ e. c .if2 .taken (c .before .id-of .ensures ∙ e)), and-false)
+    simp (ne-eqb (idAt l) 0xFF80 (λ e. c .if2 .taken (c .before .id-at .ensures ∙ e)), and-false)
 
-prev-of-requires : tie.Need-prev-of-requires
-prev-of-requires c κs = search needs
+prev-at-requires : tie.Need-prev-at-requires
+prev-at-requires c κs = search needs
 
 returns-3 : tie.Need-returns-3
 returns-3 c =
     let l = c .before .before .before .before .before .before .before .args .part .now in
-    simp (ne-eqb (prevAt l) noLink (λ e. c .if3 .taken (c .before .prev-of .ensures ∙ e)), and-false)
+    simp (ne-eqb (prevAt l) noLink (λ e. c .if3 .taken (c .before .prev-at .ensures ∙ e)), and-false)
 
-next-of-requires : tie.Need-next-of-requires
-next-of-requires c κs = search needs
+next-at-requires : tie.Need-next-at-requires
+next-at-requires c κs = search needs
 
 returns-4 : tie.Need-returns-4
 returns-4 c =
     let l = c .before .before .before .before .before .before .before .before .before .args .part .now in
-    simp (ne-eqb (nextAt l) noLink (λ e. c .if4 .taken (c .before .next-of .ensures ∙ e)), and-false)
+    simp (ne-eqb (nextAt l) noLink (λ e. c .if4 .taken (c .before .next-at .ensures ∙ e)), and-false)
 
-bucket-of-requires : tie.Need-bucket-of-requires
-bucket-of-requires c κs = search needs
+bucket-at-requires : tie.Need-bucket-at-requires
+bucket-at-requires c κs = search needs
 
 returns-5 : tie.Need-returns-5
 returns-5 c =
@@ -56,19 +56,19 @@ returns-5 c =
     let t₂ = eq-eqb (idAt l) 0xFF80 (cc) in
     let t₃ = eq-eqb (prevAt l) noLink (cc) in
     let t₄ = eq-eqb (nextAt l) noLink (cc) in
-    rw (t₁, t₂, t₃, t₄) (ap (λ (x : ℕ). eqb x noLink) (c .bucket-of .ensures))
+    rw (t₁, t₂, t₃, t₄) (ap (λ (x : ℕ). eqb x noLink) (c .bucket-at .ensures))
 
 pub is-unlinked-spec : {M : Type 1} → statement M
 is-unlinked-spec =
     tie.close
     (tie.spec
-    flags-of-requires
+    flags-at-requires
     returns
-    id-of-requires
+    id-at-requires
     returns-2
-    prev-of-requires
+    prev-at-requires
     returns-3
-    next-of-requires
+    next-at-requires
     returns-4
-    bucket-of-requires
+    bucket-at-requires
     returns-5)

@@ -19,18 +19,18 @@ low c =
     let s = c .before .before in
     omega (arith, c .parent-of .ensures, split-lt (s .args .m .max) (known-addressed (s .pre) .two))
 
-new : (c : tie.After-flags-of) → c .flags-of .result ≡ newFlags (c .before .before .before .before .args .store .now)
+new : (c : tie.After-flags-at) → c .flags-at .result ≡ newFlags (c .before .before .before .before .args .store .now)
 new c =
     let s = c .before .before .before .before in
-    c .flags-of .ensures
+    c .flags-at .ensures
     ∙ new-flags (s .pre) (c .before .page-of .result .now) (s .args .m .max) (c .before .page-of .ensures) refl
 
-second : (c : tie.After-flags-of2)
-    → c .flags-of2 .result ≡ oldFlags (c .before .before .before .before .before .before .before .args .store .now)
+second : (c : tie.After-flags-at2)
+    → c .flags-at2 .result ≡ oldFlags (c .before .before .before .before .before .before .before .args .store .now)
 second c =
     let p = c .before .before .before .before .before in
     let s = p .before .before in
-    c .flags-of2 .ensures
+    c .flags-at2 .ensures
     ∙ old-flags (s .pre) (c .before .page-of2 .result .now) (p .parent-of .result) (c .before .page-of2 .ensures) (p .parent-of .ensures)
 
 parent-of-requires : tie.Need-parent-of-requires
@@ -39,8 +39,8 @@ parent-of-requires c κs = search needs
 page-of-requires : tie.Need-page-of-requires
 page-of-requires c κs = search needs
 
-flags-of-requires : tie.Need-flags-of-requires
-flags-of-requires c κs =
+flags-at-requires : tie.Need-flags-at-requires
+flags-at-requires c κs =
     let s = c .before .before .before in
     page-full (s .pre) (c .page-of .result .now) (s .args .m .max) (c .page-of .ensures) (omega arith)
 
@@ -53,8 +53,8 @@ returns c =
 page-of-requires-2 : tie.Need-page-of-requires-2
 page-of-requires-2 c κs = (c .before .before .before .before .before .pre, low (c .before .before .before))
 
-flags-of-requires-2 : tie.Need-flags-of-requires-2
-flags-of-requires-2 c κs =
+flags-at-requires-2 : tie.Need-flags-at-requires-2
+flags-at-requires-2 c κs =
     let p = c .before .before .before .before in
     let s = p .before .before in
     page-full (s .pre) (c .page-of2 .result .now) (p .parent-of .result) (c .page-of2 .ensures) (low p)
@@ -78,9 +78,9 @@ phase-of-spec =
     (tie.spec
     parent-of-requires
     page-of-requires
-    flags-of-requires
+    flags-at-requires
     returns
     page-of-requires-2
-    flags-of-requires-2
+    flags-at-requires-2
     returns-2
     returns-3)

@@ -10,14 +10,14 @@ use Rattle.view.proofs.chains.bucket_flags.Tie as tie
 bucket-page-requires : tie.Need-bucket-page-requires
 bucket-page-requires c κs = search needs
 
-flags-of-requires : tie.Need-flags-of-requires
-flags-of-requires c κs =
+flags-at-requires : tie.Need-flags-at-requires
+flags-at-requires c κs =
     let s = c .before .before in
     ap length (c .bucket-page .ensures)
     ∙ reads-block (s .pre .0) (blockOf (s .args .store .now) (s .args .b)) (block-inside (s .pre .0) (s .args .b) (s .pre .1))
 
 returns : tie.Need-returns
-returns c = c .flags-of .ensures ∙ ap flagsAt (c .before .bucket-page .ensures)
+returns c = c .flags-at .ensures ∙ ap flagsAt (c .before .bucket-page .ensures)
 
 pub bucket-flags-spec : {M : Type 1} → statement M
-bucket-flags-spec = tie.close (tie.spec bucket-page-requires flags-of-requires returns)
+bucket-flags-spec = tie.close (tie.spec bucket-page-requires flags-at-requires returns)

@@ -1,0 +1,23 @@
+use mathlib.Core.Path.{ap, _∙_}
+use Rattle.amiqsovik.specs.Words.{answerWord}
+use borrow.Author.Needs.{needs}
+use Rattle.amiqsovik.proofs.amiqsovik_insert.Statement.{statement}
+use Rattle.amiqsovik.proofs.amiqsovik_insert.Tie as tie
+
+insert-requires : tie.Need-insert-requires
+insert-requires c κs = search needs
+
+answer-word-requires : tie.Need-answer-word-requires
+answer-word-requires c κs = search needs
+
+same-length : tie.Need-same-length
+same-length c = search needs
+
+returns : tie.Need-returns
+returns c =
+    let f = c .before .before .before .insert .ensures in
+    (c .answer-word .ensures ∙ ap answerWord (f .0), f .1)
+
+pub amiqsovik-insert-spec : {M : Type 1} → statement M
+amiqsovik-insert-spec =
+    tie.close (tie.spec insert-requires answer-word-requires same-length returns)

@@ -1,0 +1,24 @@
+use mathlib.Core.Path.{sym, ap, _∙_}
+use Rattle.amiqsovik.specs.Words.{standingWord}
+use borrow.Author.Needs.{needs}
+use Rattle.amiqsovik.proofs.words.standing_word.Statement.{statement}
+use Rattle.amiqsovik.proofs.words.standing_word.Tie as tie
+
+enum-told : tie.Need-enum-told
+enum-told c = search needs
+
+enum-known-answer : tie.Need-enum-known-answer
+enum-known-answer c = search needs
+
+refusal-word-requires : tie.Need-refusal-word-requires
+refusal-word-requires c κs = search needs
+
+returns : tie.Need-returns
+returns c = sym (ap standingWord (c .enum-told .given .1))
+
+returns-2 : tie.Need-returns-2
+returns-2 c = c .refusal-word .ensures ∙ sym (ap standingWord (c .before .before .answer .given .1))
+
+pub standing-word-spec : {M : Type 1} → statement M
+standing-word-spec =
+    tie.close (tie.spec enum-told enum-known-answer refusal-word-requires returns returns-2)

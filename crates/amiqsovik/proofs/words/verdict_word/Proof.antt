@@ -1,0 +1,50 @@
+use mathlib.Core.Path.{sym, ap, _∙_}
+use Rattle.amiqsovik.specs.Words.{verdictWord}
+use borrow.Author.Needs.{needs}
+use Rattle.amiqsovik.proofs.words.verdict_word.Statement.{statement}
+use Rattle.amiqsovik.proofs.words.verdict_word.Tie as tie
+
+enum-told : tie.Need-enum-told
+enum-told c = search needs
+
+enum-known-verdict : tie.Need-enum-known-verdict
+enum-known-verdict c = search needs
+
+pack-requires : tie.Need-pack-requires
+pack-requires c κs = search needs
+
+enum-known-verdict-2 : tie.Need-enum-known-verdict-2
+enum-known-verdict-2 c = search needs
+
+pack-requires-2 : tie.Need-pack-requires-2
+pack-requires-2 c κs = search needs
+
+enum-told-2 : tie.Need-enum-told-2
+enum-told-2 c = search needs
+
+returns : tie.Need-returns
+returns c = sym (ap verdictWord (c .enum-told .given .1))
+
+returns-2 : tie.Need-returns-2
+returns-2 c = c .pack .ensures ∙ sym (ap verdictWord (c .before .before .verdict .given .1))
+
+returns-3 : tie.Need-returns-3
+returns-3 c = c .pack2 .ensures ∙ sym (ap verdictWord (c .before .before .verdict2 .given .1))
+
+returns-4 : tie.Need-returns-4
+returns-4 c = sym (ap verdictWord (c .enum-told2 .given .1))
+
+pub verdict-word-spec : {M : Type 1} → statement M
+verdict-word-spec =
+    tie.close
+    (tie.spec
+    enum-told
+    enum-known-verdict
+    pack-requires
+    enum-known-verdict-2
+    pack-requires-2
+    enum-told-2
+    returns
+    returns-2
+    returns-3
+    returns-4)

@@ -1,0 +1,53 @@
+use mathlib.Core.Path.{sym, ap, _∙_}
+use native.Mathlib.Omega.{arith}
+use Rattle.amiqsovik.specs.Words.{workWord}
+use borrow.Author.Needs.{needs}
+use Rattle.amiqsovik.proofs.words.work_word.Statement.{statement}
+use Rattle.amiqsovik.proofs.words.work_word.Tie as tie
+
+enum-known-answer : tie.Need-enum-known-answer
+enum-known-answer c = search needs
+
+stop-no-requires : tie.Need-stop-no-requires
+stop-no-requires c κs = search needs
+
+mul-result : tie.Need-mul-result
+mul-result c = search needs
+
+cast-result : tie.Need-cast-result
+cast-result c = search needs
+
+mul-result-2 : tie.Need-mul-result-2
+mul-result-2 c = search needs
+
+add-result : tie.Need-add-result
+add-result c = search needs
+
+enum-known-answer-2 : tie.Need-enum-known-answer-2
+enum-known-answer-2 c = search needs
+
+refusal-word-requires : tie.Need-refusal-word-requires
+refusal-word-requires c κs = search needs
+
+returns : tie.Need-returns
+returns c =
+    let a = c .before .before .answer .given in
+    omega (arith, c .stop-no .ensures .0, ap workWord (a .1))
+
+returns-2 : tie.Need-returns-2
+returns-2 c = c .refusal-word .ensures ∙ sym (ap workWord (c .before .before .answer2 .given .1))
+
+pub work-word-spec : {M : Type 1} → statement M
+work-word-spec =
+    tie.close
+    (tie.spec
+    enum-known-answer
+    stop-no-requires
+    mul-result
+    cast-result
+    mul-result-2
+    add-result
+    enum-known-answer-2
+    refusal-word-requires
+    returns
+    returns-2)

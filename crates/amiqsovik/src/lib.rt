@@ -1,0 +1,92 @@
+// The calls for C and Rust. Each answers one word (specs/Words.antt). include/amiqsovik.h declares them for C.
+mod words; // words.rt: the word of each answer
+mod result; // result.rt: what standing writes
+
+use index::change::insert;
+use index::change::remove;
+use index::format::format;
+use index::read::lookup;
+use index::read::standing;
+use index::work::work;
+use result::show;
+use verify::verify;
+use words::answer_word;
+use words::lookup_word;
+use words::pack;
+use words::standing_word;
+use words::verdict_word;
+use words::work_word;
+ghost use mathlib.Core.Path.{_≡_};
+ghost use Rattle.outcomes.specs.Outcomes.{verifyOutcome, formatOutcome, insertOutcome, removeOutcome};
+ghost use Rattle.outcomes.specs.Outcomes.{lookupOutcome, workOutcome};
+ghost use Rattle.amiqsovik.specs.Words.{answerWord, lookupWord, workWord, verdictWord};
+ghost use Rattle.amiqsovik.specs.Result.{standingTold};
+
+// What a store is: 0 sound, 1, 3 with the block, 4 with the rule.
+#[no_mangle]
+pub extern "C" fn amiqsovik_verify(store: &[u8]) -> u64
+    ensures { λ r. ⌜ r ≡ verdictWord (verifyOutcome (now (store .entry))) ⌝ }
+{
+    verdict_word(verify(store))
+}
+
+#[no_mangle]
+pub extern "C" fn amiqsovik_format(store: &mut [u8], fill: u32) -> u64
+    ensures { λ r. ⌜ r ≡ answerWord (formatOutcome (now (store .entry)) fill .answer) ⌝ }
+    ensures { λ _. ⌜ now (store .exit) ≡ formatOutcome (now (store .entry)) fill .store ⌝ }
+{
+    answer_word(format(store, fill))
+}
+
+#[no_mangle]
+pub extern "C" fn amiqsovik_lookup(store: &[u8], hash: u32, output: &mut [u8]) -> u64
+    ensures { λ r. ⌜ r ≡ lookupWord (lookupOutcome (now (store .entry)) hash (now (output .entry)) .answer) ⌝ }
+    ensures { λ _. ⌜ now (output .exit) ≡ lookupOutcome (now (store .entry)) hash (now (output .entry)) .output ⌝ }
+{
+    lookup_word(lookup(store, hash, output))
+}
+
+// The number of a `result` of standing that is too short, outside of every paper's table.
+const RESULT_SHORT: u32 = 255;
+
+// Writes what stands, 28 bytes, to `result`; a shorter `result` is tested first. A refusal writes nothing.
+#[no_mangle]
+pub extern "C" fn amiqsovik_standing(store: &[u8], result: &mut [u8]) -> u64
+    ensures { λ r. ⌜ r ≡ standingTold (now (store .entry)) (now (result .entry)) .word ⌝ }
+    ensures { λ _. ⌜ now (result .exit) ≡ standingTold (now (store .entry)) (now (result .entry)) .result ⌝ }
+{
+    if result.len() < 28 {
+        return pack(RESULT_SHORT, 28);
+    }
+    let answer = standing(store);
+    show(result, answer);
+    standing_word(answer)
+}
+
+#[no_mangle]
+pub extern "C" fn amiqsovik_insert(store: &mut [u8], hash: u32, block: u32, offset: u32) -> u64
+    ensures { λ r. ⌜ r ≡ answerWord (insertOutcome (now (store .entry))
+        (record { hash = hash; block = block; offset = offset }) .answer) ⌝ }
+    ensures { λ _. ⌜ now (store .exit) ≡ insertOutcome (now (store .entry))
+        (record { hash = hash; block = block; offset = offset }) .store ⌝ }
+{
+    answer_word(insert(store, hash, block, offset))
+}
+
+#[no_mangle]
+pub extern "C" fn amiqsovik_remove(store: &mut [u8], hash: u32, block: u32, offset: u32) -> u64
+    ensures { λ r. ⌜ r ≡ answerWord (removeOutcome (now (store .entry))
+        (record { hash = hash; block = block; offset = offset }) .answer) ⌝ }
+    ensures { λ _. ⌜ now (store .exit) ≡ removeOutcome (now (store .entry))
+        (record { hash = hash; block = block; offset = offset }) .store ⌝ }
+{
+    answer_word(remove(store, hash, block, offset))
+}
+
+#[no_mangle]
+pub extern "C" fn amiqsovik_work(store: &mut [u8], budget: u32) -> u64
+    ensures { λ r. ⌜ r ≡ workWord (workOutcome (now (store .entry)) budget .answer) ⌝ }
+    ensures { λ _. ⌜ now (store .exit) ≡ workOutcome (now (store .entry)) budget .store ⌝ }
+{
+    work_word(work(store, budget))
+}

@@ -1,0 +1,86 @@
+-- DEMAND 3 holds of every batch that follows an accepted format, one that is the batch's own first call included.
+-- `run_batch` leaves exactly what `runs` says (Batch.antt); here its store, words and output are joined to the moments
+-- of the calls. The claim on moments is in Demand.antt of crate `model`, its proof for stores in Demand3.antt of crate
+-- `image`.
+use mathlib.Core.Path.{_≡_, refl, sym, ap, _∙_}
+use mathlib.Core.Bool.{true}
+use mathlib.Core.List.{List, _∷_, _++_}
+use mathlib.Core.Option.{Option, some}
+use Prim.Native.Nat.{ℕ, suc, _+_, _≤_, _<_}
+use lib.ListN.{length, getD, set}
+use Rattle.lists.specs.Lists.{Each}
+use Rattle.model.specs.Machine.{Call, formatting, accepted}
+use Rattle.model.specs.History.{Moment, start}
+use Rattle.model.specs.Demand.{Holds}
+use Rattle.image.specs.Decode.{decode}
+use Rattle.outcomes.specs.Outcomes.{runStore, onStore}
+use Rattle.outcomes.specs.Demand3Theorem.{demand3-stores}
+use Rattle.batch.specs.Batch.{wordOf, storeAfter, outputAfter, Small, callAt, lentAt, Kept, ranAt, runs}
+use Rattle.batch.specs.Batch.{callsIn, momentsIn, momentAfter}
+use Rattle.batch.specs.BatchLaws.{fits-calls, runs-next, last-each, moments-split, moment-store, runs-word}
+
+-- after an accepted format, n calls of any list, from call i on
+module _ (s : List ℕ) (fill : ℕ) (ok : accepted (runStore (formatting fill) s .reply) ≡ true)
+    (ws : List ℕ) (small : Small ws) (i n : ℕ) (output words : List ℕ) where
+  abbrev first : Kept
+  first = record { store = runStore (formatting fill) s .state; output = output; words = words }
+
+  abbrev opening : Moment onStore
+  opening = start onStore (runStore (formatting fill) s .state) fill
+
+  -- what the first m calls leave, the moment after them, and the call that comes next
+  abbrev left : (m : ℕ) → Kept
+  left m = runs ws m i first
+
+  abbrev reached : (m : ℕ) → Moment onStore
+  reached m = momentAfter ws m i first opening
+
+  abbrev nextCall : (m : ℕ) → Option Call
+  nextCall m = callAt ws (i + m) (left m .output)
+
+  -- demand 3 holds at every moment of the calls
+  pub demand3-batch : Each (Holds onStore decode) (opening ∷ momentsIn ws n i first opening)
+  demand3-batch = demand3-stores s fill ok (callsIn ws n i first) (fits-calls ws small n i first)
+
+  -- so it does after the first m calls
+  pub batch-moment : (m : ℕ) → Holds onStore decode (reached m)
+  batch-moment m =
+      last-each (Holds onStore decode) opening (momentsIn ws m i first opening)
+      (demand3-stores s fill ok (callsIn ws m i first) (fits-calls ws small m i first))
+
+  -- and its store is the one that these calls leave
+  pub batch-store : (m : ℕ) → reached m .state ≡ left m .store
+  batch-store m = moment-store ws m i first opening refl
+
+  -- each word is the reply of its call at the moment before it
+  pub batch-word : (m : ℕ) → m < n → i + n ≤ length words
+      → getD (left n .words) (i + m) 0 ≡ wordOf (nextCall m) (reached m .state)
+  batch-word m h room = runs-word ws m n i first h room ∙ ap (wordOf (nextCall m)) (sym (batch-store m))
+
+  -- and so is the output after it
+  pub batch-output : (m : ℕ)
+      → left (suc m) .output ≡ outputAfter (nextCall m) (lentAt ws (i + m)) (reached m .state) (left m .output)
+  unfolding ranAt
+  batch-output m =
+      ap (λ (k : Kept). k .output) (runs-next ws m i first)
+      ∙ ap (λ (x : List ℕ). outputAfter (nextCall m) (lentAt ws (i + m)) x (left m .output)) (sym (batch-store m))
+
+  -- a list splits anywhere: its moments are those of the first m calls, and then those of the rest
+  pub batch-splits : (m : ℕ) → momentsIn ws (m + n) i first opening
+      ≡ momentsIn ws m i first opening ++ momentsIn ws n (i + m) (left m) (reached m)
+  batch-splits m = moments-split ws m n i first opening
+
+-- a batch whose first call is the format: from call 1 on it is one that follows it
+pub batch-format : (ws : List ℕ) (n fill : ℕ) (k : Kept) → callAt ws 0 (k .output) ≡ some (formatting fill)
+    → runs ws (suc n) 0 k ≡ runs ws n 1 (record {
+      store = runStore (formatting fill) (k .store) .state;
+      output = k .output;
+      words = set (k .words) 0 (wordOf (some (formatting fill)) (k .store));
+    })
+unfolding ranAt runStore
+batch-format ws n fill k e =
+    ap (λ (c : Option Call). runs ws n 1 (record {
+      store = storeAfter c (k .store);
+      output = outputAfter c (lentAt ws 0) (k .store) (k .output);
+      words = set (k .words) 0 (wordOf c (k .store));
+    })) e

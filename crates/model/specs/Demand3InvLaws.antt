@@ -1,0 +1,156 @@
+-- The invariant of demand 3, between an index and what is known of it. Format, insert, remove and each step keep it.
+use mathlib.Core.Path.{_≡_, refl, sym, ap, _∙_}
+use mathlib.Core.Logic.{_≢_}
+use mathlib.Core.Bool.{Bool, true, false, not, _&&_, _||_}
+use Prim.Native.Nat.{ℕ, suc, _+_, _*_}
+use native.Mathlib.Omega.{arith}
+use Rattle.page.specs.declared.Pair.{Pair}
+use Rattle.page.specs.Pair.{same, ascending}
+use Rattle.model.specs.Index.{Job, idle, copying, clearing, Index, oldBucket, newBucket}
+use Rattle.model.specs.Held.{self, held}
+use Rattle.model.specs.Steps.{next, step}
+use Rattle.model.specs.Calls.{sizeOk, fillOk, format, formatIn, formatted, done, insert, remove, phaseIn}
+use Rattle.model.specs.Machine.{formatting, inserting, CallFits, accepted, settled, runIndex, onIndex}
+use Rattle.model.specs.MachineLaws.{never}
+use Rattle.model.specs.Book.{has, puts, takes, movers, Split, noSplit, since, oneStep, stirred}
+use Rattle.model.specs.BookLaws.{noted-ascending, has-puts, has-takes}
+use Rattle.model.specs.History.{Moment, stepIn, stepped, marked, start}
+use Rattle.model.specs.WellFormed.{WF}
+use Rattle.model.specs.FormatLaws.{format-wf, format-held}
+use Rattle.model.specs.FrameLaws.{insert-frame, remove-frame, begin-frame, job-frame}
+use Rattle.model.specs.InsertLaws.{insert-wf, insert-held}
+use Rattle.model.specs.RemoveLaws.{remove-wf, remove-held}
+use Rattle.model.specs.StepLaws.{step-wf, step-held}
+use Rattle.model.specs.StepsLeft.{stepsLeft}
+use Rattle.model.specs.StepsLeftLaws.{step-stepsLeft}
+use Rattle.model.specs.BeginLaws.{begin-stepsLeft, begin-movers}
+use Rattle.model.specs.Demand3AnswerLaws.{phase-job}
+
+-- Before the first begin there is no job; a calm split still has to make the steps that its count lacks.
+abbrev pub Track : Split → Index → Type 0
+Track noSplit x = x .job ≡ idle
+Track (since false m k) x = Unit {0}
+Track (since true m k) x = stepsLeft x + k ≡ 2 * m + 3
+
+pub record Inv (t : Moment onIndex) : Type 0 where
+  pub wf : WF (t .state)
+  pub set : ascending self (t .book) ≡ true
+  pub agree : (p : Pair) → has (t .book) p ≡ held (t .state) p
+  pub newest : t .state .maxBucket ≡ suc (t .begins)
+  pub fill : t .state .fill ≡ t .fill
+  pub track : Track (t .split) (t .state)
+
+-- an insert or removal leaves the job as it was
+stir : (x y : Index) (k : Split) → y .job ≡ x .job → Track k x → Track (stirred k) y
+stir x y noSplit e u = e ∙ u
+stir x y (since c m k) e u = tt
+
+-- ---- a format, an insert, a removal
+
+pub start-inv : (x : Index) (fill : ℕ) → sizeOk (x .size) ≡ true → fillOk fill ≡ true
+    → Inv (start onIndex (format (x .size) fill) fill)
+unfolding format
+start-inv x fill s f =
+    record {
+      wf = format-wf (x .size) fill s f;
+      set = refl;
+      agree = λ p. sym (format-held (x .size) fill s f p);
+      newest = refl;
+      fill = refl;
+      track = refl;
+    }
+
+pub format-inv : (x : Index) (fill : ℕ) → accepted (runIndex (formatting fill) x .reply) ≡ true
+    → Inv (start onIndex (runIndex (formatting fill) x .state) fill)
+unfolding runIndex formatted
+format-inv x fill h = go (sizeOk (x .size)) (fillOk fill) refl refl h
+  where
+    go : (s f : Bool) → sizeOk (x .size) ≡ s → fillOk fill ≡ f
+        → accepted (settled x (formatIn s f (format (x .size) fill)) .reply) ≡ true
+        → Inv (start onIndex (settled x (formatIn s f (format (x .size) fill)) .state) fill)
+    go true true e k h = start-inv x fill e k
+    go true false e k h = never (cc)
+    go false f e k h = never (cc)
+
+pub insert-inv : (q : Pair) (y : Index) → CallFits (inserting q) → (t : Moment onIndex) → Inv t
+    → insert (t .state) q ≡ done y → Inv (marked onIndex true (puts q) t y)
+insert-inv q y fits t i e =
+    let x = t .state in
+    let g = insert-frame x q y e in
+    let f = g .frame in
+    record {
+      wf = insert-wf x q y (i .wf) fits e;
+      set = noted-ascending (puts q) (t .book) (i .set);
+      agree = λ p. has-puts q p (t .book) ∙ ap (λ (b : Bool). same p q || b) (i .agree p)
+          ∙ sym (insert-held x q y (i .wf) fits e p);
+      newest = f .maxBucket ∙ i .newest;
+      fill = f .fill ∙ i .fill;
+      track = stir x y (t .split) (g .job) (i .track);
+    }
+
+pub remove-inv : (q : Pair) (y : Index) (t : Moment onIndex) → Inv t → remove (t .state) q ≡ done y
+    → Inv (marked onIndex true (takes q) t y)
+remove-inv q y t i e =
+    let x = t .state in
+    let g = remove-frame x q y e in
+    let f = g .frame in
+    record {
+      wf = remove-wf x q y (i .wf) e;
+      set = noted-ascending (takes q) (t .book) (i .set);
+      agree = λ p. has-takes q p (t .book) ∙ ap (λ (b : Bool). not (same p q) && b) (i .agree p)
+          ∙ sym (remove-held x q y (i .wf) e p);
+      newest = f .maxBucket ∙ i .newest;
+      fill = f .fill ∙ i .fill;
+      track = stir x y (t .split) (g .job) (i .track);
+    }
+
+-- ---- a step
+
+pub step-inv : (t : Moment onIndex) (y : Index) → Inv t → step (t .state) ≡ next y → Inv (stepped onIndex t y)
+step-inv t y i h = rw (phase-job x) (go (x .job) refl)
+  where
+    x : Index
+    x = t .state
+
+    agrees : (p : Pair) → has (t .book) p ≡ held y p
+    agrees p = i .agree p ∙ sym (step-held x y (i .wf) h p)
+
+    more : x .job ≢ idle → (k : Split) → Track k x → Track (oneStep k) y
+    more ne noSplit u = absurd (ne u)
+    more ne (since false m k) u = tt
+    more ne (since true m k) u = omega (arith, step-stepsLeft x y (i .wf) ne h)
+
+    inJob : x .job ≢ idle
+        → Inv (record { state = y; book = t .book; fill = t .fill; begins = t .begins; split = oneStep (t .split) })
+    inJob ne =
+        let f = job-frame x y ne h in
+        record {
+          wf = step-wf x y (i .wf) h;
+          set = i .set;
+          agree = agrees;
+          newest = f .maxBucket ∙ i .newest;
+          fill = f .fill ∙ i .fill;
+          track = more ne (t .split) (i .track);
+        }
+
+    newer : suc (x .maxBucket) ≡ 2 + t .begins
+    newer = omega (arith, i .newest)
+
+    go : (j : Job) → x .job ≡ j → Inv (stepIn onIndex (phaseIn j (oldBucket x) (newBucket x)) t y)
+    go copying e = inJob (λ k. never (cc))
+    go clearing e = inJob (λ k. never (cc))
+    go idle e =
+        let f = begin-frame x y e h in
+        record {
+          wf = step-wf x y (i .wf) h;
+          set = i .set;
+          agree = agrees;
+          newest = f .maxBucket ∙ ap suc (i .newest);
+          fill = f .fill ∙ i .fill;
+          track = omega (
+            arith,
+            begin-stepsLeft x y (i .wf) e h,
+            begin-movers x y (i .wf) e h (t .book) (i .set) (i .agree),
+            ap (λ (n : ℕ). movers n (t .book)) newer,
+          );
+        }

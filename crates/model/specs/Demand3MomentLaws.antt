@@ -1,0 +1,100 @@
+-- The invariant of demand 3 holds at every moment of every list of calls.
+use mathlib.Core.Path.{_≡_, refl, ap, _∙_}
+use mathlib.Core.Bool.{Bool, true, false}
+use mathlib.Core.List.{List, [], _∷_}
+use Prim.Native.Nat.{ℕ, zero, suc}
+use Rattle.lists.specs.Lists.{Each}
+use Rattle.lists.specs.ListsLaws.{each-append}
+use Rattle.model.specs.declared.Phase.{Phase}
+use Rattle.model.specs.Index.{Index}
+use Rattle.model.specs.Steps.{Step, next, stopped, step, iterate}
+use Rattle.model.specs.Calls.{work}
+use Rattle.model.specs.Machine.{Call, formatting, CallFits, accepted, Ran, runIndex, onIndex}
+use Rattle.model.specs.MachineLaws.{never}
+use Rattle.model.specs.Book.{Effect, empties, puts, takes, leaves, hasSteps, effect}
+use Rattle.model.specs.History.{Moment, phaseAt, stepIn, stepped, stages, lastOf, within, marked, after, history}
+use Rattle.model.specs.History.{start, Always}
+use Rattle.model.specs.RunLaws.{Running, refuses, formats, inserts, removes, reads, works, run-view}
+use Rattle.model.specs.Demand3InvLaws.{Inv, start-inv, format-inv, insert-inv, remove-inv, step-inv}
+
+stages-inv : (n : ℕ) (t : Moment onIndex) → Inv t → Each Inv (stages onIndex n t)
+stages-inv zero t i = tt
+stages-inv (suc n) t i = go (step (t .state)) refl (stages-inv n)
+  where
+    go : (r : Step Index) → step (t .state) ≡ r → ((u : Moment onIndex) → Inv u → Each Inv (stages onIndex n u))
+        → Each Inv (stages onIndex (suc n) t)
+    go (next y) e ih = let j = step-inv t y i e in rw (e, stages) (j, ih (stepped onIndex t y) j)
+    go (stopped c) e ih = rw (e, stages) tt
+
+lastOf-inv : (ts : List (Moment onIndex)) (t : Moment onIndex) → Inv t → Each Inv ts → Inv (lastOf onIndex t ts)
+lastOf-inv [] t i h = i
+lastOf-inv (u ∷ ts) t i h = lastOf-inv ts u (h .0) (h .1)
+
+-- the last moment of a work call has the state that the call leaves
+stages-end : (n : ℕ) (t : Moment onIndex)
+    → lastOf onIndex t (stages onIndex n t) .state ≡ iterate step n (t .state) .state
+stages-end zero t = refl
+stages-end (suc n) t = go (step (t .state)) refl (λ y. stages-end n (stepped onIndex t y))
+  where
+    state-of : (ph : Phase) (y : Index) → stepIn onIndex ph t y .state ≡ y
+    state-of Phase.None y = refl
+    state-of (Phase.Copying o n) y = refl
+    state-of (Phase.Clearing o n) y = refl
+
+    go : (r : Step Index) → step (t .state) ≡ r
+        → ((y : Index) → let u = stepped onIndex t y in
+        lastOf onIndex u (stages onIndex n u) .state ≡ iterate step n (u .state) .state)
+        → lastOf onIndex t (stages onIndex (suc n) t) .state ≡ iterate step (suc n) (t .state) .state
+    go (next y) e ih =
+        rw (e, stages, iterate) (ih y ∙ ap (λ (z : Index). iterate step n z .state) (state-of (phaseAt onIndex (t .state)) y))
+    go (stopped c) e ih = rw (e, stages, iterate) refl
+
+within-inv : (a : Bool) (e : Effect) (t : Moment onIndex) → Inv t → Each Inv (within onIndex a e t)
+within-inv false e t i = tt
+within-inv true (empties fill) t i = tt
+within-inv true (puts p) t i = tt
+within-inv true (takes p) t i = tt
+within-inv true leaves t i = tt
+within-inv true (hasSteps budget) t i = stages-inv budget t i
+
+after-inv : (c : Call) → CallFits c → (t : Moment onIndex) → Inv t → Inv (after onIndex c t)
+unfolding work
+after-inv c fits t i = go (run-view c fits (t .state))
+  where
+    refusal : (a : Bool) (e : Effect) → a ≡ false
+        → Inv (marked onIndex a e (lastOf onIndex t (within onIndex a e t)) (t .state))
+    refusal true e h = never (cc)
+    refusal false e h = i
+
+    reading : (a : Bool) → Inv (marked onIndex a leaves (lastOf onIndex t (within onIndex a leaves t)) (t .state))
+    reading true = i
+    reading false = i
+
+    stepping : (a : Bool) (n : ℕ) → a ≡ true
+        → let y = iterate step n (t .state) .state in
+        Inv (marked onIndex a (hasSteps n) (lastOf onIndex t (within onIndex a (hasSteps n) t)) y)
+    stepping false n h = never (cc)
+    stepping true n h = rw (← stages-end n t) (lastOf-inv (stages onIndex n t) t i (stages-inv n t i))
+
+    go : {e : Effect} {r : Ran Index} → Running (t .state) e r
+        → let a = accepted (r .reply) in
+        Inv (marked onIndex a e (lastOf onIndex t (within onIndex a e t)) (r .state))
+    go (refuses {e = e} {r = r} h) = refusal (accepted r) e h
+    go (formats {fill = fill} s f) = start-inv (t .state) fill s f
+    go (inserts {p = p} {y = y} f e) = insert-inv p y f t i e
+    go (removes {p = p} {y = y} e) = remove-inv p y t i e
+    go (reads {r = r}) = reading (accepted r)
+    go (works {budget = n} {r = r} h) = stepping (accepted r) n h
+
+history-inv : (cs : List Call) → Each CallFits cs → (t : Moment onIndex) → Inv t → Each Inv (history onIndex cs t)
+history-inv [] fits t i = tt
+history-inv (c ∷ cs) fits t i =
+    let a = accepted (runIndex c (t .state) .reply) in
+    let j = after-inv c (fits .0) t i in
+    each-append Inv (within onIndex a (effect c) t) _ (within-inv a (effect c) t i)
+    (j, history-inv cs (fits .1) (after onIndex c t) j)
+
+pub always-inv : Always onIndex Inv
+always-inv x fill ok cs fits =
+    let i = format-inv x fill ok in
+    (i, history-inv cs fits (start onIndex (runIndex (formatting fill) x .state) fill) i)

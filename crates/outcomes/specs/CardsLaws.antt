@@ -1,0 +1,185 @@
+-- The bench cards hold: what a card asks of a store is the same of the index whose bytes it is, and that computes.
+use mathlib.Core.Path.{_≡_, refl, ap, ap₂, _∙_}
+use mathlib.Core.Bool.{Bool, true, _&&_}
+use mathlib.Core.List.{List, [], _∷_, _++_, map}
+use Prim.Native.Nat.{ℕ, zero, suc, _+_, _*_, _/_, _%_, _<_}
+use native.Mathlib.Omega.{arith}
+use borrow.Author.Tests.{eq-eqb}
+use lib.Dec.{eqb}
+use lib.IntN.{ℤ, pos}
+use lib.ListN.{length, getD, drop, replicate}
+use Rattle.lists.specs.Lists.{upFrom, Each}
+use Rattle.lists.specs.Block.{blocks, block}
+use Rattle.endian.specs.Endian.{le16, le32, u16At, u32At}
+use Rattle.address.specs.Address.{bucketsAt, maskDigits, highMask, lowMask, bucketOf, digits, splitFrom}
+use Rattle.address.specs.Address.{point, groupOf, bucketBlock, bitBlock, made}
+use Rattle.address.specs.Role.{roleOf}
+use Rattle.page.specs.Entries.{encodeEntry, encodePage, readEntry, entryAt, entriesFrom, entriesOf}
+use Rattle.store.specs.Store.{trailer, covered, sealed}
+use Rattle.model.specs.Index.{Index}
+use Rattle.model.specs.Pages.{freeBit, firstFree, takePage, put, cut}
+use Rattle.model.specs.Held.{sources, held, matches, count, slack, wanted}
+use Rattle.model.specs.Steps.{begin, step}
+use Rattle.model.specs.Calls.{sizeOk, fillOk, format, insert, remove, lookup, standing, work}
+use Rattle.model.specs.Machine.{Call, formatting, inserting, removing, looking, working, asking, CallFits}
+use Rattle.model.specs.Machine.{Reply, plain, replyNo, runIndex, onIndex}
+use Rattle.model.specs.FormatLaws.{format-wf}
+use Rattle.image.specs.declared.Meta.{Meta}
+use Rattle.image.specs.Layout.{paged, blank, padded, metaOf, mapFront, image, encodeBlock, encode}
+use Rattle.image.specs.Decode.{bitOf, metaAt}
+use Rattle.image.specs.Rules.{mapAt}
+use Rattle.outcomes.specs.Outcomes.{Changed, formatOn, formatOutcome, runStore, onStore}
+use Rattle.image.specs.Rules.{lengthOk}
+use Rattle.image.specs.EncodeLaws.{block-encode}
+use Rattle.image.specs.EncodePagesLaws.{meta-encode, point-encode, spares-encode}
+use Rattle.image.specs.SoundStore.{Encodes}
+use Rattle.outcomes.specs.OutcomeMachineLaws.{simulates}
+use Rattle.outcomes.specs.Cards.{after, replies, pairOf, evens, replyNumbers, slackIn, hashesOn, Card, storeAfter}
+use Rattle.outcomes.specs.Cards.{nos, cards, Bench}
+
+-- ---- a store and the index whose bytes it is
+
+module _ {s : List ℕ} {x : Index} (r : Encodes s x) where
+  block-is : (k : ℕ) → k < x .size → block s k ≡ encodeBlock x k
+  block-is k h = ap (λ (t : List ℕ). block t k) (r .1) ∙ block-encode x (r .0 .laid) k h
+
+  meta-is : metaAt s ≡ metaOf x
+  meta-is = ap metaAt (r .1) ∙ meta-encode x (r .0)
+
+  -- k is the bitmap's block
+  map-is : (k : ℕ) → k < x .size → bitBlock (x .spares) (point (x .maxBucket)) 0 ≡ k → mapAt s ≡ encodeBlock x k
+  map-is k h e =
+      let w = r .0 in
+      ap mapAt (r .1)
+      ∙ ap₂ (λ (q : List ℕ) (n : ℕ). block (encode x) (bitBlock q n 0)) (spares-encode x w) (point-encode x w)
+      ∙ ap (block (encode x)) e
+      ∙ block-encode x (w .laid) k h
+
+-- ---- the same calls on both
+
+after-encodes : (cs : List Call) → Each CallFits cs → (s : List ℕ) (x : Index) → Encodes s x
+    → Encodes (after onStore cs s) (after onIndex cs x)
+after-encodes [] f s x r = r
+after-encodes (c ∷ cs) f s x r =
+    after-encodes cs (f .1) (runStore c s .state) (runIndex c x .state) (simulates .state c (f .0) s x r)
+
+replies-encode : (cs : List Call) → Each CallFits cs → (s : List ℕ) (x : Index) → Encodes s x
+    → replies onStore cs s ≡ replies onIndex cs x
+replies-encode [] f s x r = refl
+replies-encode (c ∷ cs) f s x r =
+    ap₂ (λ (a : Reply) (rs : List Reply). a ∷ rs) (simulates .reply c (f .0) s x r)
+    (replies-encode cs (f .1) (runStore c s .state) (runIndex c x .state) (simulates .state c (f .0) s x r))
+
+-- inserts of even hash codes, and other calls whose numbers fit
+evens-fit : (k : ℕ) → k < 1000 → (cs : List Call) → Each CallFits cs → Each CallFits (evens k ++ cs)
+evens-fit k h cs f = go 0 k (omega arith)
+  where
+    go : (i k : ℕ) → i + k < 1000 → Each CallFits (map (λ (i : ℕ). inserting (pairOf (2 * i))) (upFrom i k) ++ cs)
+    go i zero h = f
+    go i (suc k) h = ((omega arith, omega arith, omega arith), go (suc i) k (omega arith))
+
+-- a format of n blocks of any bytes
+format-is : (s : List ℕ) (n fill : ℕ) → length s ≡ 512 * n
+    → formatOutcome s fill ≡ formatOn (sizeOk n) (fillOk fill) s (encode (format n fill))
+unfolding formatOutcome lengthOk blocks
+format-is s n fill e =
+    let whole : eqb (length s % 512) 0 ≡ true = eq-eqb (length s % 512) 0 (omega (arith, e)) in
+    let number : length s / 512 ≡ n = omega (arith, e) in
+    ap₂ (λ (b : Bool) (n : ℕ). formatOn (b && sizeOk n) (fillOk fill) s (encode (format n fill))) whole number
+
+-- ---- the cards
+
+-- what holds of a list's first element, and what holds of the others
+infixr 5 _also_
+abbrev _also_ : {A B : Type 0} → A → B → A × B
+a also b = (a, b)
+
+module _ (fresh : ℕ → List ℕ) (e : (n : ℕ) → length (fresh n) ≡ 512 * n) where
+  refused-C : nos fresh 3 (formatting 10 ∷ []) ≡ 1 ∷ []
+  unfolding runStore
+  refused-C = ap (λ (c : Changed). replyNo (plain (c .answer)) ∷ []) (format-is (fresh 3) 3 10 (e 3))
+
+  -- an accepted format
+  module _ (n fill : ℕ) (a : sizeOk n ≡ true) (b : fillOk fill ≡ true) where
+    start : List ℕ
+    start = runStore (formatting fill) (fresh n) .state
+
+    format-accepted : formatOutcome (fresh n) fill ≡ formatOn true true (fresh n) (encode (format n fill))
+    format-accepted =
+        format-is (fresh n) n fill (e n) ∙ ap₂ (λ (l m : Bool). formatOn l m (fresh n) (encode (format n fill))) a b
+
+    format-encodes : Encodes start (format n fill)
+    unfolding start runStore
+    format-encodes = (format-wf n fill a b, ap (λ (c : Changed). c .store) format-accepted)
+
+    -- then k inserts, and more
+    module _ (k : ℕ) (h : k < 1000) (more : List Call) (f : Each CallFits more) where
+      abbrev cs : List Call
+      cs = evens k ++ more
+
+      store-is : Encodes (storeAfter fresh n (formatting fill ∷ cs)) (after onIndex cs (format n fill))
+      unfolding start
+      store-is = after-encodes cs (evens-fit k h more f) start (format n fill) format-encodes
+
+      nos-are : nos fresh n (formatting fill ∷ cs) ≡ 0 ∷ map replyNo (replies onIndex cs (format n fill))
+      unfolding start runStore
+      nos-are =
+          ap₂ (λ (m : ℕ) (rs : List Reply). m ∷ map replyNo rs)
+          (ap (λ (c : Changed). replyNo (plain (c .answer))) format-accepted)
+          (replies-encode cs (evens-fit k h more f) start (format n fill) format-encodes)
+
+      reply-is : (c : Call) → CallFits c
+          → runStore c (storeAfter fresh n (formatting fill ∷ cs)) .reply
+          ≡ runIndex c (after onIndex cs (format n fill)) .reply
+      reply-is c g =
+          simulates .reply c g (storeAfter fresh n (formatting fill ∷ cs)) (after onIndex cs (format n fill)) store-is
+
+  -- cards C to K: E and F are the stores after those cards' calls, each with its index; G to J are what calls get
+  calls : Each (λ (c : Card). c .gives ≡ c .said) (drop 3 (cards fresh))
+  unfolding cards
+      bucketsAt maskDigits highMask lowMask bucketOf digits splitFrom point groupOf bucketBlock bitBlock made
+      freeBit firstFree takePage put cut sources held matches count slack wanted begin step
+      format insert remove lookup standing work runIndex
+      metaOf padded mapFront roleOf encodeBlock image paged blank sealed covered trailer le16 le32 u16At u32At
+      encodeEntry encodePage readEntry entryAt entriesFrom entriesOf
+  calls =
+      let E = store-is 5 40 refl refl 41 (omega arith) [] tt in
+      let F = store-is 5 40 refl refl 41 (omega arith) (removing (pairOf 80) ∷ []) (omega arith) in
+      let F₂ =
+      store-is 5 40 refl refl 41 (omega arith) (removing (pairOf 80) ∷ inserting (pairOf 82) ∷ []) (omega arith) in
+      let G = reply-is 6 1 refl refl 3 (omega arith) [] tt in
+      let H = reply-is 5 1 refl refl 3 (omega arith) [] tt in
+      let I = reply-is 6 1 refl refl 3 (omega arith) (working 2 ∷ []) (omega arith) in
+      let I₂ = reply-is 6 1 refl refl 3 (omega arith) (working 2 ∷ removing (pairOf 2) ∷ []) (omega arith) in
+      let J = reply-is 4 1 refl refl 0 (omega arith) [] tt in
+      ap (map pos) (nos-are 4 10 refl refl 0 (omega arith) [] tt)
+      also ap (map pos) refused-C
+      also ap (map pos) (nos-are 4 40 refl refl 41 (omega arith) (inserting (pairOf 1) ∷ []) (omega arith))
+      also ap (map pos) (nos-are 5 40 refl refl 41 (omega arith) [] tt)
+      also ap page (block-is E 4 (omega arith))
+      also ap (λ (m : Meta). pos (getD (m .spares) 1 0) ∷ []) (meta-is E)
+      also ap page (block-is F 4 (omega arith))
+      also ap₂ freed (map-is F 3 (omega arith) refl) (meta-is F)
+      also ap page (block-is F₂ 4 (omega arith))
+      also ap slackIn (G asking tt)
+      also ap reply (G (working 9) (omega arith))
+      also ap reply (H (working 9) (omega arith))
+      also ap reply (I (looking 2 (replicate 60 0)) (omega arith))
+      also ap reply (I (removing (pairOf 2)) (omega arith))
+      also ap reply (I₂ (working 9) (omega arith))
+      also ap reply (J (looking 7 []) (omega arith))
+      also ap reply (J (working 0) (omega arith))
+      also tt
+    where
+      page : List ℕ → List ℤ
+      page l = map pos (hashesOn l)
+
+      freed : List ℕ → Meta → List ℤ
+      freed bitmap m = pos (bitOf bitmap 1) ∷ pos (m .free) ∷ []
+
+      reply : Reply → List ℤ
+      reply r = map pos (replyNumbers r)
+
+pub bench : Bench
+unfolding cards bucketsAt maskDigits highMask lowMask bucketOf groupOf bucketBlock bitBlock
+bench fresh e = (refl, (refl, (refl, calls fresh e)))

@@ -1,0 +1,22 @@
+-- The blocks of a formatted store, spelt out. docs/RULES.md 6.1: "meta, buckets 0 and 1 in blocks 1 and 2, bitmap in
+-- block 3, spares[1] = 1, first free 1, bits all 1, no entries."
+use mathlib.Core.List.{List, _++_}
+use Prim.Native.Nat.{ℕ, zero, suc}
+use lib.ListN.{replicate}
+use Rattle.endian.specs.Endian.{le16, le32}
+use Rattle.image.specs.Layout.{noLink, paged, blank}
+
+-- magic and edition, count 0, fill, max bucket 1, masks 3 and 1, overflow point 1, first free 1, N, spares[0] = 0,
+-- spares[1] = 1
+unfoldable pub formatMeta : (n fill : ℕ) → List ℕ
+formatMeta n fill =
+    le32 0x06440640 ++ (le32 512 ++ (le32 0 ++ (le16 fill ++ (le16 0 ++ (le32 1 ++ (le32 3 ++ (le32 1 ++ (le32 1
+    ++ (le32 1 ++ (le32 n ++ (le32 0 ++ (le32 1 ++ replicate 444 0))))))))))))
+
+-- a bucket page has previous 1, no next, and flags 2
+unfoldable pub formatBlock : (n fill k : ℕ) → List ℕ
+formatBlock n fill zero = paged (formatMeta n fill) noLink noLink noLink 8
+formatBlock n fill (suc zero) = paged (replicate 492 0) 1 noLink 0 2
+formatBlock n fill (suc (suc zero)) = paged (replicate 492 0) 1 noLink 1 2
+formatBlock n fill (suc (suc (suc zero))) = paged (replicate 256 255 ++ replicate 236 0) noLink noLink noLink 4
+formatBlock n fill (suc (suc (suc (suc k)))) = blank

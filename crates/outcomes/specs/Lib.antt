@@ -1,0 +1,13 @@
+pub mod Outcomes
+pub mod Refusals
+pub mod Format
+pub mod FormatLaws
+pub mod OutcomeLaws
+pub mod OutcomeIndexLaws
+pub mod OutcomeSoundLaws
+pub mod OutcomeHistoryLaws
+pub mod OutcomeMachineLaws
+pub mod Demand3Theorem
+pub mod Cards
+pub mod CardsLaws
+pub mod StoreExamples

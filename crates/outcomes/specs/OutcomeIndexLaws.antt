@@ -1,0 +1,173 @@
+-- On the bytes of a well-formed index each call is the model's: its reply, and the bytes of its index.
+use mathlib.Core.Path.{_≡_, refl, sym, ap, ap₂, _∙_, subst}
+use mathlib.Core.Bool.{Bool, true, false}
+use mathlib.Core.List.{List}
+use Prim.Native.Nat.{ℕ, _%_}
+use lib.Dec.{eqb}
+use lib.ListN.{length}
+use Rattle.lists.specs.ListsLaws.{and-right}
+use Rattle.lists.specs.Block.{blocks}
+use Rattle.page.specs.declared.Pair.{Pair}
+use Rattle.model.specs.declared.Refusal.{Refusal}
+use Rattle.model.specs.declared.StandingAnswer.{StandingAnswer}
+use Rattle.model.specs.declared.WorkAnswer.{WorkAnswer}
+use Rattle.model.specs.Index.{Index}
+use Rattle.model.specs.Held.{held}
+use Rattle.model.specs.Steps.{Step, next, stopped, Worked, step, iterate}
+use Rattle.model.specs.Calls.{Result, done, refused, sizeOk, fillOk, pairOk, budgetOk, format, formatted, insertIn}
+use Rattle.model.specs.Calls.{formatIn, insert, removeIn, remove, Looked, lookup, standing, work}
+use Rattle.model.specs.Machine.{Call, formatting, inserting, removing, looking, working, asking, CallFits, plain}
+use Rattle.model.specs.Machine.{looked, worked, stands, Ran, settled, workedIn, runIndex}
+use Rattle.model.specs.WellFormed.{WF}
+use Rattle.model.specs.InsertLaws.{insert-wf}
+use Rattle.model.specs.RemoveLaws.{remove-wf}
+use Rattle.model.specs.StepLaws.{step-wf}
+use Rattle.model.specs.FormatLaws.{format-wf}
+use Rattle.model.specs.RunLaws.{run-keeps}
+use Rattle.model.specs.SimulationLaws.{Alike, iterate-alike}
+use Rattle.image.specs.Layout.{encode}
+use Rattle.image.specs.Rules.{sound}
+use Rattle.outcomes.specs.Outcomes.{Tested, passed, failed, tested, Changed, formatOn, formatOutcome}
+use Rattle.image.specs.Rules.{lengthOk}
+use Rattle.outcomes.specs.Outcomes.{changed, insertOn, insertOutcome, removeOn, removeOutcome, lookupOn}
+use Rattle.outcomes.specs.Outcomes.{lookupOutcome, standingOn, standingOutcome, stepOn, stepOutcome, WorkDone}
+use Rattle.outcomes.specs.Outcomes.{workOn, workOutcome, runStore}
+use Rattle.image.specs.SoundStore.{Encodes}
+use Rattle.image.specs.BridgeTheorem.{encoding-is-sound}
+use Rattle.outcomes.specs.OutcomeLaws.{tested-number, tested-verdict}
+
+module _ (x : Index) (w : WF x) where
+  pub tested-encode : tested true (encode x) ≡ passed x
+  tested-encode = tested-verdict (encode x) (encoding-is-sound x w .legal) (sound x) (encoding-is-sound x w .judged)
+
+  pub tested-wrong : tested false (encode x) ≡ failed Refusal.Number
+  tested-wrong = tested-number (encode x) (encoding-is-sound x w .legal)
+
+  -- ---- each call
+
+  size-ok : sizeOk (x .size) ≡ true
+  unfolding lengthOk
+  size-ok =
+      subst (λ (n : ℕ). sizeOk n ≡ true) (encoding-is-sound x w .number)
+      (and-right (eqb (length (encode x) % 512) 0) (sizeOk (blocks (encode x))) (encoding-is-sound x w .legal))
+
+  pub format-encode : (fill : ℕ) → formatOutcome (encode x) fill ≡ changed (encode x) (formatted x fill)
+  unfolding formatOutcome formatted
+  format-encode fill =
+      ap₂ (λ (l : Bool) (n : ℕ). formatOn l (fillOk fill) (encode x) (encode (format n fill)))
+      (encoding-is-sound x w .legal) (encoding-is-sound x w .number)
+      ∙ go (fillOk fill)
+      ∙ ap (λ (b : Bool). changed (encode x) (formatIn b (fillOk fill) (format (x .size) fill))) (sym size-ok)
+    where
+      go : (f : Bool)
+          → formatOn true f (encode x) (encode (format (x .size) fill))
+          ≡ changed (encode x) (formatIn true f (format (x .size) fill))
+      go true = refl
+      go false = refl
+
+  pub insert-encode : (p : Pair) → insertOutcome (encode x) p ≡ changed (encode x) (insert x p)
+  unfolding insertOutcome insert
+  insert-encode p = go (pairOk p) refl
+    where
+      go : (b : Bool) → pairOk p ≡ b → insertOn (tested b (encode x)) (encode x) p ≡ changed (encode x) (insert x p)
+      go true e = ap (λ (t : Tested). insertOn t (encode x) p) tested-encode
+      go false e =
+          ap (λ (t : Tested). insertOn t (encode x) p) tested-wrong
+          ∙ ap (λ (b : Bool). changed (encode x) (insertIn b (held x p) x p)) (sym e)
+
+  pub remove-encode : (p : Pair) → removeOutcome (encode x) p ≡ changed (encode x) (remove x p)
+  unfolding removeOutcome remove
+  remove-encode p = go (pairOk p) refl
+    where
+      go : (b : Bool) → pairOk p ≡ b → removeOn (tested b (encode x)) (encode x) p ≡ changed (encode x) (remove x p)
+      go true e = ap (λ (t : Tested). removeOn t (encode x) p) tested-encode
+      go false e =
+          ap (λ (t : Tested). removeOn t (encode x) p) tested-wrong
+          ∙ ap (λ (b : Bool). changed (encode x) (removeIn b (held x p) x p)) (sym e)
+
+  pub lookup-encode : (h : ℕ) (out : List ℕ) → lookupOutcome (encode x) h out ≡ lookup x h out
+  unfolding lookupOutcome
+  lookup-encode h out = ap (λ (t : Tested). lookupOn t h out) tested-encode
+
+  pub standing-encode : standingOutcome (encode x) ≡ StandingAnswer.Stands (standing x)
+  unfolding standingOutcome
+  standing-encode = ap standingOn tested-encode
+
+  pub step-encode : stepOutcome (encode x) ≡ stepOn (step x)
+  unfolding stepOutcome
+  step-encode = ap (λ (y : Index). stepOn (step y)) (encoding-is-sound x w .read)
+
+-- ---- work, by iteration
+
+pub step-alike : (s : List ℕ) (x : Index) → Encodes s x → Alike Encodes (stepOutcome s) (step x)
+step-alike s x r =
+    subst (λ (a : Step (List ℕ)). Alike Encodes a (step x)) (sym (ap stepOutcome (r .1) ∙ step-encode x (r .0)))
+    (go (step x) refl)
+  where
+    go : (a : Step Index) → step x ≡ a → Alike Encodes (stepOn a) a
+    go (next y) e = (step-wf x y (r .0) e, refl)
+    go (stopped c) e = refl
+
+-- a work call's steps and stop are the model's, and its store the bytes of the model's index
+pub work-encode : (x : Index) → WF x → (budget : ℕ) → budgetOk budget ≡ true
+    → workOutcome (encode x) budget
+    ≡ record {
+      answer = WorkAnswer.Worked (work budget x .steps) (work budget x .stop);
+      store = encode
+          (work budget x .state);
+    }
+unfolding workOutcome work
+work-encode x w budget e =
+    let a = iterate-alike Encodes stepOutcome step step-alike budget (encode x) x (w, refl) in
+    let t = ap (λ (b : Bool). tested b (encode x)) e ∙ tested-encode x w in
+    ap (λ (t : Tested). workOn t (encode x) (iterate stepOutcome budget (encode x))) t
+    ∙ (λ i. record { answer = WorkAnswer.Worked (a .steps i) (a .stop i); store = a .state .1 i })
+
+work-wrong : (x : Index) → WF x → (budget : ℕ) → budgetOk budget ≡ false
+    → workOutcome (encode x) budget ≡ record { answer = WorkAnswer.Refused Refusal.Number; store = encode x }
+unfolding workOutcome
+work-wrong x w budget e =
+    ap (λ (t : Tested). workOn t (encode x) (iterate stepOutcome budget (encode x)))
+    (ap (λ (b : Bool). tested b (encode x)) e ∙ tested-wrong x w)
+
+-- ---- all calls at once
+
+-- the model's reply, with the bytes of its index
+abbrev pub written : Ran Index → Ran (List ℕ)
+written r = record { reply = r .reply; state = encode (r .state) }
+
+plainly : Changed → Ran (List ℕ)
+plainly c = record { reply = plain (c .answer); state = c .store }
+
+settle : (x : Index) (r : Result) → plainly (changed (encode x) r) ≡ written (settled x r)
+unfolding plainly
+settle x (done y) = refl
+settle x (refused r) = refl
+
+pub run-encode : (c : Call) (x : Index) → WF x → runStore c (encode x) ≡ written (runIndex c x)
+unfolding runStore runIndex plainly
+run-encode (formatting fill) x w = ap plainly (format-encode x w fill) ∙ settle x (formatted x fill)
+run-encode (inserting p) x w = ap plainly (insert-encode x w p) ∙ settle x (insert x p)
+run-encode (removing p) x w = ap plainly (remove-encode x w p) ∙ settle x (remove x p)
+run-encode (looking h out) x w =
+    ap (λ (l : Looked). record { reply = looked l; state = encode x }) (lookup-encode x w h out)
+run-encode (working budget) x w = go (budgetOk budget) refl
+  where
+    ran : WorkDone → Ran (List ℕ)
+    ran c = record { reply = worked (c .answer); state = c .store }
+
+    go : (b : Bool) → budgetOk budget ≡ b → ran (workOutcome (encode x) budget) ≡ written (workedIn b x (work budget x))
+    go true e = ap ran (work-encode x w budget e)
+    go false e = ap ran (work-wrong x w budget e)
+run-encode asking x w = ap (λ (a : StandingAnswer). record { reply = stands a; state = encode x }) (standing-encode x w)
+
+-- and its index is well-formed
+pub run-wf : (c : Call) → CallFits c → (x : Index) → WF x → WF (runIndex c x .state)
+run-wf =
+    run-keeps WF
+    (record {
+      formats = λ x fill s f w. format-wf (x .size) fill s f;
+      inserts = insert-wf;
+      removes = remove-wf;
+      steps = step-wf;
+    })

@@ -1,0 +1,161 @@
+-- "After every accepted call and every step the store is sound" (docs/RULES.md 6.11), and as long as it was.
+use mathlib.Core.Path.{_≡_, refl, sym, ap, ap₂, _∙_, subst}
+use mathlib.Core.Logic.{_≢_}
+use mathlib.Core.Bool.{Bool, true, false}
+use mathlib.Core.List.{List}
+use Prim.Native.Nat.{ℕ, _%_}
+use native.Mathlib.Omega.{arith}
+use borrow.Author.Tests.{eqb-true}
+use lib.Dec.{eqb}
+use lib.ListN.{length}
+use Rattle.lists.specs.ListsLaws.{and-left, and-right}
+use Rattle.lists.specs.Bytes.{Bytes}
+use Rattle.lists.specs.Block.{blocks}
+use Rattle.model.specs.declared.Answer.{Answer}
+use Rattle.model.specs.Index.{Job, idle, copying, clearing, Index}
+use Rattle.model.specs.Steps.{Step, next, stopped, step}
+use Rattle.model.specs.Calls.{sizeOk, fillOk, format}
+use Rattle.model.specs.Machine.{Call, CallFits, plain, accepted, Ran, runIndex}
+use Rattle.model.specs.Book.{effect}
+use Rattle.model.specs.WellFormed.{WF}
+use Rattle.model.specs.FrameLaws.{insert-frame, remove-frame, begin-frame, job-frame}
+use Rattle.model.specs.StepLaws.{step-wf}
+use Rattle.model.specs.RunLaws.{run-keeps}
+use Rattle.model.specs.FormatLaws.{format-wf}
+use Rattle.model.specs.MachineLaws.{never}
+use Rattle.image.specs.Layout.{encode}
+use Rattle.image.specs.Rules.{sound, verdict}
+use Rattle.outcomes.specs.Outcomes.{passed, judged, tested, Changed, formatOn}
+use Rattle.image.specs.Rules.{lengthOk}
+use Rattle.outcomes.specs.Outcomes.{formatOutcome, stepOn, stepOutcome, runStore}
+use Rattle.image.specs.BridgeTheorem.{sound-is-encoding, encoding-is-sound}
+use Rattle.outcomes.specs.Refusals.{callNumbersOk}
+use Rattle.outcomes.specs.OutcomeLaws.{passed-sound, StoreRun, refuses, formats, reads, accepts, store-view}
+use Rattle.image.specs.SoundStore.{Encodes, StaysSound}
+use Rattle.outcomes.specs.OutcomeIndexLaws.{step-encode, run-encode, run-wf}
+
+-- ---- the size stays
+
+step-size : (x y : Index) → step x ≡ next y → y .size ≡ x .size
+step-size x y e = go (x .job) refl
+  where
+    busy : x .job ≢ idle → y .size ≡ x .size
+    busy ne = job-frame x y ne e .size
+
+    go : (j : Job) → x .job ≡ j → y .size ≡ x .size
+    go idle q = begin-frame x y q e .size
+    go copying q = busy (λ r. never (cc))
+    go clearing q = busy (λ r. never (cc))
+
+pub run-size : (c : Call) → CallFits c → (x : Index) → runIndex c x .state .size ≡ x .size
+unfolding format
+run-size c f x =
+    run-keeps (λ (y : Index). y .size ≡ x .size)
+    (record {
+      formats = λ y fill s k h. h;
+      inserts = λ y p z h k e. insert-frame y p z e .frame .size ∙ h;
+      removes = λ y p z h e. remove-frame y p z e .frame .size ∙ h;
+      steps = λ y z h e. step-size y z e ∙ h;
+    })
+    c f x refl
+
+-- ---- sound stores
+
+pub legal-size : (s : List ℕ) → lengthOk s ≡ true → sizeOk (blocks s) ≡ true
+unfolding lengthOk
+legal-size s h = and-right (eqb (length s % 512) 0) (sizeOk (blocks s)) h
+
+-- the bytes of an index of as many blocks
+encoded : (s t : List ℕ) (y : Index) → lengthOk s ≡ true → Encodes t y → y .size ≡ blocks s → StaysSound s t
+unfolding lengthOk blocks
+encoded s t y h e z =
+    let g = encoding-is-sound y (e .0) in
+    let m : length s % 512 ≡ 0 = eqb-true (length s % 512) 0 (and-left (eqb (length s % 512) 0) _ h) in
+    record {
+      index = y;
+      sounds = ap verdict (e .1) ∙ g .judged;
+      legal = ap lengthOk (e .1) ∙ g .legal;
+      bytes = subst Bytes (sym (e .1)) (g .bytes);
+      same = ap length (e .1) ∙ g .size ∙ omega (arith, z, m);
+    }
+
+-- what an accepted format leaves
+pub record Formatted (s : List ℕ) (fill : ℕ) : Type 0 where
+  pub legal : lengthOk s ≡ true
+  pub filled : fillOk fill ≡ true
+  pub outcome : formatOutcome s fill ≡ record { answer = Answer.Done; store = encode (format (blocks s) fill) }
+  pub wf : WF (format (blocks s) fill)
+
+pub format-done : (s : List ℕ) (fill : ℕ) → accepted (plain (formatOutcome s fill .answer)) ≡ true → Formatted s fill
+unfolding formatOutcome
+format-done s fill e = go (lengthOk s) refl (fillOk fill) refl e
+  where
+    t : List ℕ
+    t = encode (format (blocks s) fill)
+
+    go : (l : Bool) → lengthOk s ≡ l → (f : Bool) → fillOk fill ≡ f
+        → accepted (plain (formatOn l f s (encode (format (blocks s) fill)) .answer)) ≡ true → Formatted s fill
+    go false h f k e = never (cc)
+    go true h false k e = never (cc)
+    go true h true k e =
+        record {
+          legal = h;
+          filled = k;
+          outcome = ap₂ (λ (l f : Bool). formatOn l f s t) h k;
+          wf = format-wf (blocks s) fill (legal-size s h) k;
+        }
+
+pub format-sound : (s : List ℕ) (fill : ℕ) → accepted (plain (formatOutcome s fill .answer)) ≡ true
+    → StaysSound s (formatOutcome s fill .store)
+unfolding format
+format-sound s fill e =
+    let f = format-done s fill e in
+    encoded s (formatOutcome s fill .store) (format (blocks s) fill) (f .legal)
+    (f .wf, ap (λ (c : Changed). c .store) (f .outcome)) refl
+
+module _ (s : List ℕ) (b : Bytes s) where
+  -- a call whose tests passed was made on the bytes of a well-formed index
+  pub passed-encodes : (n : Bool) (x : Index) → tested n s ≡ passed x → Encodes s x
+  passed-encodes n x e =
+      let p = passed-sound s n x e in
+      let g = sound-is-encoding s x b (p .0) (p .1) in
+      (g .wf, g .bytes)
+
+  size-is : (x : Index) → Encodes s x → x .size ≡ blocks s
+  size-is x r = sym (ap blocks (r .1) ∙ encoding-is-sound x (r .0) .number)
+
+  run-sound : (c : Call) → CallFits c → (x : Index) → tested (callNumbersOk (effect c)) s ≡ passed x
+      → StaysSound s (runStore c s .state)
+  run-sound c f x e =
+      let r = passed-encodes (callNumbersOk (effect c)) x e in
+      let q = ap (runStore c) (r .1) ∙ run-encode c x (r .0) in
+      encoded s (runStore c s .state) (runIndex c x .state) (passed-sound s (callNumbersOk (effect c)) x e .0)
+      (run-wf c f x (r .0), ap (λ (a : Ran (List ℕ)). a .state) q) (run-size c f x ∙ size-is x r)
+
+  pub call-sound : (c : Call) → CallFits c → accepted (runStore c s .reply) ≡ true → StaysSound s (runStore c s .state)
+  unfolding format
+  call-sound c f e = go (store-view c s) e refl
+    where
+      passing : {r : Ran (List ℕ)} (x : Index) → tested (callNumbersOk (effect c)) s ≡ passed x → runStore c s ≡ r
+          → StaysSound s (r .state)
+      passing x k q = subst (λ (r : Ran (List ℕ)). StaysSound s (r .state)) q (run-sound c f x k)
+
+      go : {r : Ran (List ℕ)} → StoreRun c s r → accepted (r .reply) ≡ true → runStore c s ≡ r
+          → StaysSound s (r .state)
+      go (refuses h) e q = never (cc)
+      go (formats fill h k) e q =
+          encoded s _ (format (blocks s) fill) h (format-wf (blocks s) fill (legal-size s h) k, refl) refl
+      go (reads {x = x} k) e q = passing x k q
+      go (accepts {x = x} k h) e q = passing x k q
+
+  pub step-sound : (x : Index) (t : List ℕ) → lengthOk s ≡ true → verdict s ≡ sound x → stepOutcome s ≡ next t
+      → StaysSound s t
+  step-sound x t h v e = go (step x) refl (sym (ap stepOutcome (r .1) ∙ step-encode x (r .0)) ∙ e)
+    where
+      r : Encodes s x
+      r = let g = sound-is-encoding s x b h v in (g .wf, g .bytes)
+
+      go : (a : Step Index) → step x ≡ a → stepOn a ≡ next t → StaysSound s t
+      go (next y) k q =
+          let z : encode y ≡ t = cc in encoded s t y h (step-wf x y (r .0) k, sym z) (step-size x y k ∙ size-is x r)
+      go (stopped c) k q = never (cc)

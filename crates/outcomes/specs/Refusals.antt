@@ -1,0 +1,36 @@
+-- The refusals by a call's tests, of each call but format: "The order is 1, 2, 3, 4, .. Format tests 1 and 2 only."
+use mathlib.Core.Bool.{Bool, true}
+use Rattle.model.specs.declared.Refusal.{Refusal}
+use Rattle.model.specs.declared.Answer.{Answer}
+use Rattle.model.specs.declared.LookupAnswer.{LookupAnswer}
+use Rattle.model.specs.declared.WorkAnswer.{WorkAnswer}
+use Rattle.model.specs.declared.StandingAnswer.{StandingAnswer}
+use Rattle.model.specs.Calls.{fillOk, pairOk, budgetOk}
+use Rattle.model.specs.Machine.{Call, formatting, inserting, removing, looking, working, asking, Reply, plain, looked}
+use Rattle.model.specs.Machine.{worked, stands}
+use Rattle.model.specs.Book.{Effect, empties, puts, takes, leaves, hasSteps}
+
+-- the test of a call's own numbers, by its effect
+abbrev pub callNumbersOk : Effect → Bool
+callNumbersOk (empties fill) = fillOk fill
+callNumbersOk (puts p) = pairOk p
+callNumbersOk (takes p) = pairOk p
+callNumbersOk leaves = true
+callNumbersOk (hasSteps budget) = budgetOk budget
+
+-- whether a call tests checks and rules: each but format does
+abbrev pub Tests : Effect → Type 0
+Tests (empties fill) = ⊥
+Tests (puts p) = Unit {0}
+Tests (takes p) = Unit {0}
+Tests leaves = Unit {0}
+Tests (hasSteps budget) = Unit {0}
+
+-- a call's answer when it is refused; a lookup's output stays
+abbrev pub refusedAs : Call → Refusal → Reply
+refusedAs (formatting fill) r = plain (Answer.Refused r)
+refusedAs (inserting p) r = plain (Answer.Refused r)
+refusedAs (removing p) r = plain (Answer.Refused r)
+refusedAs (looking h out) r = looked (record { answer = LookupAnswer.Refused r; output = out })
+refusedAs (working budget) r = worked (WorkAnswer.Refused r)
+refusedAs asking r = stands (StandingAnswer.Refused r)
