@@ -18,7 +18,7 @@ use Rattle.interpreter.specs.declared.ScriptState.{ScriptState}
 use Rattle.interpreter.specs.declared.Fed.{Fed}
 use Rattle.interpreter.specs.Feed.{startState, gathered, storeBytes, ready, Feeding, fedAs, still, lineTurn}
 use Rattle.interpreter.specs.Feed.{lineEnds, feedOutcome, finishOutcome, Lent, feeds}
-use Rattle.interpreter.specs.Machine.{State, Wrote, onBytes, onPieces, stateOf, ranAs}
+use Rattle.interpreter.specs.Machine.{State, Reached, onBytes, onPieces, stateOf, ranAs}
 use Rattle.interpreter.specs.MachineLaws.{onBytes-append, onPieces-joined}
 use Rattle.interpreter.specs.FeedLaws.{feed-ready}
 use Rattle.interpreter.specs.FedLaws.{ranIn, serves-ready, feed-serves, feed-run, finish-run}
@@ -101,9 +101,9 @@ module _ (s : State) (piece out : List ℕ) (used written : ℕ) (c : ScriptStat
       ap (ranAs (r .state) new)
       (ap (λ (k : ℕ). take (k + r .written) (take written out ++ after)) (sym (length-take-le written out fits))
       ∙ take-append-add (take written out) after (r .written))
-      ∙ ap (λ (q : Wrote). record { state = q .state; text = take written out ++ q .text }) run
+      ∙ ap (λ (q : Reached). record { state = q .state; text = take written out ++ q .text }) run
       ∙ ap
-      (λ (p : Wrote).
+      (λ (p : Reached).
       let q = onBytes (p .state) (take (r .used) (drop used piece)) in
       record { state = q .state; text = p .text ++ q .text })
       before
@@ -125,7 +125,7 @@ start-serves store h =
 pub calls-run : (calls : List Lent) (last : List ℕ) (c : ScriptState) (store : List ℕ) → Serves c store
     → Each (λ (l : Lent). lineOutput ≤ length (l .output)) calls → lineOutput ≤ length last
     → let r = feeds c store calls last in r .text ≡ onPieces (stateOf c store) (r .used ∷ [])
-calls-run [] last c store v o p = ap (λ (r : Wrote). r .text) (finish-run c store v last p)
+calls-run [] last c store v o p = ap (λ (r : Reached). r .text) (finish-run c store v last p)
 calls-run (l ∷ ls) last c store v o p =
     let f = feedOutcome c store (l .input) (l .output) in
     let r = feeds (f .fed .state) (f .store) ls last in
@@ -134,8 +134,8 @@ calls-run (l ∷ ls) last c store v o p =
     let run = feed-run c store v (l .input) (l .output) (o .0) in
     let more =
     calls-run ls last (f .fed .state) (f .store) (feed-serves c store v (l .input) (l .output) (o .0)) (o .1) p in
-    ap (λ (q : Wrote). q .text ++ r .text) run
+    ap (λ (q : Reached). q .text ++ r .text) run
     ∙ ap (λ (t : List ℕ). onBytes s u .text ++ t)
-    (more ∙ ap (λ (q : Wrote). onPieces (q .state) (r .used ∷ [])) run)
+    (more ∙ ap (λ (q : Reached). onPieces (q .state) (r .used ∷ [])) run)
     ∙ onPieces-joined s (u ∷ r .used ∷ [])
     ∙ ap (λ (x : List ℕ). onPieces s ((u ++ x) ∷ [])) (append-nil (r .used))

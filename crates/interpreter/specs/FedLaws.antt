@@ -18,7 +18,7 @@ use Rattle.interpreter.specs.declared.Gathered.{Gathered}
 use Rattle.interpreter.specs.Script.{Turn, runCommand}
 use Rattle.interpreter.specs.Feed.{gathered, ready, Feeding, still, pendingCommand, nextLine}
 use Rattle.interpreter.specs.Feed.{lineTurn, over, nextState, lineEnds, feedOutcome, finishOutcome}
-use Rattle.interpreter.specs.Machine.{short, long, commandAt, State, Wrote, endLine, onBytes, endIn}
+use Rattle.interpreter.specs.Machine.{short, long, commandAt, State, Reached, endLine, onBytes, endIn}
 use Rattle.interpreter.specs.Machine.{atEnd, pendingIn, stateOf, ranAs}
 use Rattle.interpreter.specs.HeldLaws.{upTo, gather-is, lineRun, gather-run}
 use Rattle.interpreter.specs.FeedLaws.{room-ready, feed-ready, finish-still, finish-ended}
@@ -26,7 +26,7 @@ use Rattle.interpreter.specs.Stores.{ScriptStore, Serves}
 use Rattle.interpreter.specs.StoresLaws.{store-after, store-size}
 
 -- a call's answer as a run of the machine
-abbrev pub ranIn : Feeding → Wrote
+abbrev pub ranIn : Feeding → Reached
 ranIn f = ranAs (f .fed .state) (f .store) (take (f .fed .written) (f .output))
 
 -- ---- the end of a line
@@ -80,7 +80,7 @@ module _ (c : ScriptState) (store : List ℕ) (v : Serves c store) where
       ∙ ap (λ (k : Command). let t = runCommand k (nextLine (c .number)) (take (512 * c .blocks) store) in
       made (t .store) (t .text)) (pending-command c)
     where
-      made : List ℕ → List ℕ → Wrote
+      made : List ℕ → List ℕ → Reached
       made s t = record { state = record { pending = short []; line = nextLine (c .number); store = s }; text = t }
 
 -- ---- feed and finish

@@ -15,7 +15,7 @@ use Rattle.line.specs.Words.{span}
 use Rattle.interpreter.specs.declared.ScriptState.{ScriptState}
 use Rattle.interpreter.specs.declared.Gathered.{Gathered}
 use Rattle.interpreter.specs.Feed.{tooMany, gathered}
-use Rattle.interpreter.specs.Machine.{Pending, short, long, grow, State, Wrote, endLine, keepByte, onBytes}
+use Rattle.interpreter.specs.Machine.{Pending, short, long, grow, State, Reached, endLine, keepByte, onBytes}
 use Rattle.interpreter.specs.Machine.{pendingIn, stateOf}
 use Rattle.interpreter.specs.Held.{withLine, kept, gatherIn}
 
@@ -191,7 +191,7 @@ gather-is c (b ∷ bs) w h = go (eqb b 10) (gather-is (kept c b) bs (kept-whole 
 -- ---- as the machine has it
 
 -- a line that ended, or one that has not
-abbrev pub lineRun : Bool → State → Wrote
+abbrev pub lineRun : Bool → State → Reached
 lineRun t s = cond t (endLine s) (record { state = s; text = [] })
 
 pub gather-run : (store : List ℕ) (c : ScriptState) (input : List ℕ) → length (c .line) ≡ 80
@@ -210,10 +210,10 @@ gather-run store c (b ∷ bs) w = go (eqb b 10) refl (gather-run store (kept c b
           | false ↦ record { state = g .state; used = suc (g .used); ended = g .ended }
         ]
 
-    step : Bool → Wrote
+    step : Bool → Reached
     step u = cond u (endLine (stateOf c store)) (keepByte (stateOf c store) b)
 
-    run : State → Wrote
+    run : State → Reached
     run s = onBytes s (take (g .used) bs)
 
     go : (t : Bool) → eqb b 10 ≡ t

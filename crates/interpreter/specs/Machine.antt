@@ -35,24 +35,24 @@ abbrev pub starting : State
 starting = record { pending = short []; line = 0; store = [] }
 
 -- A state after some bytes, and what they wrote.
-pub record Wrote : Type 0 where
+pub record Reached : Type 0 where
   pub state : State
   pub text : List ℕ
 
-abbrev pub endLine : State → Wrote
+abbrev pub endLine : State → Reached
 endLine s =
     let n = nextLine (s .line) in
     let t = runCommand (commandAt (s .pending)) n (s .store) in
     record { state = record { pending = short []; line = n; store = t .store }; text = t .text }
 
-abbrev pub keepByte : State → ℕ → Wrote
+abbrev pub keepByte : State → ℕ → Reached
 keepByte s b =
     record { state = record { pending = grow (s .pending) b; line = s .line; store = s .store }; text = [] }
 
-abbrev pub onByte : State → ℕ → Wrote
+abbrev pub onByte : State → ℕ → Reached
 onByte s b = cond (eqb b 10) (endLine s) (keepByte s b)
 
-abbrev pub onBytes : State → List ℕ → Wrote
+abbrev pub onBytes : State → List ℕ → Reached
 onBytes s [] = record { state = s; text = [] }
 onBytes s (b ∷ bs) =
     let r = onByte s b in
@@ -60,12 +60,12 @@ onBytes s (b ∷ bs) =
     record { state = q .state; text = r .text ++ q .text }
 
 -- the end of the input: a last line that lacks its LF is run
-abbrev pub endIn : Pending → State → Wrote
+abbrev pub endIn : Pending → State → Reached
 endIn (short []) s = record { state = s; text = [] }
 endIn (short (b ∷ bs)) s = endLine s
 endIn long s = endLine s
 
-abbrev pub atEnd : State → Wrote
+abbrev pub atEnd : State → Reached
 atEnd s = endIn (s .pending) s
 
 -- a script that comes in pieces: what they write, one after the other, and the end
@@ -83,5 +83,5 @@ abbrev pub stateOf : ScriptState → (store : List ℕ) → State
 stateOf c store = record { pending = pendingIn c; line = c .number; store = take (512 * c .blocks) store }
 
 -- a run that left a struct and a lent store
-abbrev pub ranAs : ScriptState → (store text : List ℕ) → Wrote
+abbrev pub ranAs : ScriptState → (store text : List ℕ) → Reached
 ranAs c store text = record { state = stateOf c store; text = text }

@@ -14,20 +14,20 @@ use Rattle.line.specs.Command.{maxLine, readLine}
 use Rattle.line.specs.CommandLaws.{line-long}
 use Rattle.interpreter.specs.Script.{Turn, runCommand, ended, runLines}
 use Rattle.interpreter.specs.Feed.{nextLine}
-use Rattle.interpreter.specs.Machine.{Pending, short, long, grow, commandAt, State, Wrote, endLine}
+use Rattle.interpreter.specs.Machine.{Pending, short, long, grow, commandAt, State, Reached, endLine}
 use Rattle.interpreter.specs.Machine.{keepByte, onByte, onBytes, endIn, atEnd, onPieces}
 
 -- ---- pieces
 
 -- one run after the other
-abbrev pub andThen : Wrote → (State → Wrote) → Wrote
+abbrev pub andThen : Reached → (State → Reached) → Reached
 andThen r f = let q = f (r .state) in record { state = q .state; text = r .text ++ q .text }
 
 pub onBytes-append : (s : State) (xs ys : List ℕ) → onBytes s (xs ++ ys) ≡ andThen (onBytes s xs) (λ t. onBytes t ys)
 onBytes-append s [] ys = refl
 onBytes-append s (b ∷ bs) ys =
     let r = onByte s b in
-    ap (λ (q : Wrote). record { state = q .state; text = r .text ++ q .text }) (onBytes-append (r .state) bs ys)
+    ap (λ (q : Reached). record { state = q .state; text = r .text ++ q .text }) (onBytes-append (r .state) bs ys)
     ∙ ap (λ (t : List ℕ). record { state = onBytes (onBytes (r .state) bs .state) ys .state; text = t })
     (sym (append-assoc (r .text) (onBytes (r .state) bs .text) (onBytes (onBytes (r .state) bs .state) ys .text)))
 
@@ -39,7 +39,7 @@ onPieces-joined s (p ∷ ps) =
     let q = onBytes (r .state) rest in
     ap (λ (t : List ℕ). r .text ++ t) (onPieces-joined (r .state) ps)
     ∙ sym (append-assoc (r .text) (q .text) (atEnd (q .state) .text))
-    ∙ ap (λ (x : Wrote). x .text ++ atEnd (x .state) .text) (sym (onBytes-append s p rest))
+    ∙ ap (λ (x : Reached). x .text ++ atEnd (x .state) .text) (sym (onBytes-append s p rest))
 
 -- ---- the pending line
 

@@ -1,6 +1,6 @@
 // The call of a line, on the first `blocks` blocks of a lent store.
 use crate::SCRIPT_BLOCKS;
-use crate::Wrote;
+use crate::Turn;
 use crate::answers::put_answer;
 use crate::answers::put_looked;
 use crate::answers::put_worked;
@@ -28,7 +28,7 @@ fn run_format(
     standing: u32,
     store: &mut [u8],
     output: &mut [u8],
-) -> Wrote
+) -> Turn
     requires { ⌜ Room standing (now store) (now output) ⌝ }
     ensures { λ r. ⌜ Runs (runCommand (command.Format blocks fill) line (take (512 * standing) (now (store .entry))))
         (now (store .entry)) (now (store .exit)) (r .blocks)
@@ -36,7 +36,7 @@ fn run_format(
 {
     if blocks > SCRIPT_BLOCKS {
         let written = put_refused(output, line, 1);
-        return Wrote {
+        return Turn {
             blocks: standing,
             written,
         };
@@ -46,11 +46,11 @@ fn run_format(
     match answer {
         Answer::Done => {
             let written = put_store(output, blocks, fill);
-            Wrote { blocks, written }
+            Turn { blocks, written }
         }
         Answer::Refused(refusal) => {
             let written = put_refused(output, line, refusal_number(refusal));
-            Wrote {
+            Turn {
                 blocks: standing,
                 written,
             }
@@ -123,7 +123,7 @@ pub fn run_command(
     blocks: u32,
     store: &mut [u8],
     output: &mut [u8],
-) -> Wrote
+) -> Turn
     requires { ⌜ Room blocks (now store) (now output) ⌝ }
     ensures { λ r. ⌜ Runs (runCommand command line (take (512 * blocks) (now (store .entry))))
         (now (store .entry)) (now (store .exit)) (r .blocks)
@@ -137,7 +137,7 @@ pub fn run_command(
             offset,
         } => {
             let written = run_insert(hash, block, offset, line, blocks, store, output);
-            Wrote { blocks, written }
+            Turn { blocks, written }
         }
         Command::Remove {
             hash,
@@ -145,19 +145,19 @@ pub fn run_command(
             offset,
         } => {
             let written = run_remove(hash, block, offset, line, blocks, store, output);
-            Wrote { blocks, written }
+            Turn { blocks, written }
         }
         Command::Lookup { hash } => {
             let written = run_lookup(hash, line, blocks, store, output);
-            Wrote { blocks, written }
+            Turn { blocks, written }
         }
         Command::Work { budget } => {
             let written = run_work(budget, line, blocks, store, output);
-            Wrote { blocks, written }
+            Turn { blocks, written }
         }
         Command::Unreadable => {
             let written = put_refused(output, line, 10);
-            Wrote { blocks, written }
+            Turn { blocks, written }
         }
     }
 }

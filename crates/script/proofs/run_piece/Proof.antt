@@ -6,7 +6,7 @@ use native.Mathlib.Omega.{arith}
 use lib.ListN.{length, take, drop, length-drop, drop-of-length-le, take-append-drop}
 use lib.Seq.{take-all, length-take-le, drop-drop}
 use Rattle.text.specs.Text.{lineOutput}
-use Rattle.interpreter.specs.Machine.{State, Wrote, onBytes, stateOf, ranAs}
+use Rattle.interpreter.specs.Machine.{State, Reached, onBytes, stateOf, ranAs}
 use Rattle.interpreter.specs.MachineLaws.{onBytes-append}
 use Rattle.interpreter.specs.Stores.{Serves}
 use Rattle.script.proofs.run_piece.Statement.{statement}
@@ -34,12 +34,12 @@ progress zero w rest out s e h stop o some =
 progress (suc u) w rest out s e h stop o some = omega arith
 
 -- the rest, from the state after some of the bytes
-rest-state : (s : State) (rest : List ℕ) (u : ℕ) (q : Wrote) → q ≡ onBytes s (take u rest)
+rest-state : (s : State) (rest : List ℕ) (u : ℕ) (q : Reached) → q ≡ onBytes s (take u rest)
     → onBytes s rest .state ≡ onBytes (q .state) (drop u rest) .state
 rest-state s rest u q e =
     ap (λ (l : List ℕ). onBytes s l .state) (sym (take-append-drop u rest))
-    ∙ ap (λ (r : Wrote). r .state) (onBytes-append s (take u rest) (drop u rest))
-    ∙ ap (λ (r : Wrote). onBytes (r .state) (drop u rest) .state) (sym e)
+    ∙ ap (λ (r : Reached). r .state) (onBytes-append s (take u rest) (drop u rest))
+    ∙ ap (λ (r : Reached). onBytes (r .state) (drop u rest) .state) (sym e)
 
 module _ (c : tie.After-run-lines Inv-loop μ-loop) where
   abbrev l : tie.At-loop Inv-loop μ-loop
@@ -85,7 +85,7 @@ module _ (c : tie.After-run-lines Inv-loop μ-loop) where
       let few = c .run-lines .ensures .1 .1 .0 in
       let all = ap length whole in (
         progress (c .run-lines .result .used) (c .run-lines .result .written) rest out
-            (stateOf (l .loop .held) (l .loop .store)) (ap (λ (r : Wrote). r .text) ran) written stop room
+            (stateOf (l .loop .held) (l .loop .store)) (ap (λ (r : Reached). r .text) ran) written stop room
             (omega (arith, long, test)),
         omega (arith, long, few, all, l .loop .inv .0),
       )
