@@ -1,7 +1,7 @@
 -- DEMAND 3 holds of every batch that follows an accepted format, one that is the batch's own first call included.
 -- `run_batch` leaves exactly what `runs` says (Batch.antt); here its store, words and output are joined to the moments
--- of the calls. The claim on moments is in Demand.antt of crate `model`, its proof for stores in Demand3.antt of crate
--- `image`.
+-- of the calls. The claim on moments is in Demand.antt of crate `model`, its proof for stores in
+-- Demand3Theorem.antt of crate `outcomes`.
 use mathlib.Core.Path.{_≡_, refl, sym, ap, _∙_}
 use mathlib.Core.Bool.{true}
 use mathlib.Core.List.{List, _∷_, _++_}

@@ -1,5 +1,5 @@
 // A list of calls, encoded as numbers, run one after the other through the public functions: what demand 3 says of
-// lists of calls after an accepted format, it says of this function (specs/Demand3.antt).
+// lists of calls after an accepted format, it says of this function (specs/Demand3Theorem.antt).
 use amiqsovik::amiqsovik_format;
 use amiqsovik::amiqsovik_insert;
 use amiqsovik::amiqsovik_lookup;

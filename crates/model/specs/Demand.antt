@@ -78,7 +78,7 @@ module _ (M : Machine) where
       × (k ≡ 2 * m + 3 → phaseAt M s ≡ Phase.None)
       × (k ≤ 2 * m + 3)
 
-  -- What holds at a moment, of calls whose numbers are good: what others get is said by the outcomes (crate `image`).
+  -- What holds at a moment, of calls whose numbers are good: what others get is said by crate `outcomes`.
   pub record Faithful (t : Moment M) : Type 0 where
     -- the book lists each of its pairs once, ascending by hash, then block, then offset
     pub set : ascending self (t .book) ≡ true

@@ -1,5 +1,5 @@
 -- DEMAND 3 holds of the index as a value, over every list of calls. The claim is in Demand.antt, the invariant that
--- proves it in Demand3Inv.antt.
+-- proves it in Demand3InvLaws.antt.
 use Rattle.model.specs.Machine.{onIndex}
 use Rattle.model.specs.HistoryLaws.{always-map}
 use Rattle.model.specs.Demand.{Holds, Demand3}

@@ -1,6 +1,6 @@
 -- DEMAND 3 holds of byte stores, over every list of calls; the index that a store shows is the one that it is read as.
--- The claim is in Demand.antt of crate `model`, its proof for the index as a value in Demand3.antt there; a store does
--- as its index does (OutcomeMachineLaws.antt).
+-- The claim is in Demand.antt of crate `model`, its proof for the index as a value in Demand3Theorem.antt there; a
+-- store does as its index does (OutcomeMachineLaws.antt).
 use mathlib.Core.Path.{_≡_, ap, _∙_}
 use mathlib.Core.Bool.{true}
 use mathlib.Core.List.{List, _∷_}
