@@ -48,6 +48,9 @@ module _ {s : List ℕ} {c : Change} {images : List ℕ} {k : ℕ} {r : Opened} 
     pub lent-block : take (512 * r .at + 512 - 512 * r .at) (drop (512 * r .at) images′) ≡ block d k
     lent-block = part-block images′ at ∙ is-block
 
+    pub length-lent : length (take (512 * r .at + 512 - 512 * r .at) (drop (512 * r .at) images′)) ≡ 512
+    length-lent = ap length (part-block images′ at) ∙ length-opened
+
     -- the image is b now, and so is the block
     pub edit-draft : (images″ b : List ℕ) → images″ ≡ setBlock images′ (r .at) b → length b ≡ 512
         → Draft s (r .change) images″ (setBlock d k b)

@@ -1,8 +1,8 @@
 // Opens a block of a draft: lists its number and makes a copy of it, if it is not listed yet.
 use crate::Opened;
+use endian::raw::copy_over;
 use store::Change;
 use store::block_at;
-use store::copy_over;
 use store::put_block;
 ghost use mathlib.Core.Path.{_≡_};
 ghost use mathlib.Core.List.{List};

@@ -1,5 +1,6 @@
 // Edits of one block of a draft: entries of a page, a page anew, an unused block.
 use crate::open::open_block;
+use endian::raw::zero_bytes;
 use page::Entry;
 use page::edit::insert_entry;
 use page::edit::remove_entry;
@@ -7,7 +8,7 @@ use store::Change;
 use store::put_trailer;
 ghost use mathlib.Core.Path.{_≡_};
 ghost use mathlib.Core.List.{List, [], _∷_, _++_};
-ghost use Prim.Native.Nat.{ℕ, _≤_};
+ghost use Prim.Native.Nat.{ℕ};
 ghost use lib.ListN.{length, drop, replicate};
 ghost use Rattle.lists.specs.Block.{block};
 ghost use Rattle.page.specs.Entries.{encodePage, insertAt, removeAt};
@@ -46,18 +47,6 @@ pub fn remove_at(store: &[u8], change: Change, images: &mut [u8], k: u32, slot: 
     opened.change
 }
 
-// Writes zeros over the first `n` bytes.
-fn clear_front(part: &mut [u8], n: usize)
-    requires { ⌜ n ≤ length (now part) ⌝ }
-    ensures { λ _. ⌜ now (part .exit) ≡ replicate n 0 ++ drop n (now (part .entry)) ⌝ }
-{
-    let mut i = 0;
-    while i < n {
-        part[i] = 0;
-        i += 1;
-    }
-}
-
 // Makes block `k` unused: bytes 0..507 are zero.
 pub fn clear_block(store: &[u8], change: Change, images: &mut [u8], k: u32) -> Change
     requires { ⌜ ((d : List ℕ) × Ready (now store) change (now images) d k) ⌝ }
@@ -66,7 +55,7 @@ pub fn clear_block(store: &[u8], change: Change, images: &mut [u8], k: u32) -> C
 {
     let opened = open_block(store, change, images, k);
     let from = 512 * opened.at;
-    clear_front(&mut images[from..from + 512], 508);
+    zero_bytes(&mut images[from..from + 512], 0, 508);
     opened.change
 }
 
@@ -76,7 +65,7 @@ fn clear_page(part: &mut [u8], prev: u32, next: u32, bucket: u32, flags: u16)
     ensures { λ _. ⌜ now (part .exit)
         ≡ encodePage [] (trailer prev next bucket flags ++ drop 508 (now (part .entry))) ⌝ }
 {
-    clear_front(part, 492);
+    zero_bytes(part, 0, 492);
     put_trailer(part, prev, next, bucket, flags);
 }
 

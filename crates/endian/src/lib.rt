@@ -1,4 +1,6 @@
 // Little-endian numbers at a place of a byte slice.
+pub mod raw; // raw.rt: bytes copied, made zero and tested for zero
+
 ghost use mathlib.Core.Path.{_≡_};
 ghost use Prim.Native.Nat.{_+_, _≤_, _<_};
 ghost use lib.ListN.{length};

@@ -1,12 +1,12 @@
 // Format: a store made new, with no entries.
 use chain::NO_LINK;
+use endian::raw::copy_over;
 use image::Meta;
 use meta::put_meta;
 use model::Answer;
 use model::Refusal;
 use store::Change;
 use store::commit;
-use store::copy_over;
 use store::put_block;
 use store::put_trailer;
 use store::seal_change;

@@ -4,5 +4,6 @@ pub mod RunLaws
 pub mod TestLaws
 pub mod Bytes
 pub mod BytesLaws
+pub mod ZeroLaws
 pub mod Block
 pub mod BlockLaws

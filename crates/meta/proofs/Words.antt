@@ -1,4 +1,4 @@
--- Words and zeros, a turn at a time.
+-- Words, a turn at a time.
 use mathlib.Core.Path.{_≡_, refl, sym, ap, ap₂, _∙_}
 use mathlib.Core.Bool.{true, false}
 use mathlib.Core.List.{List, [], _∷_, _++_}
@@ -31,7 +31,7 @@ read-turn l ws at i w h e p =
     rw add-one
     (take-suc-set ws i w h ∙ ap₂ (λ (us : List ℕ) (v : ℕ). us ++ (v ∷ [])) p e ∙ sym (words-more l at i))
 
--- ---- words and zeros that are written
+-- ---- words that are written
 
 pub words-turn : (l ws : List ℕ) (at i : ℕ) → i < length ws
     → sets l (at + 4 * i) (bind (drop i ws) le32)
@@ -46,30 +46,3 @@ words-turn l ws at i h =
 
 pub words-end : (l ws : List ℕ) (k i : ℕ) → length ws ≤ i → sets l k (bind (drop i ws) le32) ≡ l
 words-end l ws k i h = ap (λ (us : List ℕ). sets l k (bind us le32)) (drop-of-length-le ws h)
-
-pub zeros-turn : (l : List ℕ) (i to : ℕ) → i < to
-    → sets l i (replicate (to - i) 0) ≡ sets (set l i 0) (i + 1) (replicate (to - (i + 1)) 0)
-zeros-turn l i to h =
-    let e : to - i ≡ suc (to - (i + 1)) = omega arith in
-    ap (λ (n : ℕ). sets l i (replicate n 0)) e
-    ∙ ap (λ (k : ℕ). sets (set l i 0) k (replicate (to - (i + 1)) 0)) (sym (add-one i))
-
-pub zeros-end : (l : List ℕ) (i to : ℕ) → to ≤ i → sets l i (replicate (to - i) 0) ≡ l
-zeros-end l i to h = let e : to - i ≡ 0 = omega arith in ap (λ (n : ℕ). sets l i (replicate n 0)) e
-
--- ---- zeros that are tested
-
-module _ (l : List ℕ) (i : ℕ) where
-  pub zero-here : i < length l → getD l i 0 ≡ 0 → allZero (drop i l) ≡ allZero (drop (i + 1) l)
-  unfolding allZero
-  zero-here h e =
-      ap (all (λ x. eqb x 0)) (drop-cons l i 0 h)
-      ∙ rw (eq-eqb (getD l i 0) 0 e) (ap (λ (n : ℕ). all (λ x. eqb x 0) (drop n l)) (sym (add-one i)))
-
-  pub other-here : i < length l → (getD l i 0 ≡ 0 → ⊥) → allZero (drop i l) ≡ false
-  unfolding allZero
-  other-here h e = ap (all (λ x. eqb x 0)) (drop-cons l i 0 h) ∙ rw (ne-eqb (getD l i 0) 0 e)
-
-  pub none-here : length l ≤ i → allZero (drop i l) ≡ true
-  unfolding allZero
-  none-here h = ap (all (λ x. eqb x 0)) (drop-of-length-le l h)

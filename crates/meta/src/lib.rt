@@ -6,12 +6,13 @@ use address::point_of;
 use endian::get_u16;
 use endian::get_u32;
 use endian::put_u32;
+use endian::raw::is_zero;
+use endian::raw::zero_bytes;
 use image::Meta;
-use page::rule::is_zero;
 ghost use mathlib.Core.Path.{_≡_};
 ghost use mathlib.Core.List.{_++_};
 ghost use Prim.Native.Nat.{suc, _+_, _-_, _*_, _≤_};
-ghost use lib.ListN.{length, getD, drop, replicate};
+ghost use lib.ListN.{length, getD, drop};
 ghost use lib.Seq.{sets};
 ghost use Rattle.lists.specs.Lists.{all, bind, upFrom};
 ghost use Rattle.lists.specs.Bytes.{allZero};
@@ -67,18 +68,6 @@ fn put_words(part: &mut [u8], at: usize, words: &[u32])
     }
 }
 
-// Writes zeros from place `from` up to `to`.
-fn put_zeros(part: &mut [u8], from: usize, to: usize)
-    requires { ⌜ (from ≤ to) × (to ≤ length (now part)) ⌝ }
-    ensures { λ _. ⌜ now (part .exit) ≡ sets (now (part .entry)) from (replicate (to - from) 0) ⌝ }
-{
-    let mut i = from;
-    while i < to {
-        part[i] = 0;
-        i += 1;
-    }
-}
-
 // Writes bytes 0..491 of a meta block.
 pub fn put_meta(part: &mut [u8], m: Meta)
     requires { ⌜ length (now part) ≡ 512 ⌝ }
@@ -100,7 +89,7 @@ pub fn put_meta(part: &mut [u8], m: Meta)
     let spares = m.spares;
     put_words(part, 0, &head);
     put_words(part, 40, &spares);
-    put_zeros(part, 104, 492);
+    zero_bytes(part, 104, 492);
 }
 
 // Rule 1, of the bytes of a meta block in a store of `size` blocks.

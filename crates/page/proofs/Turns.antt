@@ -32,23 +32,6 @@ passed t x y e h = sym (e ∙ ap (λ (b : Bool). b && y) h)
 pub failed : (t x y : Bool) → x ≡ t && y → t ≡ false → x ≡ false
 failed t x y e h = e ∙ ap (λ (b : Bool). b && y) h
 
--- ---- zero bytes
-
-pub zero-turn : (l : List ℕ) (i e : ℕ) → i < e → e ≤ length l
-    → allZero (part i e l) ≡ eqb (getD l i 0) 0 && allZero (part (i + 1) e l)
-unfolding allZero part
-zero-turn l i e h k =
-    let m : e - i ≡ suc (e - (i + 1)) = omega arith in
-    let inside : i < length l = omega arith in
-    let rest = ap (λ (n : ℕ). getD l i 0 ∷ drop n l) (sym (add-one i)) in
-    ap₂ (λ (n : ℕ) (x : List ℕ). all (λ y. eqb y 0) (take n x)) m (drop-cons l i 0 inside ∙ rest)
-
-pub zero-end : (l : List ℕ) (i e : ℕ) → e ≤ i → allZero (part i e l) ≡ true
-unfolding allZero part
-zero-end l i e h =
-    let z : e - i ≡ 0 = omega arith in
-    ap (λ (n : ℕ). all (λ y. eqb y 0) (take n (drop i l))) z
-
 -- ---- numbers
 
 abbrev numberFine : Entry → Bool

@@ -4,29 +4,14 @@ use crate::order::is_before;
 use crate::slots::count_entries;
 use crate::slots::get_entry;
 use endian::get_u16;
+use endian::raw::is_zero;
 ghost use mathlib.Core.Path.{_≡_};
 ghost use mathlib.Core.Bool.{true, not, _&&_};
-ghost use Prim.Native.Nat.{_≤_, _<_};
+ghost use Prim.Native.Nat.{_<_};
 ghost use lib.ListN.{length};
-ghost use Rattle.lists.specs.Bytes.{part, allZero};
 ghost use Rattle.page.specs.Pair.{badPair};
 ghost use Rattle.page.specs.Entries.{entryAt};
 ghost use Rattle.page.specs.Rule.{numberOk, flagsOk, numbersOk, orderOk, restZero, pageOk};
-
-// Whether the bytes from `a` up to `e` are zero.
-pub fn is_zero(p: &[u8], a: usize, e: usize) -> bool
-    requires { ⌜ (a ≤ e) × (e ≤ length (now p)) ⌝ }
-    ensures { λ r. ⌜ r ≡ allZero (part a e (now (p .entry))) ⌝ }
-{
-    let mut i = a;
-    while i < e {
-        if p[i] != 0 {
-            return false;
-        }
-        i += 1;
-    }
-    true
-}
 
 // Whether there are at most 40 entries.
 pub fn check_number(p: &[u8]) -> bool

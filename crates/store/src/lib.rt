@@ -4,6 +4,7 @@ use endian::get_u16;
 use endian::get_u32;
 use endian::put_u16;
 use endian::put_u32;
+use endian::raw::copy_over;
 ghost use mathlib.Core.Path.{_≡_};
 ghost use Prim.Native.Nat.{_+_, _*_, _≤_, _<_};
 ghost use lib.ListN.{length, getD};
@@ -20,18 +21,6 @@ pub fn block_at(store: &[u8], k: usize) -> &[u8]
 {
     let from = 512 * k;
     &store[from..from + 512]
-}
-
-// Copies `src` over `dst`, which is as long.
-pub fn copy_over(dst: &mut [u8], src: &[u8])
-    requires { ⌜ length (now dst) ≡ length (now src) ⌝ }
-    ensures { λ _. ⌜ now (dst .exit) ≡ now (src .entry) ⌝ }
-{
-    let mut i = 0;
-    while i < src.len() {
-        dst[i] = src[i];
-        i += 1;
-    }
 }
 
 // Replaces block `k`.

@@ -2,7 +2,7 @@
 // it ended.
 use endian::get_u16;
 use endian::get_u32;
-use store::copy_over;
+use endian::raw::copy_over;
 ghost use mathlib.Core.Path.{_≡_};
 ghost use Prim.Native.Nat.{_+_, _*_, _≤_, _<_};
 ghost use lib.ListN.{length, drop};

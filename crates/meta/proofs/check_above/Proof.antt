@@ -3,13 +3,13 @@ use Prim.Native.Nat.{ℕ, suc, _+_, _-_, _≤_}
 use native.Mathlib.Numerals.{add-one}
 use native.Mathlib.Omega.{arith}
 use lib.ListN.{drop}
-use Rattle.lists.specs.Bytes.{allZero}
-use Rattle.meta.proofs.Words.{zero-here, other-here, none-here}
+use Rattle.lists.specs.Bytes.{part, allZero}
+use Rattle.lists.specs.ZeroLaws.{zero-here, other-here, none-here, part-rest}
 use Rattle.meta.proofs.check_above.Statement.{statement}
 use Rattle.meta.proofs.check_above.Tie as tie
 
 abbrev Inv-loop : tie.InvT-loop
-Inv-loop s spares i₀ i = (i ≤ 16) × (allZero (drop (suc s) spares) ≡ allZero (drop i spares))
+Inv-loop s spares i₀ i = (i ≤ 16) × (allZero (drop (suc s) spares) ≡ allZero (part i 16 spares))
 
 abbrev μ-loop : tie.MeasureT-loop
 μ-loop s spares i₀ i = 16 - i
@@ -18,7 +18,9 @@ add-i : tie.Need-add-i Inv-loop μ-loop
 add-i c = omega arith
 
 loop-holds : tie.Need-loop-holds Inv-loop μ-loop
-loop-holds c = (omega arith, ap (λ (n : ℕ). allZero (drop n (c .args .t1))) (sym (add-one (c .args .s))))
+loop-holds c =
+    let a = c .args in
+    (omega arith, ap allZero (ap (λ (n : ℕ). drop n (a .t1)) (sym (add-one (a .s))) ∙ sym (part-rest (a .t1) _ 16 (omega arith))))
 
 cast-if1 : tie.Need-cast-if1 Inv-loop μ-loop
 cast-if1 c = omega arith
@@ -33,7 +35,7 @@ returns : tie.Need-returns Inv-loop μ-loop
 returns c =
     let l = c .before .before .loop in
     let a = c .before .before .before .args in
-    sym (l .inv .1 ∙ other-here (a .t1) (l .i) (omega arith) (c .if1 .taken))
+    sym (l .inv .1 ∙ other-here (a .t1) (l .i) 16 (omega arith) (omega arith) (c .if1 .taken))
 
 add-i-2 : tie.Need-add-i-2 Inv-loop μ-loop
 add-i-2 c = omega arith
@@ -45,12 +47,12 @@ loop-again : tie.Need-loop-again Inv-loop μ-loop
 loop-again c =
     let l = c .before .before .loop in
     let a = c .before .before .before .args in
-    (omega arith, l .inv .1 ∙ zero-here (a .t1) (l .i) (omega arith) (c .if1 .left))
+    (omega arith, l .inv .1 ∙ zero-here (a .t1) (l .i) 16 (omega arith) (omega arith) (c .if1 .left))
 
 returns-2 : tie.Need-returns-2 Inv-loop μ-loop
 returns-2 c =
     let l = c .before .loop in
-    sym (l .inv .1 ∙ none-here (c .before .before .args .t1) (l .i) (omega arith))
+    sym (l .inv .1 ∙ none-here (c .before .before .args .t1) (l .i) 16 (omega arith))
 
 pub check-above-spec : {M : Type 1} → statement M
 check-above-spec =

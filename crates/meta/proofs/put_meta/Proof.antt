@@ -24,8 +24,8 @@ slice-aggregate-put-words-2 c = search needs
 put-words-requires-2 : tie.Need-put-words-requires-2
 put-words-requires-2 c κs = omega (arith, sixteen (c .before .before .before .before .before .before .before .before .before .before))
 
-put-zeros-requires : tie.Need-put-zeros-requires
-put-zeros-requires c κs = search needs
+zero-bytes-requires : tie.Need-zero-bytes-requires
+zero-bytes-requires c κs = search needs
 
 same-length : tie.Need-same-length
 same-length c = search needs
@@ -44,6 +44,6 @@ put-meta-spec =
     put-words-requires
     slice-aggregate-put-words-2
     put-words-requires-2
-    put-zeros-requires
+    zero-bytes-requires
     same-length
     returns)

@@ -4,7 +4,8 @@ use Prim.Native.Nat.{ℕ}
 use native.Mathlib.Omega.{arith}
 use borrow.Author.Needs.{needs}
 use lib.ListN.{drop, replicate, length-append, length-drop, length-replicate}
-use Rattle.draft.proofs.Editing.{image-inside, edit-part}
+use Rattle.lists.specs.ZeroLaws.{zeros-front}
+use Rattle.draft.proofs.Editing.{image-inside, length-lent, edit-part}
 use Rattle.draft.proofs.pages.clear_block.Statement.{statement}
 use Rattle.draft.proofs.pages.clear_block.Tie as tie
 
@@ -14,24 +15,24 @@ open-block-requires c κs = search needs
 mul-from : tie.Need-mul-from
 mul-from c = search needs
 
-add-clear-front : tie.Need-add-clear-front
-add-clear-front c = search needs
+add-zero-bytes : tie.Need-add-zero-bytes
+add-zero-bytes c = search needs
 
-sub-clear-front : tie.Need-sub-clear-front
-sub-clear-front c = search needs
+sub-zero-bytes : tie.Need-sub-zero-bytes
+sub-zero-bytes c = search needs
 
-part-clear-front-start : tie.Need-part-clear-front-start
-part-clear-front-start c = search needs
+part-zero-bytes-start : tie.Need-part-zero-bytes-start
+part-zero-bytes-start c = search needs
 
-part-clear-front-end : tie.Need-part-clear-front-end
-part-clear-front-end c =
+part-zero-bytes-end : tie.Need-part-zero-bytes-end
+part-zero-bytes-end c =
     let s = c .before .before .before .before .before .before .before in
     let a = s .args in
     let o = c .before .before .before .open-block in
     omega (arith, image-inside (o .ensures) (s .pre .1))
 
-clear-front-requires : tie.Need-clear-front-requires
-clear-front-requires c κs = search needs
+zero-bytes-requires : tie.Need-zero-bytes-requires
+zero-bytes-requires c κs = search needs
 
 same-length : tie.Need-same-length
 same-length c = search needs
@@ -41,13 +42,13 @@ returns c =
     let s = c .before .before .before .before .before .before .before .before .before .before .before .before in
     let a = s .args in
     let o = c .before .before .before .before .before .before .before .before .open-block in
-    let p = c .before .before .before .clear-front in
+    let p = c .before .before .before .zero-bytes in
     edit-part (o .ensures)
     (λ b. replicate 508 0 ++ drop 508 b)
     (λ b e.
     length-append (replicate 508 0) (drop 508 b)
     ∙ omega (arith, length-replicate {A = ℕ} 508 0, length-drop 508 b))
-    _ (p .ensures)
+    _ (p .ensures ∙ zeros-front _ 508 (omega (arith, length-lent (o .ensures) (s .pre .1 .draft))))
 
 pub clear-block-spec : {M : Type 1} → statement M
 clear-block-spec =
@@ -55,10 +56,10 @@ clear-block-spec =
     (tie.spec
     open-block-requires
     mul-from
-    add-clear-front
-    sub-clear-front
-    part-clear-front-start
-    part-clear-front-end
-    clear-front-requires
+    add-zero-bytes
+    sub-zero-bytes
+    part-zero-bytes-start
+    part-zero-bytes-end
+    zero-bytes-requires
     same-length
     returns)

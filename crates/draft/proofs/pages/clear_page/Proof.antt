@@ -5,8 +5,8 @@ use Rattle.draft.proofs.Clearing.{empty-page}
 use Rattle.draft.proofs.pages.clear_page.Statement.{statement}
 use Rattle.draft.proofs.pages.clear_page.Tie as tie
 
-clear-front-requires : tie.Need-clear-front-requires
-clear-front-requires c κs = search needs
+zero-bytes-requires : tie.Need-zero-bytes-requires
+zero-bytes-requires c κs = search needs
 
 put-trailer-requires : tie.Need-put-trailer-requires
 put-trailer-requires c κs = search needs
@@ -23,4 +23,4 @@ returns c =
 
 pub clear-page-spec : {M : Type 1} → statement M
 clear-page-spec =
-    tie.close (tie.spec clear-front-requires put-trailer-requires same-length returns)
+    tie.close (tie.spec zero-bytes-requires put-trailer-requires same-length returns)

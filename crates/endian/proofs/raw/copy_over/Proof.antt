@@ -5,8 +5,8 @@ use native.Mathlib.Numerals.{add-one}
 use native.Mathlib.Omega.{arith}
 use lib.ListN.{length, take, getD, set, length-set}
 use lib.Seq.{take-suc, take-suc-set, take-all}
-use Rattle.store.proofs.copy_over.Statement.{statement}
-use Rattle.store.proofs.copy_over.Tie as tie
+use Rattle.endian.proofs.raw.copy_over.Statement.{statement}
+use Rattle.endian.proofs.raw.copy_over.Tie as tie
 
 -- a turn copies one element more
 one-more : (d s : List ℕ) (i : ℕ) → i < length d → i < length s → take i d ≡ take i s
