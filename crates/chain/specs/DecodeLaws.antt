@@ -13,7 +13,8 @@ use Rattle.model.specs.Index.{noChain, onPages, entriesIn, chain, entriesAt}
 use Rattle.model.specs.Pages.{pageRoom, chainRoom}
 use Rattle.image.specs.Decode.{maxAt, blockOf, trail, readPage, readChain, decode}
 use Rattle.chain.specs.Walk.{walk}
-use Rattle.chain.specs.Search.{entriesOn, roomOn, findIn, roomIn, isFound, isPage}
+use Rattle.chain.specs.Search.{roomOn, findIn, roomIn, isFound, isPage}
+use Rattle.chain.specs.Within.{entriesOn}
 use Rattle.chain.specs.SearchLaws.{findIn-any, roomIn-any}
 
 module _ (s : List ℕ) where

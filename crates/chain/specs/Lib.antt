@@ -1,9 +1,10 @@
 pub mod FindLaws
 pub mod Walk
 pub mod WalkLaws
+pub mod Within
+pub mod WithinLaws
 pub mod Search
 pub mod SearchLaws
-pub mod WithinLaws
 pub mod Bitmap
 pub mod BitmapLaws
 pub mod DecodeLaws

@@ -23,7 +23,8 @@ use Rattle.chain.specs.declared.Slot.{Slot}
 use Rattle.chain.specs.declared.Found.{Found}
 use Rattle.chain.specs.declared.Room.{Room}
 use Rattle.chain.specs.Walk.{lastOf}
-use Rattle.chain.specs.Search.{slotIn, entriesOn, pairOn, roomOn, foundAs, findIn, roomAs, roomIn, PagesOk, isFound, isPage}
+use Rattle.chain.specs.Search.{slotIn, pairOn, roomOn, foundAs, findIn, roomAs, roomIn, isFound, isPage}
+use Rattle.chain.specs.Within.{entriesOn, PagesOk}
 use Rattle.chain.specs.FindLaws.{First, find-first, first-each, isSome, find-any, any-bind}
 
 -- ---- a slot

@@ -25,7 +25,7 @@ use Rattle.image.specs.SoundBitsLaws.{free-read}
 use Rattle.chain.specs.declared.Walk.{Walk}
 use Rattle.chain.specs.declared.Free.{Free}
 use Rattle.chain.specs.Walk.{walk, blocksOf, Sized, Walked}
-use Rattle.chain.specs.Search.{Within, PagesOk}
+use Rattle.chain.specs.Within.{PagesOk, Within}
 use Rattle.chain.specs.WithinLaws.{walked-within}
 use Rattle.chain.specs.Bitmap.{freeAs, lowestFree, freeOr}
 use Rattle.chain.specs.BitmapLaws.{lowestFree-bit, freeOr-rule}
@@ -51,7 +51,7 @@ module _ (s : List ℕ) (g : SoundBytes s) where
         each-all (λ k. pageOk (block s k)) (walk s (blockOf s b))
         (each-map (PageRead s g) (λ k. pageOk (block s k) ≡ true) (λ k r. r .rule) (walk s (blockOf s b)) read)
 
-    pub sound-within : {w : Walk} → Walked s (blockOf s b) w → Within s w
+    pub sound-within : {w : Walk} → Walked s (blockOf s b) w → Within s (w .blocks) (w .count)
     sound-within held = walked-within held sound-sized sound-inside
 
     pub sound-walked : {w : Walk} → Walked s (blockOf s b) w → PagesOk s (blocksOf w)

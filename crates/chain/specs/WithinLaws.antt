@@ -1,13 +1,14 @@
--- Loops over a Walk by index: the block at index i, and a search in the blocks from it on.
-use mathlib.Core.Path.{_≡_, sym, ap, _∙_}
+-- Loops over a walk by index: the block at index i, a search in the blocks from it on, and the entries on them.
+use mathlib.Core.Path.{_≡_, sym, ap, ap₂, _∙_}
 use mathlib.Core.Bool.{Bool, true, false}
-use mathlib.Core.List.{List}
+use mathlib.Core.List.{List, [], _∷_, _++_}
 use mathlib.Core.Option.{none, some}
 use Prim.Native.Nat.{ℕ, suc, pred, _+_, _-_, _*_, _≤_, _<_}
+use native.Mathlib.Numerals.{add-one}
 use native.Mathlib.Omega.{arith}
-use lib.ListN.{length, getD, drop}
-use lib.Seq.{getD-take}
-use Rattle.lists.specs.Lists.{find, Each}
+use lib.ListN.{length, getD, take, drop, drop-of-length-le}
+use lib.Seq.{getD-take, drop-cons}
+use Rattle.lists.specs.Lists.{find, bind, Each}
 use Rattle.lists.specs.Block.{blocks, block}
 use Rattle.lists.specs.BlockLaws.{length-block}
 use Rattle.page.specs.SublistLaws.{each-getD, all-each}
@@ -15,9 +16,9 @@ use Rattle.page.specs.Rule.{pageOk, Sorted}
 use Rattle.page.specs.RuleLaws.{pageOk-sorted}
 use Rattle.model.specs.Calls.{maxBlocks}
 use Rattle.chain.specs.declared.Walk.{Walk}
-use Rattle.chain.specs.Walk.{walk, blocksOf, lastOf, Sized, Walked}
+use Rattle.chain.specs.Walk.{walk, lastOf, Sized, Walked}
 use Rattle.chain.specs.WalkLaws.{walk-some, walk-few}
-use Rattle.chain.specs.Search.{Within, PagesOk}
+use Rattle.chain.specs.Within.{entriesOn, PagesOk, Within, PageOn}
 use Rattle.chain.specs.FindLaws.{find-here, find-later, find-end}
 
 -- ---- a Walk that holds a walk
@@ -32,7 +33,7 @@ module _ {s : List ℕ} {first : ℕ} {w : Walk} (held : Walked s first w) where
   pub walked-getD : (i : ℕ) → i < w .count → getD (w .blocks) i 0 ≡ getD (walk s first) i 0
   walked-getD i h = sym (getD-take (w .count) (w .blocks) i 0 h) ∙ ap (λ (ks : List ℕ). getD ks i 0) (held .blocks)
 
-  pub walked-within : Sized s → Each (λ k. k < blocks s) (walk s first) → Within s w
+  pub walked-within : Sized s → Each (λ k. k < blocks s) (walk s first) → Within s (w .blocks) (w .count)
   walked-within sized inside =
       record {
         some = walked-some;
@@ -43,19 +44,19 @@ module _ {s : List ℕ} {first : ℕ} {w : Walk} (held : Walked s first w) where
 
 -- ---- the block at index i
 
-module _ {s : List ℕ} {w : Walk} (ok : Within s w) (i : ℕ) where
+module _ {s bs : List ℕ} {n : ℕ} (ok : Within s bs n) (i : ℕ) where
   abbrev at : ℕ
-  at = getD (w .blocks) i 0
+  at = getD bs i 0
 
-  module _ (more : i < w .count) where
-    listed : getD (blocksOf w) i 0 ≡ at
-    listed = getD-take (w .count) (w .blocks) i 0 more
+  module _ (more : i < n) where
+    listed : getD (take n bs) i 0 ≡ at
+    listed = getD-take n bs i 0 more
 
-    inList : i < length (blocksOf w)
+    inList : i < length (take n bs)
     inList = omega (arith, ok .count)
 
     pub block-inside : at < blocks s
-    block-inside = rw listed at (each-getD (λ k. k < blocks s) (blocksOf w) i 0 (ok .inside) inList)
+    block-inside = rw listed at (each-getD (λ k. k < blocks s) (take n bs) i 0 (ok .inside) inList)
 
     pub block-whole : 512 * at + 512 ≤ length s
     unfolding blocks
@@ -64,26 +65,45 @@ module _ {s : List ℕ} {w : Walk} (ok : Within s w) (i : ℕ) where
     pub block-length : length (block s at) ≡ 512
     block-length = length-block s at block-whole
 
-    pub block-sorted : PagesOk s (blocksOf w) → Sorted (block s at)
+    pub block-sorted : PagesOk s (take n bs) → Sorted (block s at)
     block-sorted pages =
-        let each = all-each (λ k. pageOk (block s k)) (blocksOf w) pages in
-        let fine = rw listed at (each-getD (λ k. pageOk (block s k) ≡ true) (blocksOf w) i 0 each inList) in
+        let each = all-each (λ k. pageOk (block s k)) (take n bs) pages in
+        let fine = rw listed at (each-getD (λ k. pageOk (block s k) ≡ true) (take n bs) i 0 each inList) in
         pageOk-sorted (block s at) block-length fine
+
+    pub block-page : {l : List ℕ} → l ≡ block s at → PageOn s bs n i l
+    block-page e = record { page = e; whole = rw e block-length; sorted = λ pages. rw e (block-sorted pages) }
+
+    -- ---- what is left of the walk, and of the entries on it, from index i on
+
+    pub walk-turn : drop i (take n bs) ≡ getD bs i 0 ∷ drop (i + 1) (take n bs)
+    walk-turn =
+        drop-cons (take n bs) i 0 inList ∙ ap₂ (λ (k j : ℕ). k ∷ drop j (take n bs)) listed (sym (add-one i))
+
+    pub rest-turn : bind (drop i (take n bs)) (entriesOn s)
+        ≡ entriesOn s (getD bs i 0) ++ bind (drop (i + 1) (take n bs)) (entriesOn s)
+    rest-turn = ap (λ (ks : List ℕ). bind ks (entriesOn s)) walk-turn
 
     -- a search ends here or goes on
     module _ (t : ℕ → Bool) where
-      pub search-here : t at ≡ true → find t (drop i (blocksOf w)) ≡ some at
-      search-here h = find-here t (blocksOf w) i 0 inList (ap t listed ∙ h) ∙ ap some listed
+      pub search-here : t at ≡ true → find t (drop i (take n bs)) ≡ some at
+      search-here h = find-here t (take n bs) i 0 inList (ap t listed ∙ h) ∙ ap some listed
 
-      pub search-later : t at ≡ false → find t (drop i (blocksOf w)) ≡ find t (drop (i + 1) (blocksOf w))
-      search-later h = find-later t (blocksOf w) i 0 inList (ap t listed ∙ h)
+      pub search-later : t at ≡ false → find t (drop i (take n bs)) ≡ find t (drop (i + 1) (take n bs))
+      search-later h = find-later t (take n bs) i 0 inList (ap t listed ∙ h)
 
-  pub search-end : (t : ℕ → Bool) → w .count ≤ i → find t (drop i (blocksOf w)) ≡ none
-  search-end t past = find-end t (blocksOf w) i (omega (arith, ok .count))
+  pub search-end : (t : ℕ → Bool) → n ≤ i → find t (drop i (take n bs)) ≡ none
+  search-end t past = find-end t (take n bs) i (omega (arith, ok .count))
 
--- the last block of the list is the last that the Walk holds
-pub within-last : {s : List ℕ} {w : Walk} → Within s w → lastOf (blocksOf w) ≡ getD (w .blocks) (w .count - 1) 0
-within-last {s} {w} ok =
-    let e : pred (length (blocksOf w)) ≡ w .count - 1 = omega (arith, ok .count, ok .some) in
-    ap (λ (j : ℕ). getD (blocksOf w) j 0) e
-    ∙ getD-take (w .count) (w .blocks) (w .count - 1) 0 (omega (arith, ok .some))
+  pub walk-done : n ≤ i → drop i (take n bs) ≡ []
+  walk-done past = drop-of-length-le (take n bs) {i = i} (omega (arith, ok .count))
+
+  pub rest-done : n ≤ i → bind (drop i (take n bs)) (entriesOn s) ≡ []
+  rest-done past = ap (λ (ks : List ℕ). bind ks (entriesOn s)) (walk-done past)
+
+-- the last block of the walk is the last that the array holds
+pub within-last : {s bs : List ℕ} {n : ℕ} → Within s bs n → lastOf (take n bs) ≡ getD bs (n - 1) 0
+within-last {s} {bs} {n} ok =
+    let e : pred (length (take n bs)) ≡ n - 1 = omega (arith, ok .count, ok .some) in
+    ap (λ (j : ℕ). getD (take n bs) j 0) e
+    ∙ getD-take n bs (n - 1) 0 (omega (arith, ok .some))

@@ -1,13 +1,15 @@
-// The blocks of a chain: the one loop that follows next fields.
+// The blocks of a chain: the one loop that follows next fields, and the page at an index of a walk.
 use crate::MAX_BLOCKS;
 use crate::NO_LINK;
 use crate::Walk;
 use store::block_at;
 use store::next_at;
 ghost use mathlib.Core.Path.{_≡_};
+ghost use Prim.Native.Nat.{_<_};
 ghost use Rattle.lists.specs.Block.{block};
 ghost use Rattle.store.specs.Store.{nextAt};
 ghost use Rattle.chain.specs.Walk.{Sized, Walked};
+ghost use Rattle.chain.specs.Within.{Within, PageOn};
 
 // The next field of block `k`; 0 past the store's end.
 pub fn next_block(store: &[u8], k: u32) -> u32
@@ -42,4 +44,17 @@ pub fn walk_chain(store: &[u8], first: u32) -> Walk
         count += 1;
     }
     Walk { count, blocks }
+}
+
+// The page at index `i` of a walk.
+pub fn page_on<'a>(
+    store: &'a [u8],
+    blocks: &[u32; MAX_BLOCKS + 1],
+    count: usize,
+    i: usize,
+) -> &'a [u8]
+    requires { ⌜ (Within (now store) (now blocks) count) × (i < count) ⌝ }
+    ensures { λ r. ⌜ PageOn (now (store .entry)) (now (blocks .entry)) count i (now r) ⌝ }
+{
+    block_at(store, blocks[i] as usize)
 }

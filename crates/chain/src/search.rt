@@ -1,19 +1,20 @@
 // Searches along a walk.
 use crate::Found;
+use crate::MAX_BLOCKS;
 use crate::Room;
 use crate::Slot;
-use crate::Walk;
+use crate::links::page_on;
 use page::Pair;
 use page::order::is_same;
 use page::search::find_place;
 use page::slots::count_entries;
 use page::slots::get_entry;
-use store::block_at;
 ghost use mathlib.Core.Path.{_≡_};
+ghost use lib.ListN.{take};
 ghost use Rattle.page.specs.Entries.{entriesOf};
 ghost use Rattle.page.specs.Rule.{Sorted};
-ghost use Rattle.chain.specs.Walk.{blocksOf};
-ghost use Rattle.chain.specs.Search.{slotIn, findIn, roomIn, Within, PagesOk};
+ghost use Rattle.chain.specs.Search.{slotIn, findIn, roomIn};
+ghost use Rattle.chain.specs.Within.{PagesOk, Within};
 
 // The slot of the pair in a page whose entries ascend.
 pub fn find_slot(page: &[u8], pair: Pair) -> Slot
@@ -30,18 +31,19 @@ pub fn find_slot(page: &[u8], pair: Pair) -> Slot
 }
 
 // The first page of the walk that has the pair, and the pair's slot in it.
-pub fn find_pair(store: &[u8], walk: Walk, pair: Pair) -> Found
-    requires { ⌜ (Within (now store) walk) × (PagesOk (now store) (blocksOf walk)) ⌝ }
-    ensures { λ r. ⌜ r ≡ findIn (now (store .entry)) (blocksOf walk) pair ⌝ }
+pub fn find_pair(store: &[u8], blocks: &[u32; MAX_BLOCKS + 1], count: usize, pair: Pair) -> Found
+    requires { ⌜ Within (now store) (now blocks) count ⌝ }
+    requires { ⌜ PagesOk (now store) (take count (now blocks)) ⌝ }
+    ensures { λ r. ⌜ r ≡ findIn (now (store .entry)) (take count (now (blocks .entry))) pair ⌝ }
 {
-    let blocks = walk.blocks;
-    let count = walk.count;
     let mut i = 0;
     while i < count {
-        let block = blocks[i];
-        let found = find_slot(block_at(store, block as usize), pair);
+        let found = find_slot(page_on(store, blocks, count, i), pair);
         if let Slot::At(slot) = found {
-            return Found::At { block, slot };
+            return Found::At {
+                block: blocks[i],
+                slot,
+            };
         }
         i += 1;
     }
@@ -49,17 +51,14 @@ pub fn find_pair(store: &[u8], walk: Walk, pair: Pair) -> Found
 }
 
 // The first page of the walk with fewer than 40 entries, else the walk's last block.
-pub fn first_room(store: &[u8], walk: Walk) -> Room
-    requires { ⌜ Within (now store) walk ⌝ }
-    ensures { λ r. ⌜ r ≡ roomIn (now (store .entry)) (blocksOf walk) ⌝ }
+pub fn first_room(store: &[u8], blocks: &[u32; MAX_BLOCKS + 1], count: usize) -> Room
+    requires { ⌜ Within (now store) (now blocks) count ⌝ }
+    ensures { λ r. ⌜ r ≡ roomIn (now (store .entry)) (take count (now (blocks .entry))) ⌝ }
 {
-    let blocks = walk.blocks;
-    let count = walk.count;
     let mut i = 0;
     while i < count {
-        let block = blocks[i];
-        if count_entries(block_at(store, block as usize)) < 40 {
-            return Room::Page { block };
+        if count_entries(page_on(store, blocks, count, i)) < 40 {
+            return Room::Page { block: blocks[i] };
         }
         i += 1;
     }

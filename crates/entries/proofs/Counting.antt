@@ -16,15 +16,16 @@ use Rattle.model.specs.Held.{livesIn, count}
 use Rattle.image.specs.Decode.{maxAt, readChain, blockOf, decode}
 use Rattle.chain.specs.declared.Walk.{Walk}
 use Rattle.chain.specs.Walk.{blocksOf, Walked}
-use Rattle.chain.specs.Search.{entriesOn, Within}
+use Rattle.chain.specs.Within.{entriesOn, Within}
+use Rattle.chain.specs.WithinLaws.{walk-turn, walk-done}
 use Rattle.shape.specs.Roles.{phaseAt}
 use Rattle.entries.specs.Counts.{liveIn}
-use Rattle.shape.specs.LoopLaws.{walk-turn, walk-done, run-turn, run-done}
+use Rattle.shape.specs.LoopLaws.{run-turn, run-done}
 use Rattle.entries.specs.WalkedLaws.{walk-entries}
 
 -- ---- the pages of a Walk
 
-module _ {s : List ℕ} {w : Walk} (ok : Within s w) (t : Entry → Bool) (i : ℕ) where
+module _ {s : List ℕ} {w : Walk} (ok : Within s (w .blocks) (w .count)) (t : Entry → Bool) (i : ℕ) where
   -- the entries that pass the test on the pages from index i on
   abbrev pub onLater : ℕ
   onLater = tally t (bind (drop i (blocksOf w)) (entriesOn s))

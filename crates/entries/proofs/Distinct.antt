@@ -10,13 +10,12 @@ use Rattle.page.specs.Rule.{orderOk}
 use Rattle.image.specs.Rules.{distinct}
 use Rattle.chain.specs.declared.Walk.{Walk}
 use Rattle.chain.specs.Walk.{blocksOf}
-use Rattle.chain.specs.Search.{entriesOn, Within, PagesOk}
-use Rattle.chain.specs.WithinLaws.{block-sorted}
+use Rattle.chain.specs.Within.{entriesOn, PagesOk, Within}
+use Rattle.chain.specs.WithinLaws.{block-sorted, walk-turn, walk-done}
 use Rattle.entries.specs.Tests.{common}
-use Rattle.shape.specs.LoopLaws.{walk-turn, walk-done}
 use Rattle.entries.specs.CommonLaws.{common-bind, distinct-append, ascending-distinct}
 
-module _ (s : List ℕ) (w : Walk) (ok : Within s w) (i : ℕ) where
+module _ (s : List ℕ) (w : Walk) (ok : Within s (w .blocks) (w .count)) (i : ℕ) where
   abbrev ks : ℕ → List ℕ
   ks j = drop j (blocksOf w)
 

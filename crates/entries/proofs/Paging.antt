@@ -11,7 +11,7 @@ use Rattle.image.specs.Decode.{maxAt, blockOf, trail, decode}
 use Rattle.image.specs.Rules.{distinct, buckets, rule5}
 use Rattle.chain.specs.declared.Walk.{Walk}
 use Rattle.chain.specs.Walk.{blocksOf, Walked}
-use Rattle.chain.specs.Search.{entriesOn}
+use Rattle.chain.specs.Within.{entriesOn}
 use Rattle.shape.specs.LoopLaws.{left, left-start, all-both}
 use Rattle.entries.specs.WalkedLaws.{walk-blocks, walk-entries}
 

@@ -11,7 +11,8 @@ use Rattle.page.specs.declared.Entry.{Entry}
 use Rattle.page.specs.Pair.{is}
 use Rattle.model.specs.declared.Phase.{Phase}
 use Rattle.chain.specs.declared.Found.{Found}
-use Rattle.chain.specs.Search.{entriesOn, findIn, isFound}
+use Rattle.chain.specs.Search.{findIn, isFound}
+use Rattle.chain.specs.Within.{entriesOn}
 use Rattle.chain.specs.SearchLaws.{findIn-any}
 use Rattle.entries.specs.Tests.{standsIn, markedBy}
 

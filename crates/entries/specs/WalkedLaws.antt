@@ -16,7 +16,7 @@ use Rattle.image.specs.Decode.{maxAt, blockOf, trail, decode}
 use Rattle.image.specs.Rules.{buckets, rule4, rule5}
 use Rattle.chain.specs.declared.Walk.{Walk}
 use Rattle.chain.specs.Walk.{walk, blocksOf, Walked}
-use Rattle.chain.specs.Search.{entriesOn, Within, PagesOk}
+use Rattle.chain.specs.Within.{entriesOn, PagesOk, Within}
 use Rattle.chain.specs.WalkLaws.{walk-trail}
 use Rattle.chain.specs.WithinLaws.{walked-within}
 use Rattle.chain.specs.DecodeLaws.{entries-walk}
@@ -31,7 +31,7 @@ module _ {s : List ℕ} (b : ℕ) (made : b ≤ maxAt s) where
       all-get (chained s) 0 (suc (maxAt s)) (and-left (all (chained s) (buckets s)) _ (k .holds)) b (omega arith) (omega arith)
 
   module _ {w : Walk} (held : Walked s (blockOf s b) w) where
-    pub walk-within : {m : Meta} → Known4 s m → Within s w
+    pub walk-within : {m : Meta} → Known4 s m → Within s (w .blocks) (w .count)
     unfolding walk
     walk-within k =
         let two = k .known .known in

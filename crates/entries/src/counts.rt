@@ -21,7 +21,7 @@ ghost use Rattle.model.specs.Held.{count};
 ghost use Rattle.image.specs.Decode.{decode};
 ghost use Rattle.image.specs.Rules.{buckets, rule8};
 ghost use Rattle.chain.specs.Walk.{blocksOf};
-ghost use Rattle.chain.specs.Search.{entriesOn, Within, PagesOk};
+ghost use Rattle.chain.specs.Within.{entriesOn, PagesOk, Within};
 ghost use Rattle.shape.specs.Known.{Known2, Known5};
 ghost use Rattle.entries.specs.Counts.{prevOk, liveIn};
 
@@ -71,7 +71,7 @@ fn count_page(page: &[u8], phase: Phase, max: u32, b: u32) -> u32
 
 // The number of held entries of a walk, that of bucket `b`.
 fn count_walk(store: &[u8], walk: Walk, phase: Phase, max: u32, b: u32) -> u32
-    requires { ⌜ (Within (now store) walk) × (PagesOk (now store) (blocksOf walk)) ⌝ }
+    requires { ⌜ (Within (now store) (walk .blocks) (walk .count)) × (PagesOk (now store) (blocksOf walk)) ⌝ }
     ensures { λ r. ⌜ (r ≡ tally (liveIn phase max b) (bind (blocksOf walk) (entriesOn (now (store .entry)))))
         × (r ≤ 5160) ⌝ }
 {

@@ -17,13 +17,13 @@ ghost use Rattle.page.specs.Entries.{entriesOf};
 ghost use Rattle.page.specs.Rule.{pageOk, Sorted};
 ghost use Rattle.image.specs.Rules.{distinct, rule5};
 ghost use Rattle.chain.specs.Walk.{blocksOf};
-ghost use Rattle.chain.specs.Search.{entriesOn, Within, PagesOk};
+ghost use Rattle.chain.specs.Within.{entriesOn, PagesOk, Within};
 ghost use Rattle.shape.specs.Known.{Known4};
 ghost use Rattle.entries.specs.Tests.{common};
 
 // Whether each block of the walk is a page.
 fn check_blocks(store: &[u8], walk: Walk) -> bool
-    requires { ⌜ Within (now store) walk ⌝ }
+    requires { ⌜ Within (now store) (walk .blocks) (walk .count) ⌝ }
     ensures { λ r. ⌜ r ≡ all (λ k. pageOk (block (now (store .entry)) k)) (blocksOf walk) ⌝ }
 {
     let blocks = walk.blocks;
@@ -67,7 +67,7 @@ fn have_common(a: &[u8], b: &[u8]) -> bool
 
 // Whether the page at index `i` of the walk has a pair in common with a later one.
 fn meets_later(store: &[u8], walk: Walk, i: usize) -> bool
-    requires { ⌜ (Within (now store) walk) × (PagesOk (now store) (blocksOf walk)) × (i < walk .count) ⌝ }
+    requires { ⌜ (Within (now store) (walk .blocks) (walk .count)) × (PagesOk (now store) (blocksOf walk)) × (i < walk .count) ⌝ }
     ensures { λ r. ⌜ r ≡ any
         (λ k. common (entriesOn (now (store .entry)) (getD (walk .blocks) i 0)) (entriesOn (now (store .entry)) k))
         (drop (i + 1) (blocksOf walk)) ⌝ }
@@ -89,7 +89,7 @@ fn meets_later(store: &[u8], walk: Walk, i: usize) -> bool
 
 // Whether no pair stands twice in the pages of the walk.
 fn check_distinct(store: &[u8], walk: Walk) -> bool
-    requires { ⌜ (Within (now store) walk) × (PagesOk (now store) (blocksOf walk)) ⌝ }
+    requires { ⌜ (Within (now store) (walk .blocks) (walk .count)) × (PagesOk (now store) (blocksOf walk)) ⌝ }
     ensures { λ r. ⌜ r ≡ distinct (bind (blocksOf walk) (entriesOn (now (store .entry)))) ⌝ }
 {
     let count = walk.count;

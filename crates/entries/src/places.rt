@@ -21,7 +21,7 @@ ghost use Rattle.model.specs.Calls.{phaseIn};
 ghost use Rattle.image.specs.Decode.{maxAt, decode};
 ghost use Rattle.image.specs.Rules.{buckets, rule7};
 ghost use Rattle.chain.specs.Walk.{blocksOf};
-ghost use Rattle.chain.specs.Search.{entriesOn, Within, PagesOk};
+ghost use Rattle.chain.specs.Within.{entriesOn, PagesOk, Within};
 ghost use Rattle.shape.specs.Known.{Known5};
 ghost use Rattle.entries.specs.Tests.{standsIn, markedBy, marksIn};
 
@@ -59,7 +59,7 @@ fn check_page_places(page: &[u8], max: u32, phase: Phase, b: u32) -> bool
 
 // Whether each entry of the walk may stand in the chain of bucket `b`.
 fn check_walk_places(store: &[u8], walk: Walk, max: u32, phase: Phase, b: u32) -> bool
-    requires { ⌜ (Within (now store) walk) × (PagesOk (now store) (blocksOf walk)) ⌝ }
+    requires { ⌜ (Within (now store) (walk .blocks) (walk .count)) × (PagesOk (now store) (blocksOf walk)) ⌝ }
     ensures { λ r. ⌜ r ≡ all (λ e. standsIn phase (bucketOf max (e .pair .hash)) b)
         (bind (blocksOf walk) (entriesOn (now (store .entry)))) ⌝ }
 {
@@ -77,10 +77,12 @@ fn check_walk_places(store: &[u8], walk: Walk, max: u32, phase: Phase, b: u32) -
 
 // Whether the entry is marked moved exactly if the walk has its pair.
 fn is_marked(store: &[u8], walk: Walk, entry: Entry) -> bool
-    requires { ⌜ (Within (now store) walk) × (PagesOk (now store) (blocksOf walk)) ⌝ }
+    requires { ⌜ (Within (now store) (walk .blocks) (walk .count)) × (PagesOk (now store) (blocksOf walk)) ⌝ }
     ensures { λ r. ⌜ r ≡ markedBy (bind (blocksOf walk) (entriesOn (now (store .entry)))) entry ⌝ }
 {
-    let found = find_pair(store, walk, entry.pair);
+    let blocks = walk.blocks;
+    let count = walk.count;
+    let found = find_pair(store, &blocks, count, entry.pair);
     match found {
         Found::At { block: _, slot: _ } => entry.moved,
         Found::Nothing => !entry.moved,
@@ -89,7 +91,7 @@ fn is_marked(store: &[u8], walk: Walk, entry: Entry) -> bool
 
 // Whether each entry of the page is marked moved exactly if the walk has its pair.
 fn check_page_marks(page: &[u8], store: &[u8], old: Walk) -> bool
-    requires { ⌜ (Sorted (now page)) × (Within (now store) old) × (PagesOk (now store) (blocksOf old)) ⌝ }
+    requires { ⌜ (Sorted (now page)) × (Within (now store) (old .blocks) (old .count)) × (PagesOk (now store) (blocksOf old)) ⌝ }
     ensures { λ r. ⌜ r ≡ all (markedBy (bind (blocksOf old) (entriesOn (now (store .entry)))))
         (entriesOf (now (page .entry))) ⌝ }
 {
@@ -106,8 +108,8 @@ fn check_page_marks(page: &[u8], store: &[u8], old: Walk) -> bool
 
 // Whether each entry of the walk `new` is marked moved exactly if the walk `old` has its pair.
 fn check_walk_marks(store: &[u8], new: Walk, old: Walk) -> bool
-    requires { ⌜ (Within (now store) new) × (PagesOk (now store) (blocksOf new)) ⌝ }
-    requires { ⌜ (Within (now store) old) × (PagesOk (now store) (blocksOf old)) ⌝ }
+    requires { ⌜ (Within (now store) (new .blocks) (new .count)) × (PagesOk (now store) (blocksOf new)) ⌝ }
+    requires { ⌜ (Within (now store) (old .blocks) (old .count)) × (PagesOk (now store) (blocksOf old)) ⌝ }
     ensures { λ r. ⌜ r ≡ all (markedBy (bind (blocksOf old) (entriesOn (now (store .entry)))))
         (bind (blocksOf new) (entriesOn (now (store .entry)))) ⌝ }
 {

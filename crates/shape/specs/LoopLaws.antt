@@ -1,20 +1,15 @@
 -- Loops that test one element after the other: each turn takes one element off what is left to test.
-use mathlib.Core.Path.{_≡_, refl, sym, ap, ap₂, _∙_}
+use mathlib.Core.Path.{_≡_, refl, sym, ap, _∙_}
 use mathlib.Core.Bool.{Bool, true, false, _&&_, _||_}
 use mathlib.Core.List.{List, [], _∷_, _++_}
 use Prim.Native.Nat.{ℕ, suc, _+_, _-_, _≤_, _<_}
 use native.Mathlib.Numerals.{add-one}
 use native.Mathlib.Omega.{arith}
-use lib.ListN.{length, getD, drop, drop-of-length-le}
-use lib.Seq.{drop-cons, getD-take}
 use Rattle.lists.specs.Lists.{all, bind, upFrom}
 use Rattle.endian.specs.Endian.{u16At}
 use Rattle.page.specs.declared.Entry.{Entry}
 use Rattle.page.specs.Entries.{entryAt, entriesFrom, entriesOf}
 use Rattle.page.specs.EntriesLaws.{entriesFrom-cons}
-use Rattle.chain.specs.declared.Walk.{Walk}
-use Rattle.chain.specs.Walk.{blocksOf}
-use Rattle.chain.specs.Search.{Within}
 
 -- a test that passes leaves the rest to be tested, one that fails decides
 pub passed : (t x y : Bool) → x ≡ t && y → t ≡ true → y ≡ x
@@ -29,17 +24,6 @@ missed t x y e h = sym (e ∙ ap (λ (b : Bool). b || y) h)
 
 pub found : (t x y : Bool) → x ≡ t || y → t ≡ true → x ≡ true
 found t x y e h = e ∙ ap (λ (b : Bool). b || y) h
-
--- ---- the blocks of a Walk from index i on
-
-module _ {s : List ℕ} {w : Walk} (ok : Within s w) (i : ℕ) where
-  pub walk-turn : i < w .count → drop i (blocksOf w) ≡ getD (w .blocks) i 0 ∷ drop (i + 1) (blocksOf w)
-  walk-turn more =
-      drop-cons (blocksOf w) i 0 (omega (arith, ok .count))
-      ∙ ap₂ (λ (k n : ℕ). k ∷ drop n (blocksOf w)) (getD-take (w .count) (w .blocks) i 0 more) (sym (add-one i))
-
-  pub walk-done : w .count ≤ i → drop i (blocksOf w) ≡ []
-  walk-done past = drop-of-length-le (blocksOf w) {i = i} (omega (arith, ok .count))
 
 -- ---- the entries of a page from slot i on
 

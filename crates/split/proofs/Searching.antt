@@ -11,7 +11,7 @@ use Rattle.page.specs.declared.Entry.{Entry}
 use Rattle.frame.specs.ListsLaws.{find-left, find-right}
 use Rattle.chain.specs.declared.Walk.{Walk}
 use Rattle.chain.specs.Walk.{blocksOf}
-use Rattle.chain.specs.Search.{entriesOn, Within}
+use Rattle.chain.specs.Within.{entriesOn, Within}
 use Rattle.view.proofs.Walking.{rest-turn}
 use Rattle.split.specs.declared.Mover.{Mover}
 use Rattle.split.specs.Mover.{moverOf}

@@ -19,7 +19,7 @@ ghost use Rattle.page.specs.Rule.{Sorted};
 ghost use Rattle.model.specs.Index.{entriesAt, oldBucket};
 ghost use Rattle.image.specs.Decode.{decode};
 ghost use Rattle.chain.specs.Walk.{blocksOf};
-ghost use Rattle.chain.specs.Search.{entriesOn, Within, PagesOk};
+ghost use Rattle.chain.specs.Within.{entriesOn, PagesOk, Within};
 ghost use Rattle.view.specs.Reads.{Reads};
 ghost use Rattle.split.specs.Mover.{movable, moverOf};
 

@@ -23,7 +23,7 @@ use Rattle.page.specs.RunLaws.{run-le, run-keep}
 use Rattle.model.specs.TallyLaws.{and-comm}
 use Rattle.chain.specs.declared.Walk.{Walk}
 use Rattle.chain.specs.Walk.{blocksOf}
-use Rattle.chain.specs.Search.{entriesOn, Within}
+use Rattle.chain.specs.Within.{entriesOn, Within}
 use Rattle.view.specs.Next.{isMatch}
 use Rattle.view.proofs.Walking.{rest-turn, rest-end}
 

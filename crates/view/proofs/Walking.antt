@@ -14,7 +14,7 @@ use Rattle.page.specs.declared.Entry.{Entry}
 use Rattle.page.specs.Entries.{entriesOf}
 use Rattle.chain.specs.declared.Walk.{Walk}
 use Rattle.chain.specs.Walk.{blocksOf}
-use Rattle.chain.specs.Search.{entriesOn, Within}
+use Rattle.chain.specs.Within.{entriesOn, Within}
 use Rattle.view.specs.declared.Next.{Next}
 use Rattle.view.specs.Next.{earlier, nextAfter, pairsIn}
 use Rattle.view.specs.NextLaws.{earlier-none, earlier-assoc, next-append}

@@ -25,7 +25,7 @@ use Rattle.frame.specs.ImagesLaws.{page-inside}
 use Rattle.chain.specs.declared.Walk.{Walk}
 use Rattle.chain.specs.Walk.{walk, blocksOf, Walked}
 use Rattle.chain.specs.WalkLaws.{walk-trail}
-use Rattle.chain.specs.Search.{entriesOn, Within, PagesOk}
+use Rattle.chain.specs.Within.{entriesOn, PagesOk, Within}
 use Rattle.chain.specs.WithinLaws.{walked-within}
 use Rattle.chain.specs.DecodeLaws.{chain-decode, entries-walk}
 use Rattle.view.specs.Reads.{Reads}

@@ -21,7 +21,8 @@ use Rattle.chain.specs.declared.Found.{Found}
 use Rattle.chain.specs.declared.Room.{Room}
 use Rattle.chain.specs.Walk.{walk, lastOf}
 use Rattle.chain.specs.WalkLaws.{walk-trail}
-use Rattle.chain.specs.Search.{entriesOn, pairOn, roomOn, foundAs, findIn, roomAs, roomIn, isFound}
+use Rattle.chain.specs.Search.{pairOn, roomOn, foundAs, findIn, roomAs, roomIn, isFound}
+use Rattle.chain.specs.Within.{entriesOn}
 use Rattle.chain.specs.FindLaws.{any-bind}
 use Rattle.chain.specs.DecodeLaws.{chain-decode, room-walk}
 use Rattle.view.specs.Reads.{Reads}

@@ -22,7 +22,7 @@ ghost use Rattle.page.specs.Rule.{Sorted};
 ghost use Rattle.model.specs.Index.{entriesAt};
 ghost use Rattle.image.specs.Decode.{decode};
 ghost use Rattle.chain.specs.Walk.{blocksOf};
-ghost use Rattle.chain.specs.Search.{entriesOn, Within, PagesOk};
+ghost use Rattle.chain.specs.Within.{entriesOn, PagesOk, Within};
 ghost use Rattle.view.specs.Reads.{Reads};
 ghost use Rattle.view.specs.Next.{earlier, nextAfter, nextMatch, counts, pairsIn};
 

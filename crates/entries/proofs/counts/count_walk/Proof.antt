@@ -6,7 +6,7 @@ use lib.ListN.{getD, take, drop}
 use Rattle.lists.specs.Lists.{tally, bind}
 use Rattle.lists.specs.Block.{blocks}
 use Rattle.page.specs.Entries.{entriesOf}
-use Rattle.chain.specs.Search.{entriesOn}
+use Rattle.chain.specs.Within.{entriesOn}
 use Rattle.chain.specs.WithinLaws.{block-inside, block-whole, block-sorted}
 use Rattle.entries.specs.Counts.{liveIn}
 use Rattle.entries.proofs.Counting.{later-turn, later-done}

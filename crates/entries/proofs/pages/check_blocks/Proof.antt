@@ -8,8 +8,8 @@ use lib.ListN.{length, getD, take, drop}
 use Rattle.lists.specs.Lists.{all}
 use Rattle.lists.specs.Block.{blocks, block}
 use Rattle.page.specs.Rule.{pageOk}
-use Rattle.chain.specs.WithinLaws.{block-inside, block-whole, block-length}
-use Rattle.shape.specs.LoopLaws.{passed, failed, walk-turn, walk-done}
+use Rattle.chain.specs.WithinLaws.{block-inside, block-whole, block-length, walk-turn, walk-done}
+use Rattle.shape.specs.LoopLaws.{passed, failed}
 use Rattle.entries.proofs.pages.check_blocks.Statement.{statement}
 use Rattle.entries.proofs.pages.check_blocks.Tie as tie
 

@@ -6,7 +6,7 @@ use lib.ListN.{drop}
 use Rattle.lists.specs.Lists.{bind}
 use Rattle.image.specs.Rules.{distinct}
 use Rattle.chain.specs.Walk.{blocksOf}
-use Rattle.chain.specs.Search.{entriesOn}
+use Rattle.chain.specs.Within.{entriesOn}
 use Rattle.shape.specs.LoopLaws.{passed, failed}
 use Rattle.entries.proofs.Distinct.{distinct-turn, distinct-done}
 use Rattle.entries.proofs.pages.check_distinct.Statement.{statement}

@@ -7,10 +7,10 @@ use lib.ListN.{getD, take, drop}
 use Rattle.lists.specs.Lists.{any}
 use Rattle.lists.specs.Block.{blocks}
 use Rattle.page.specs.Entries.{entriesOf}
-use Rattle.chain.specs.Search.{entriesOn}
-use Rattle.chain.specs.WithinLaws.{block-inside, block-whole, block-sorted}
+use Rattle.chain.specs.Within.{entriesOn}
+use Rattle.chain.specs.WithinLaws.{block-inside, block-whole, block-sorted, walk-turn, walk-done}
 use Rattle.entries.specs.Tests.{common}
-use Rattle.shape.specs.LoopLaws.{missed, found, walk-turn, walk-done}
+use Rattle.shape.specs.LoopLaws.{missed, found}
 use Rattle.entries.proofs.pages.meets_later.Statement.{statement}
 use Rattle.entries.proofs.pages.meets_later.Tie as tie
 

@@ -11,7 +11,7 @@ use Rattle.page.specs.Entries.{entriesOf}
 use Rattle.page.specs.RuleLaws.{number-le}
 use Rattle.chain.specs.declared.Walk.{Walk}
 use Rattle.chain.specs.Walk.{blocksOf}
-use Rattle.chain.specs.Search.{entriesOn}
+use Rattle.chain.specs.Within.{entriesOn}
 use Rattle.entries.specs.Tests.{markedBy}
 use Rattle.shape.specs.LoopLaws.{passed, failed, rest, rest-start, rest-turn, rest-done}
 use Rattle.entries.proofs.places.check_page_marks.Statement.{statement}

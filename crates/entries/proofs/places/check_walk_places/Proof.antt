@@ -12,10 +12,10 @@ use Rattle.page.specs.declared.Entry.{Entry}
 use Rattle.page.specs.Entries.{entriesOf}
 use Rattle.model.specs.declared.Phase.{Phase}
 use Rattle.chain.specs.Walk.{blocksOf}
-use Rattle.chain.specs.Search.{entriesOn}
-use Rattle.chain.specs.WithinLaws.{block-inside, block-whole, block-sorted}
+use Rattle.chain.specs.Within.{entriesOn}
+use Rattle.chain.specs.WithinLaws.{block-inside, block-whole, block-sorted, walk-turn, walk-done}
 use Rattle.entries.specs.Tests.{standsIn}
-use Rattle.shape.specs.LoopLaws.{passed, failed, walk-turn, walk-done, all-bind}
+use Rattle.shape.specs.LoopLaws.{passed, failed, all-bind}
 use Rattle.entries.proofs.places.check_walk_places.Statement.{statement}
 use Rattle.entries.proofs.places.check_walk_places.Tie as tie
 

@@ -7,7 +7,7 @@ use lib.ListN.{take, drop}
 use Rattle.lists.specs.Lists.{find, bind}
 use Rattle.page.specs.declared.Entry.{Entry}
 use Rattle.image.specs.Decode.{decode}
-use Rattle.chain.specs.Search.{entriesOn}
+use Rattle.chain.specs.Within.{entriesOn}
 use Rattle.chain.specs.WithinLaws.{block-inside, block-sorted}
 use Rattle.view.proofs.Walking.{rest-end}
 use Rattle.split.specs.Mover.{movable, moverOf}

@@ -5,7 +5,7 @@ use lib.ListN.{take, drop}
 use Rattle.lists.specs.Lists.{tally, bind}
 use Rattle.lists.specs.Block.{blocks}
 use Rattle.page.specs.Rule.{Sorted}
-use Rattle.chain.specs.Search.{entriesOn}
+use Rattle.chain.specs.Within.{entriesOn}
 use Rattle.chain.specs.WithinLaws.{block-inside, block-whole, block-sorted}
 use Rattle.view.specs.Next.{isMatch}
 use Rattle.view.proofs.Tallies.{count-few, count-turn, count-end}

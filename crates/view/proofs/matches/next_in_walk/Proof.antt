@@ -5,7 +5,7 @@ use borrow.Author.Needs.{needs}
 use lib.ListN.{take, drop}
 use Rattle.lists.specs.Lists.{bind}
 use Rattle.lists.specs.Block.{blocks}
-use Rattle.chain.specs.Search.{entriesOn}
+use Rattle.chain.specs.Within.{entriesOn}
 use Rattle.chain.specs.WithinLaws.{block-inside, block-whole, block-sorted}
 use Rattle.view.specs.Next.{earlier, nextAfter, pairsIn}
 use Rattle.view.proofs.Walking.{next-turn, next-end}
