@@ -8,7 +8,7 @@ use lib.Pow.{ones-split, ones-lt, high, pow-lt}
 use Rattle.address.specs.Address.{power, digits}
 use Rattle.address.specs.OverLaws.{Over, over-unique, power-grows}
 use Rattle.address.specs.MaskLaws.{digits-is}
-use Rattle.address.specs.GroupLaws.{over-past}
+use Rattle.address.specs.PointLaws.{over-past}
 
 pub digits-leading : (n : ℕ) → n < 2 ^ 32 → leadingZeros 32 n + digits n ≡ 32
 digits-leading n h =

@@ -1,15 +1,15 @@
--- The role of block k, by the group it stands in: the group's buckets come first, then its overflow bits.
+-- The role of block k, by the overflow point it stands at: the buckets that the point adds come first, then its overflow bits.
 use mathlib.Core.Path.{_≡_, sym, ap, _∙_}
 use mathlib.Core.List.{List}
 use Prim.Native.Nat.{ℕ, suc, pred, _+_, _-_, _≤_, _<_}
 use native.Mathlib.Omega.{arith}
 use native.Mathlib.Decide.{decLt}
 use lib.ListN.{getD, take}
-use Rattle.address.specs.Address.{bucketsAt, bucketBlock, bitGroup, made}
+use Rattle.address.specs.Address.{bucketsAt, bucketBlock, bitPoint, made}
 use Rattle.address.specs.Role.{SparesOk, Role, bucketPage, bitPage, unmade, roleOf, RoleIs}
 use Rattle.address.specs.OverLaws.{buckets-mono, buckets-zero}
 use Rattle.address.specs.BlockLaws.{spares-mono, BitAt, bit-at, bucket-at}
-use Rattle.address.specs.GroupLaws.{group-only}
+use Rattle.address.specs.PointLaws.{bucketPoint-only}
 use Rattle.address.specs.RoleLaws.{role-only}
 use Rattle.address.specs.AgreeLaws.{role-same, spares-front, spares-point}
 
@@ -46,7 +46,7 @@ module _ (sp : List ℕ) (s n : ℕ) (ok : SparesOk (upTo s sp) s n) where
   unfolding made
   role-unmade k p h = role k unmade (omega (arith, at s (omega arith)))
 
-  -- in group j + 1, past the groups before it
+  -- at point j + 1, past the points before it
   module _ (j k : ℕ) (last : j < s) (some : 1 ≤ k) where
     module _ (low : 1 ≤ j → bucketsAt j + getD sp j 0 ≤ k - 1) where
       pub before-le : getD sp j 0 ≤ k - 1
@@ -70,7 +70,7 @@ module _ (sp : List ℕ) (s n : ℕ) (ok : SparesOk (upTo s sp) s n) where
           block (yes p) d =
               bucket-at (upTo s sp) s n ok pos b p small .block
               ∙ ap (λ (g : ℕ). b + getD (upTo s sp) (pred g) 0 + 1)
-              (group-only b (suc j) (over d) (omega (arith, up, before-le)))
+              (bucketPoint-only b (suc j) (over d) (omega (arith, up, before-le)))
               ∙ omega (arith, before-le, at j (omega arith))
             where
               over : Dec (0 < j) → bucketsAt j ≤ b
@@ -84,13 +84,13 @@ module _ (sp : List ℕ) (s n : ℕ) (ok : SparesOk (upTo s sp) s n) where
 
     pub bit-in : bucketsAt (suc j) + getD sp j 0 ≤ k - 1 → k - 1 < bucketsAt (suc j) + getD sp (suc j) 0
         → roleOf sp s k ≡ bitPage (k - 1 - bucketsAt (suc j))
-    bit-in low up = role k (bitPage m) (small, x .block ∙ ap (λ (g : ℕ). bucketsAt g + m + 1) group ∙ omega arith)
+    bit-in low up = role k (bitPage m) (small, x .block ∙ ap (λ (g : ℕ). bucketsAt g + m + 1) here ∙ omega arith)
       where
         m : ℕ
         m = k - 1 - bucketsAt (suc j)
 
         r : ℕ
-        r = bitGroup (upTo s sp) m 1 (pred s)
+        r = bitPoint (upTo s sp) m 1 (pred s)
 
         mono : (i j : ℕ) → i ≤ j → j ≤ s → getD (upTo s sp) i 0 ≤ getD (upTo s sp) j 0
         mono = spares-mono (upTo s sp) s n ok pos
@@ -101,7 +101,7 @@ module _ (sp : List ℕ) (s n : ℕ) (ok : SparesOk (upTo s sp) s n) where
         x : BitAt (upTo s sp) s n ok pos m r
         x = bit-at (upTo s sp) s n ok pos m small
 
-        -- the bit's group is j + 1: spares do not fall
+        -- the bit's point is j + 1: spares do not fall
         same : Dec (r < suc j) → Dec (suc j < r) → r ≡ suc j
         same (yes h) d =
             absurd (omega (arith, x .under, at j (omega arith), mono r j (omega arith) (omega arith)))
@@ -110,5 +110,5 @@ module _ (sp : List ℕ) (s n : ℕ) (ok : SparesOk (upTo s sp) s n) where
             absurd (omega (arith, x .over, at (suc j) last, mono (suc j) (pred r) (omega arith) l))
         same (no h) (no g) = omega arith
 
-        group : r ≡ suc j
-        group = same (decLt r (suc j)) (decLt (suc j) r)
+        here : r ≡ suc j
+        here = same (decLt r (suc j)) (decLt (suc j) r)

@@ -56,22 +56,22 @@ unfoldable pub point : ℕ → ℕ
 point m = firstOver bucketsAt m 1 m
 
 -- "g the smallest with 2^g at least b + 1"
-unfoldable pub groupOf : ℕ → ℕ
-groupOf b = firstOver bucketsAt b 0 b
+unfoldable pub bucketPoint : ℕ → ℕ
+bucketPoint b = firstOver bucketsAt b 0 b
 
 -- "block 1 for b = 0; otherwise b + spares[g - 1] + 1"
 unfoldable pub bucketBlock : List ℕ → ℕ → ℕ
 bucketBlock sp zero = 1
-bucketBlock sp (suc b) = suc b + getD sp (pred (groupOf (suc b))) 0 + 1
+bucketBlock sp (suc b) = suc b + getD sp (pred (bucketPoint (suc b))) 0 + 1
 
 -- the smallest from i to i + k with n + 1 at most its spares, or i + k
-abbrev pub bitGroup : List ℕ → ℕ → ℕ → ℕ → ℕ
-bitGroup sp n i zero = i
-bitGroup sp n i (suc k) = elim (ltb n (getD sp i 0)) [ true ↦ i | false ↦ bitGroup sp n (suc i) k ]
+abbrev pub bitPoint : List ℕ → ℕ → ℕ → ℕ → ℕ
+bitPoint sp n i zero = i
+bitPoint sp n i (suc k) = elim (ltb n (getD sp i 0)) [ true ↦ i | false ↦ bitPoint sp n (suc i) k ]
 
 -- "block 2^i + n + 1, i the smallest from 1 to s with n + 1 at most spares[i], or s"
 unfoldable pub bitBlock : List ℕ → ℕ → ℕ → ℕ
-bitBlock sp s n = bucketsAt (bitGroup sp n 1 (pred s)) + n + 1
+bitBlock sp s n = bucketsAt (bitPoint sp n 1 (pred s)) + n + 1
 
 -- "Made blocks: 2^s + spares[s] + 1."
 unfoldable pub made : List ℕ → ℕ → ℕ

@@ -9,29 +9,29 @@ use lib.ListN.{length, getD, take}
 use lib.Seq.{getD-take}
 use Rattle.lists.specs.Lists.{find, upFrom}
 use Rattle.lists.specs.RunLaws.{find-same}
-use Rattle.address.specs.Address.{bucketsAt, groupOf, bucketBlock, bitGroup, bitBlock, made}
+use Rattle.address.specs.Address.{bucketsAt, bucketPoint, bucketBlock, bitPoint, bitBlock, made}
 use Rattle.address.specs.Role.{SparesOk, roleFrom, roleOf}
-use Rattle.address.specs.GroupLaws.{group-le}
+use Rattle.address.specs.PointLaws.{bucketPoint-le}
 
 module _ (sp sq : List ℕ) (s : ℕ) (same : (i : ℕ) → i ≤ s → getD sp i 0 ≡ getD sq i 0) where
   pub bucket-same : (b : ℕ) → b < bucketsAt s → bucketBlock sp b ≡ bucketBlock sq b
   unfolding bucketBlock
   bucket-same zero h = refl
   bucket-same (suc b) h =
-      ap (λ (x : ℕ). suc b + x + 1) (same (pred (groupOf (suc b))) (omega (arith, group-le (suc b) s h)))
+      ap (λ (x : ℕ). suc b + x + 1) (same (pred (bucketPoint (suc b))) (omega (arith, bucketPoint-le (suc b) s h)))
 
   pub bit-same : (n : ℕ) → bitBlock sp s n ≡ bitBlock sq s n
   unfolding bitBlock
   bit-same n = ap (λ (i : ℕ). bucketsAt i + n + 1) (go 1 (pred s) (λ l. omega arith))
     where
-      go : (i k : ℕ) → (1 ≤ k → i + k ≤ s) → bitGroup sp n i k ≡ bitGroup sq n i k
+      go : (i k : ℕ) → (1 ≤ k → i + k ≤ s) → bitPoint sp n i k ≡ bitPoint sq n i k
       go i zero h = refl
       go i (suc k) h =
           let l : i + suc k ≤ s = h (omega arith) in
           both (same i (omega arith)) (go (suc i) k (λ _. omega arith))
         where
-          both : getD sp i 0 ≡ getD sq i 0 → bitGroup sp n (suc i) k ≡ bitGroup sq n (suc i) k
-              → bitGroup sp n i (suc k) ≡ bitGroup sq n i (suc k)
+          both : getD sp i 0 ≡ getD sq i 0 → bitPoint sp n (suc i) k ≡ bitPoint sq n (suc i) k
+              → bitPoint sp n i (suc k) ≡ bitPoint sq n i (suc k)
           both p q = λ j. elim (ltb n (p j)) [ true ↦ i | false ↦ q j ]
 
   pub made-same : made sp s ≡ made sq s

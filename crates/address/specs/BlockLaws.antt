@@ -8,13 +8,13 @@ use native.Mathlib.Omega.{arith}
 use native.Mathlib.Decide.{decLe, decLt}
 use lib.Dec.{ltb, T, ltb→lt, nltb→le}
 use lib.ListN.{getD}
-use Rattle.address.specs.Address.{bucketsAt, point, groupOf, bucketBlock, bitGroup, bitBlock, made}
+use Rattle.address.specs.Address.{bucketsAt, point, bucketPoint, bucketBlock, bitPoint, bitBlock, made}
 use Rattle.address.specs.OverLaws.{Over, over-is, over-unique, buckets-grow, buckets-mono, buckets-zero, buckets-one}
 use Rattle.address.specs.Role.{SparesOk}
 
-pub group-is : (b : ℕ) → Over bucketsAt 0 b (groupOf b)
-unfolding groupOf
-group-is b = over-is bucketsAt buckets-grow (omega (arith, buckets-zero)) 0 b
+pub bucketPoint-is : (b : ℕ) → Over bucketsAt 0 b (bucketPoint b)
+unfolding bucketPoint
+bucketPoint-is b = over-is bucketsAt buckets-grow (omega (arith, buckets-zero)) 0 b
 
 pub point-is : (m : ℕ) → Over bucketsAt 1 m (point m)
 unfolding point
@@ -23,15 +23,15 @@ point-is m = over-is bucketsAt buckets-grow (omega (arith, buckets-zero)) 1 m
 pub point-pos : (m : ℕ) → 1 ≤ point m
 point-pos m = point-is m .from
 
--- the group of an overflow bit, looked for from i on in k more
-record GroupIs (sp : List ℕ) (n i k r : ℕ) : Type 0 where
+-- the point of an overflow bit, looked for from i on in k more
+record PointIs (sp : List ℕ) (n i k r : ℕ) : Type 0 where
   from : i ≤ r
   upto : r ≤ i + k
   below : n < getD sp (i + k) 0 → n < getD sp r 0
   least : i < r → getD sp (pred r) 0 ≤ n
 
-bitGroup-is : (sp : List ℕ) (n i k : ℕ) → GroupIs sp n i k (bitGroup sp n i k)
-bitGroup-is sp n i zero =
+bitPoint-is : (sp : List ℕ) (n i k : ℕ) → PointIs sp n i k (bitPoint sp n i k)
+bitPoint-is sp n i zero =
     let e : i + 0 ≡ i = omega arith in
     record {
       from = omega arith;
@@ -39,10 +39,10 @@ bitGroup-is sp n i zero =
       below = λ h. subst (λ (j : ℕ). n < getD sp j 0) e h;
       least = λ h. absurd (omega arith);
     }
-bitGroup-is sp n i (suc k) = go (ltb n (getD sp i 0)) refl (bitGroup-is sp n (suc i) k)
+bitPoint-is sp n i (suc k) = go (ltb n (getD sp i 0)) refl (bitPoint-is sp n (suc i) k)
   where
-    go : (b : Bool) → ltb n (getD sp i 0) ≡ b → GroupIs sp n (suc i) k (bitGroup sp n (suc i) k)
-        → GroupIs sp n i (suc k) (elim b [ true ↦ i | false ↦ bitGroup sp n (suc i) k ])
+    go : (b : Bool) → ltb n (getD sp i 0) ≡ b → PointIs sp n (suc i) k (bitPoint sp n (suc i) k)
+        → PointIs sp n i (suc k) (elim b [ true ↦ i | false ↦ bitPoint sp n (suc i) k ])
     go true e g =
         record {
           from = omega arith;
@@ -56,13 +56,13 @@ bitGroup-is sp n i (suc k) = go (ltb n (getD sp i 0)) refl (bitGroup-is sp n (su
           from = omega (arith, g .from);
           upto = omega (arith, g .upto);
           below = λ h. g .below (subst (λ (j : ℕ). n < getD sp j 0) (sym q) h);
-          least = λ h. low (decLt (suc i) (bitGroup sp n (suc i) k));
+          least = λ h. low (decLt (suc i) (bitPoint sp n (suc i) k));
         }
       where
-        low : Dec (suc i < bitGroup sp n (suc i) k) → getD sp (pred (bitGroup sp n (suc i) k)) 0 ≤ n
+        low : Dec (suc i < bitPoint sp n (suc i) k) → getD sp (pred (bitPoint sp n (suc i) k)) 0 ≤ n
         low (yes l) = g .least l
         low (no l) =
-            let q : bitGroup sp n (suc i) k ≡ suc i = omega (arith, g .from) in
+            let q : bitPoint sp n (suc i) k ≡ suc i = omega (arith, g .from) in
             rw q (nltb→le n (getD sp i 0) (rw e tt))
 
 module _ (sp : List ℕ) (s n : ℕ) (ok : SparesOk sp s n) (pos : 1 ≤ s) where
@@ -74,7 +74,7 @@ module _ (sp : List ℕ) (s n : ℕ) (ok : SparesOk sp s n) (pos : 1 ≤ s) wher
       go (yes k) ih = omega (arith, ih k (omega arith), ok .rising j l)
       go (no k) ih = let e : i ≡ suc j = omega arith in rw e (omega arith)
 
-  -- overflow bit m of group i
+  -- overflow bit m of point i
   pub record BitAt (m i : ℕ) : Type 0 where
     pub one : 1 ≤ i
     pub last : i ≤ s
@@ -82,25 +82,25 @@ module _ (sp : List ℕ) (s n : ℕ) (ok : SparesOk sp s n) (pos : 1 ≤ s) wher
     pub over : getD sp (pred i) 0 ≤ m
     pub block : bitBlock sp s m ≡ bucketsAt i + m + 1
 
-  pub bit-at : (m : ℕ) → m < getD sp s 0 → BitAt m (bitGroup sp m 1 (pred s))
+  pub bit-at : (m : ℕ) → m < getD sp s 0 → BitAt m (bitPoint sp m 1 (pred s))
   unfolding bitBlock
   bit-at m h =
-      let g = bitGroup-is sp m 1 (pred s) in
+      let g = bitPoint-is sp m 1 (pred s) in
       let e : 1 + pred s ≡ s = omega arith in
       record {
         one = g .from;
         last = omega (arith, g .upto);
         under = g .below (subst (λ (j : ℕ). m < getD sp j 0) (sym e) h);
-        over = low g (decLt 1 (bitGroup sp m 1 (pred s)));
+        over = low g (decLt 1 (bitPoint sp m 1 (pred s)));
         block = refl;
       }
     where
-      low : GroupIs sp m 1 (pred s) (bitGroup sp m 1 (pred s)) → Dec (1 < bitGroup sp m 1 (pred s))
-          → getD sp (pred (bitGroup sp m 1 (pred s))) 0 ≤ m
+      low : PointIs sp m 1 (pred s) (bitPoint sp m 1 (pred s)) → Dec (1 < bitPoint sp m 1 (pred s))
+          → getD sp (pred (bitPoint sp m 1 (pred s))) 0 ≤ m
       low g (yes l) = g .least l
-      low g (no l) = let q : bitGroup sp m 1 (pred s) ≡ 1 = omega (arith, g .from) in rw q (omega (arith, ok .zeroth))
+      low g (no l) = let q : bitPoint sp m 1 (pred s) ≡ 1 = omega (arith, g .from) in rw q (omega (arith, ok .zeroth))
 
-  -- bucket b of at least 1, of group g
+  -- bucket b of at least 1, of point g
   pub record BucketAt (b g : ℕ) : Type 0 where
     pub one : 1 ≤ g
     pub last : g ≤ s
@@ -108,23 +108,23 @@ module _ (sp : List ℕ) (s n : ℕ) (ok : SparesOk sp s n) (pos : 1 ≤ s) wher
     pub over : bucketsAt (pred g) ≤ b
     pub block : bucketBlock sp b ≡ b + getD sp (pred g) 0 + 1
 
-  pub bucket-at : (b : ℕ) → 1 ≤ b → b < bucketsAt s → BucketAt b (groupOf b)
+  pub bucket-at : (b : ℕ) → 1 ≤ b → b < bucketsAt s → BucketAt b (bucketPoint b)
   unfolding bucketBlock
   bucket-at zero h l = absurd (omega arith)
   bucket-at (suc b) h l =
-      let a = group-is (suc b) in
-      let g : 1 ≤ groupOf (suc b) = first (groupOf (suc b)) refl in
-      record { one = g; last = most (decLe (groupOf (suc b)) s) a; under = a .over; over = a .least g; block = refl }
+      let a = bucketPoint-is (suc b) in
+      let g : 1 ≤ bucketPoint (suc b) = first (bucketPoint (suc b)) refl in
+      record { one = g; last = most (decLe (bucketPoint (suc b)) s) a; under = a .over; over = a .least g; block = refl }
     where
-      first : (j : ℕ) → groupOf (suc b) ≡ j → 1 ≤ j
+      first : (j : ℕ) → bucketPoint (suc b) ≡ j → 1 ≤ j
       first zero e =
-          absurd (omega (arith, buckets-zero, subst (λ (k : ℕ). suc b < bucketsAt k) e (group-is (suc b) .over)))
+          absurd (omega (arith, buckets-zero, subst (λ (k : ℕ). suc b < bucketsAt k) e (bucketPoint-is (suc b) .over)))
       first (suc j) e = omega arith
 
-      most : Dec (groupOf (suc b) ≤ s) → Over bucketsAt 0 (suc b) (groupOf (suc b)) → groupOf (suc b) ≤ s
+      most : Dec (bucketPoint (suc b) ≤ s) → Over bucketsAt 0 (suc b) (bucketPoint (suc b)) → bucketPoint (suc b) ≤ s
       most (yes k) a = k
       most (no k) a =
-          absurd (omega (arith, buckets-mono s (pred (groupOf (suc b))) (omega arith), a .least (omega arith)))
+          absurd (omega (arith, buckets-mono s (pred (bucketPoint (suc b))) (omega arith), a .least (omega arith)))
 
   -- ---- each has a block of its own
 
@@ -181,7 +181,7 @@ module _ (sp : List ℕ) (s n : ℕ) (ok : SparesOk sp s n) (pos : 1 ≤ s) wher
 
   pub bit-pos : (m : ℕ) → 3 ≤ bitBlock sp s m
   unfolding bitBlock
-  bit-pos m = omega (arith, buckets-one, buckets-mono 1 (bitGroup sp m 1 (pred s)) (bitGroup-is sp m 1 (pred s) .from))
+  bit-pos m = omega (arith, buckets-one, buckets-mono 1 (bitPoint sp m 1 (pred s)) (bitPoint-is sp m 1 (pred s) .from))
 
   pub bucket-pos : (b : ℕ) → 1 ≤ bucketBlock sp b
   unfolding bucketBlock
@@ -219,11 +219,11 @@ module _ (sp : List ℕ) (s n : ℕ) (ok : SparesOk sp s n) (pos : 1 ≤ s) wher
 
   pub bit-made : (m : ℕ) → m < getD sp s 0 → bitBlock sp s m < made sp s
   unfolding made
-  bit-made m h = let x = bit-at m h in omega (arith, x .block, buckets-mono (bitGroup sp m 1 (pred s)) s (x .last))
+  bit-made m h = let x = bit-at m h in omega (arith, x .block, buckets-mono (bitPoint sp m 1 (pred s)) s (x .last))
 
   pub bucket-made : (b : ℕ) → b < bucketsAt s → bucketBlock sp b < made sp s
   unfolding bucketBlock made
   bucket-made zero l = omega (arith, buckets-zero, buckets-mono 0 s (omega arith))
   bucket-made (suc b) l =
       let y = bucket-at (suc b) (omega arith) l in
-      omega (arith, spares-mono (pred (groupOf (suc b))) s (omega (arith, y .last)) (omega arith))
+      omega (arith, spares-mono (pred (bucketPoint (suc b))) s (omega (arith, y .last)) (omega arith))

@@ -5,7 +5,7 @@ pub mod OverLaws
 pub mod MaskLaws
 pub mod BucketLaws
 pub mod BlockLaws
-pub mod GroupLaws
+pub mod PointLaws
 pub mod LastSplitLaws
 pub mod RoleLaws
 pub mod SparesLaws

@@ -13,10 +13,10 @@ use lib.ListN.{getD}
 use Rattle.lists.specs.Lists.{find, upFrom}
 use Rattle.lists.specs.ListsLaws.{eqb-yes}
 use Rattle.lists.specs.RunLaws.{find-run, find-only, find-nowhere}
-use Rattle.address.specs.Address.{bucketsAt, groupOf, bucketBlock, bitGroup, bitBlock, made}
+use Rattle.address.specs.Address.{bucketsAt, bucketPoint, bucketBlock, bitPoint, bitBlock, made}
 use Rattle.address.specs.Role.{SparesOk, Role, meta, bucketPage, bitPage, unmade, roleFrom, roleOf, RoleIs}
 use Rattle.address.specs.OverLaws.{over-unique, buckets-grow, buckets-mono, buckets-zero}
-use Rattle.address.specs.BlockLaws.{spares-mono, BitAt, bit-at, group-is, bit-pos, bucket-pos, bit-apart, bit-bucket-apart, bucket-apart, bit-made, bucket-made}
+use Rattle.address.specs.BlockLaws.{spares-mono, BitAt, bit-at, bucketPoint-is, bit-pos, bucket-pos, bit-apart, bit-bucket-apart, bucket-apart, bit-made, bucket-made}
 
 module _ (sp : List ℕ) (s n : ℕ) (ok : SparesOk sp s n) (pos : 1 ≤ s) where
   pub data Made (k : ℕ) : Type 0 where
@@ -24,13 +24,13 @@ module _ (sp : List ℕ) (s n : ℕ) (ok : SparesOk sp s n) (pos : 1 ≤ s) wher
     isBucket : (b : ℕ) → b < bucketsAt s → bucketBlock sp b ≡ k → Made k
     isBit : (m : ℕ) → m < getD sp s 0 → bitBlock sp s m ≡ k → Made k
 
-  bit-group : (m i : ℕ) → 1 ≤ i → i ≤ s → getD sp (pred i) 0 ≤ m → m < getD sp i 0 → bitBlock sp s m ≡ bucketsAt i + m + 1
-  bit-group m i p l lo hi =
+  bit-point : (m i : ℕ) → 1 ≤ i → i ≤ s → getD sp (pred i) 0 ≤ m → m < getD sp i 0 → bitBlock sp s m ≡ bucketsAt i + m + 1
+  bit-point m i p l lo hi =
       let x = bit-at sp s n ok pos m (omega (arith, spares-mono sp s n ok pos i s l (omega arith))) in
       x .block ∙ ap (λ (j : ℕ). bucketsAt j + m + 1) (go x (decLt r i) (decLt i r))
     where
       r : ℕ
-      r = bitGroup sp m 1 (pred s)
+      r = bitPoint sp m 1 (pred s)
 
       go : BitAt sp s n ok pos m r → Dec (r < i) → Dec (i < r) → r ≡ i
       go x (yes h) d = absurd (omega (arith, x .under, spares-mono sp s n ok pos r (pred i) (omega arith) (omega arith)))
@@ -38,12 +38,12 @@ module _ (sp : List ℕ) (s n : ℕ) (ok : SparesOk sp s n) (pos : 1 ≤ s) wher
           absurd (omega (arith, x .over, spares-mono sp s n ok pos i (pred r) (omega arith) (omega (arith, x .last))))
       go x (no h) (no g) = omega arith
 
-  bucket-group : (b i : ℕ) → 1 ≤ i → bucketsAt (pred i) ≤ b → b < bucketsAt i → bucketBlock sp b ≡ b + getD sp (pred i) 0 + 1
+  bucket-point : (b i : ℕ) → 1 ≤ i → bucketsAt (pred i) ≤ b → b < bucketsAt i → bucketBlock sp b ≡ b + getD sp (pred i) 0 + 1
   unfolding bucketBlock
-  bucket-group zero i p lo hi = absurd (omega (arith, buckets-zero, buckets-mono 0 (pred i) (omega arith)))
-  bucket-group (suc b) i p lo hi =
+  bucket-point zero i p lo hi = absurd (omega (arith, buckets-zero, buckets-mono 0 (pred i) (omega arith)))
+  bucket-point (suc b) i p lo hi =
       ap (λ (j : ℕ). suc b + getD sp (pred j) 0 + 1)
-      (over-unique bucketsAt buckets-grow 0 (suc b) (groupOf (suc b)) i (group-is (suc b))
+      (over-unique bucketsAt buckets-grow 0 (suc b) (bucketPoint (suc b)) i (bucketPoint-is (suc b))
       (record { from = omega arith; over = hi; least = λ _. lo }))
 
   made-to : (i : ℕ) → i ≤ s → (k : ℕ) → k < bucketsAt i + getD sp i 0 + 1 → Made k
@@ -60,11 +60,11 @@ module _ (sp : List ℕ) (s n : ℕ) (ok : SparesOk sp s n) (pos : 1 ≤ s) wher
       go (no q) (yes r) ih =
           let b : ℕ = k - (getD sp i 0 + 1) in
           isBucket b (omega (arith, buckets-mono (suc i) s l))
-          (bucket-group b (suc i) (omega arith) (omega arith) (omega arith) ∙ omega arith)
+          (bucket-point b (suc i) (omega arith) (omega arith) (omega arith) ∙ omega arith)
       go (no q) (no r) ih =
           let m : ℕ = k - (bucketsAt (suc i) + 1) in
           isBit m (omega (arith, spares-mono sp s n ok pos (suc i) s l (omega arith)))
-          (bit-group m (suc i) (omega arith) l (omega arith) (omega arith) ∙ omega arith)
+          (bit-point m (suc i) (omega arith) l (omega arith) (omega arith) ∙ omega arith)
 
   pub made-role : (k : ℕ) → k < made sp s → Made k
   unfolding made

@@ -1,4 +1,4 @@
--- Spares that grow: by an overflow page at the overflow point, or by a group. They keep their rule and move no block.
+-- Spares that grow: by an overflow page at the overflow point, or by a point. They keep their rule and move no block.
 use mathlib.Core.Path.{_≡_, refl, sym, ap, _∙_, subst}
 use mathlib.Core.Bool.{Bool, true, false, cond}
 use mathlib.Core.List.{List, [], _∷_, _++_}
@@ -9,7 +9,7 @@ use borrow.Author.Tests.{lt-ltb}
 use lib.Dec.{ltb, T, ltb→lt, nltb→le}
 use lib.ListN.{length, getD, set, length-set, length-append, List·getD-append}
 use lib.Seq.{getD-set-same, getD-set-other, getD-append-seam}
-use Rattle.address.specs.Address.{bucketsAt, point, groupOf, bucketBlock, bitGroup, bitBlock, made}
+use Rattle.address.specs.Address.{bucketsAt, point, bucketPoint, bucketBlock, bitPoint, bitBlock, made}
 use Rattle.address.specs.Role.{SparesOk}
 use Rattle.address.specs.OverLaws.{Over, over-unique, buckets-grow, buckets-mono}
 use Rattle.address.specs.BlockLaws.{point-is, spares-mono, bucket-at}
@@ -74,11 +74,11 @@ spares-more sp s n l p r =
     first (yes e) = rw e (omega (arith, here))
     first (no e) = omega (arith, getD-set-other sp s 1 v 0 e, l .bitmap)
 
--- one group more
-pub spares-group : (sp : List ℕ) (s n : ℕ) → SparesOk sp s n → 1 ≤ s → bucketsAt (suc s) + getD sp s 0 + 1 ≤ n
+-- one overflow point more
+pub spares-new-point : (sp : List ℕ) (s n : ℕ) → SparesOk sp s n → 1 ≤ s → bucketsAt (suc s) + getD sp s 0 + 1 ≤ n
     → SparesOk (sp ++ getD sp s 0 ∷ []) (suc s) n
 unfolding made
-spares-group sp s n l p r =
+spares-new-point sp s n l p r =
     record {
       points = length-append sp _ ∙ omega (arith, l .points);
       zeroth = below 0 (omega arith) ∙ l .zeroth;
@@ -109,18 +109,18 @@ module _ (sp : List ℕ) (s n : ℕ) (ok : SparesOk sp s n) (pos : 1 ≤ s) wher
   bucket-spares v (suc b) l =
       let y = bucket-at sp s n ok pos (suc b) (omega arith) l in
       ap (λ (k : ℕ). suc b + k + 1)
-      (getD-set-other sp s (pred (groupOf (suc b))) v 0 (λ q. omega (arith, q, y .one, y .last)))
+      (getD-set-other sp s (pred (bucketPoint (suc b))) v 0 (λ q. omega (arith, q, y .one, y .last)))
 
   pub bit-spares : (v m : ℕ) → bitBlock (set sp s v) s m ≡ bitBlock sp s m
   unfolding bitBlock
   bit-spares v m = ap (λ (i : ℕ). bucketsAt i + m + 1) (go 1 (pred s) (omega arith))
     where
-      go : (i k : ℕ) → i + k ≤ s → bitGroup (set sp s v) m i k ≡ bitGroup sp m i k
+      go : (i k : ℕ) → i + k ≤ s → bitPoint (set sp s v) m i k ≡ bitPoint sp m i k
       go i zero h = refl
       go i (suc k) h = at (getD-set-other sp s i v 0 (λ q. omega arith)) (go (suc i) k (omega arith))
         where
-          at : getD (set sp s v) i 0 ≡ getD sp i 0 → bitGroup (set sp s v) m (suc i) k ≡ bitGroup sp m (suc i) k
-              → bitGroup (set sp s v) m i (suc k) ≡ bitGroup sp m i (suc k)
+          at : getD (set sp s v) i 0 ≡ getD sp i 0 → bitPoint (set sp s v) m (suc i) k ≡ bitPoint sp m (suc i) k
+              → bitPoint (set sp s v) m i (suc k) ≡ bitPoint sp m i (suc k)
           at p q = λ j. elim (ltb m (p j)) [ true ↦ i | false ↦ q j ]
 
   pub bucket-append : (v b : ℕ) → b < bucketsAt s → bucketBlock (sp ++ v ∷ []) b ≡ bucketBlock sp b
@@ -129,12 +129,12 @@ module _ (sp : List ℕ) (s n : ℕ) (ok : SparesOk sp s n) (pos : 1 ≤ s) wher
   bucket-append v (suc b) l =
       let y = bucket-at sp s n ok pos (suc b) (omega arith) l in
       ap (λ (k : ℕ). suc b + k + 1)
-      (List·getD-append sp (v ∷ []) 0 (pred (groupOf (suc b))) (omega (arith, y .last, ok .points)))
+      (List·getD-append sp (v ∷ []) 0 (pred (bucketPoint (suc b))) (omega (arith, y .last, ok .points)))
 
   pub bit-append : (v m : ℕ) → m < getD sp s 0 → bitBlock (sp ++ v ∷ []) (suc s) m ≡ bitBlock sp s m
   unfolding bitBlock
   bit-append v m h =
-      ap (λ (i : ℕ). bucketsAt i + m + 1) (ap (bitGroup (sp ++ v ∷ []) m 1) back ∙ go 1 (pred s) (omega arith))
+      ap (λ (i : ℕ). bucketsAt i + m + 1) (ap (bitPoint (sp ++ v ∷ []) m 1) back ∙ go 1 (pred s) (omega arith))
     where
       back : pred (suc s) ≡ suc (pred s)
       back = omega arith
@@ -142,7 +142,7 @@ module _ (sp : List ℕ) (s n : ℕ) (ok : SparesOk sp s n) (pos : 1 ≤ s) wher
       front : (i : ℕ) → i ≤ s → getD (sp ++ v ∷ []) i 0 ≡ getD sp i 0
       front i l = List·getD-append sp (v ∷ []) 0 i (omega (arith, ok .points))
 
-      go : (i k : ℕ) → i + k ≡ s → bitGroup (sp ++ v ∷ []) m i (suc k) ≡ bitGroup sp m i k
+      go : (i k : ℕ) → i + k ≡ s → bitPoint (sp ++ v ∷ []) m i (suc k) ≡ bitPoint sp m i k
       go i zero q =
           let e : i ≡ s = omega arith in
           let l : m < getD (sp ++ v ∷ []) i 0 = rw (front i (omega arith), e) h in
@@ -152,6 +152,6 @@ module _ (sp : List ℕ) (s n : ℕ) (ok : SparesOk sp s n) (pos : 1 ≤ s) wher
           at b p = rw p
       go i (suc k) q = at (front i (omega arith)) (go (suc i) k (omega arith))
         where
-          at : getD (sp ++ v ∷ []) i 0 ≡ getD sp i 0 → bitGroup (sp ++ v ∷ []) m (suc i) (suc k) ≡ bitGroup sp m (suc i) k
-              → bitGroup (sp ++ v ∷ []) m i (suc (suc k)) ≡ bitGroup sp m i (suc k)
+          at : getD (sp ++ v ∷ []) i 0 ≡ getD sp i 0 → bitPoint (sp ++ v ∷ []) m (suc i) (suc k) ≡ bitPoint sp m (suc i) k
+              → bitPoint (sp ++ v ∷ []) m i (suc (suc k)) ≡ bitPoint sp m i (suc k)
           at p r = λ j. elim (ltb m (p j)) [ true ↦ i | false ↦ r j ]

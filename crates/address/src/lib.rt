@@ -3,7 +3,7 @@ ghost use mathlib.Core.Path.{_≡_};
 ghost use Prim.Native.Nat.{suc, pred, _+_, _^_, _≤_, _<_};
 ghost use lib.ListN.{take};
 ghost use Rattle.address.specs.Address.{bucketsAt, highMask, lowMask, bucketOf, splitFrom, lastSplit};
-ghost use Rattle.address.specs.Address.{point, groupOf, bucketBlock, bitGroup, bitBlock, made};
+ghost use Rattle.address.specs.Address.{point, bucketPoint, bucketBlock, bitPoint, bitBlock, made};
 ghost use Rattle.address.specs.Role.{SparesOk, roleOf};
 ghost use Rattle.address.specs.BlockRole.{roleCase};
 
@@ -54,8 +54,8 @@ pub fn buckets_at(i: u32) -> u32
 }
 
 // The smallest g with `buckets_at(g)` above `bucket`.
-pub fn group_of(bucket: u32) -> u32
-    ensures { λ r. ⌜ r ≡ groupOf bucket ⌝ }
+pub fn point_of_bucket(bucket: u32) -> u32
+    ensures { λ r. ⌜ r ≡ bucketPoint bucket ⌝ }
 {
     32 - u32::leading_zeros(bucket)
 }
@@ -67,7 +67,7 @@ pub fn point_of(max: u32) -> u32
     if max == 0 {
         return 1;
     }
-    group_of(max)
+    point_of_bucket(max)
 }
 
 // The highest bucket from 2 to `max` that is `bucket` or split off from it, or 1. What split off is `bucket` and a
@@ -83,7 +83,7 @@ pub fn last_split(max: u32, bucket: u32) -> u32
     if bucket < top { bucket + top } else { bucket }
 }
 
-// The block of a bucket: past the meta block, the buckets before it and the overflow bits of earlier groups.
+// The block of a bucket: past the meta block, the buckets before it and the overflow bits of earlier points.
 pub fn bucket_block(spares: [u32; 16], bucket: u32) -> u32
     requires { ⌜ (bucket < bucketsAt 16) × (bucketBlock spares bucket < 2 ^ 32) ⌝ }
     ensures { λ r. ⌜ r ≡ bucketBlock spares bucket ⌝ }
@@ -91,14 +91,14 @@ pub fn bucket_block(spares: [u32; 16], bucket: u32) -> u32
     if bucket == 0 {
         return 1;
     }
-    let before = (group_of(bucket) - 1) as usize;
+    let before = (point_of_bucket(bucket) - 1) as usize;
     bucket + spares[before] + 1
 }
 
-// The group of an overflow bit: the smallest i from 1 to `s` with `bit` below its spares, or `s`.
-fn bit_group(spares: [u32; 16], s: u32, bit: u32) -> u32
+// The point of an overflow bit: the smallest i from 1 to `s` with `bit` below its spares, or `s`.
+fn bit_point(spares: [u32; 16], s: u32, bit: u32) -> u32
     requires { ⌜ s ≤ 16 ⌝ }
-    ensures { λ r. ⌜ (r ≡ bitGroup spares bit 1 (pred s)) × (r ≤ 16) ⌝ }
+    ensures { λ r. ⌜ (r ≡ bitPoint spares bit 1 (pred s)) × (r ≤ 16) ⌝ }
 {
     let mut i: u32 = 1;
     while i < s {
@@ -110,12 +110,12 @@ fn bit_group(spares: [u32; 16], s: u32, bit: u32) -> u32
     i
 }
 
-// The block of an overflow bit: past the meta block, the buckets up to its group and the bits before it.
+// The block of an overflow bit: past the meta block, the buckets up to its point and the bits before it.
 pub fn bit_block(spares: [u32; 16], s: u32, bit: u32) -> u32
     requires { ⌜ (s ≤ 16) × (bitBlock spares s bit < 2 ^ 32) ⌝ }
     ensures { λ r. ⌜ r ≡ bitBlock spares s bit ⌝ }
 {
-    buckets_at(bit_group(spares, s, bit)) + bit + 1
+    buckets_at(bit_point(spares, s, bit)) + bit + 1
 }
 
 // The number of made blocks, whatever the spares hold.
@@ -134,7 +134,7 @@ pub enum BlockRole {
     Unmade,
 }
 
-// From block 1 on, group by group: the group's buckets, then its overflow bits.
+// From block 1 on, point by point: the buckets that it adds, then its overflow bits.
 pub fn role_of(spares: [u32; 16], s: u32, block: u32) -> BlockRole
     requires { ⌜ (s ≤ 15) × SparesOk (take (suc s) spares) s (2 ^ 32) ⌝ }
     ensures { λ r. ⌜ r ≡ roleCase (roleOf spares s block) ⌝ }
@@ -143,17 +143,17 @@ pub fn role_of(spares: [u32; 16], s: u32, block: u32) -> BlockRole
         return BlockRole::Meta;
     }
     let place = block - 1;
-    let mut group: u32 = 1;
-    while group <= s {
-        let buckets = buckets_at(group);
-        let before = spares[(group - 1) as usize];
+    let mut point: u32 = 1;
+    while point <= s {
+        let buckets = buckets_at(point);
+        let before = spares[(point - 1) as usize];
         if place < buckets + before {
             return BlockRole::Bucket(place - before);
         }
-        if place < buckets + spares[group as usize] {
+        if place < buckets + spares[point as usize] {
             return BlockRole::Bit(place - buckets);
         }
-        group += 1;
+        point += 1;
     }
     BlockRole::Unmade
 }

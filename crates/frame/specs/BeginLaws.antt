@@ -1,4 +1,4 @@
--- The blocks that a begin alters: no made block moves, within a group and with a new one.
+-- The blocks that a begin alters: no made block moves, at the same overflow point and at a new one.
 use mathlib.Core.Path.{_≡_, refl, sym, ap, ap₂, _∙_, fun-ext}
 use mathlib.Core.Logic.{_≢_}
 use mathlib.Core.Bool.{Bool, true, false, cond, not, _&&_, _||_}
@@ -12,13 +12,13 @@ use lib.ListN.{length, getD, List·getD-append}
 use lib.Seq.{getD-append-seam}
 use Rattle.lists.specs.Lists.{b2n, tally, find, bind, Each}
 use Rattle.lists.specs.ListsLaws.{eqb-yes, eqb-no, tally-append}
-use Rattle.address.specs.Address.{bucketsAt, splitFrom, lastSplit, point, groupOf, bucketBlock, bitBlock}
+use Rattle.address.specs.Address.{bucketsAt, splitFrom, lastSplit, point, bucketPoint, bucketBlock, bitBlock}
 use Rattle.address.specs.Role.{SparesOk, Role, meta, bucketPage, bitPage, unmade, roleOf, RoleIs}
 use mathlib.Core.Option.{some}
 use Rattle.address.specs.OverLaws.{buckets-mono}
 use Rattle.address.specs.MaskLaws.{split-lt}
 use Rattle.address.specs.BlockLaws.{point-is, point-pos}
-use Rattle.address.specs.GroupLaws.{group-le}
+use Rattle.address.specs.PointLaws.{bucketPoint-le}
 use Rattle.address.specs.SparesLaws.{point-next, bucket-append, bit-append}
 use Rattle.address.specs.RoleLaws.{role-is, role-only}
 use Rattle.page.specs.Entries.{encodePage}
@@ -26,7 +26,7 @@ use Rattle.model.specs.Index.{Page, Chain, Job, idle, copying, Index, noChain, 
 use Rattle.model.specs.Pages.{bitsOf}
 use Rattle.model.specs.Steps.{widen}
 use Rattle.model.specs.WellFormed.{uses, Laid}
-use Rattle.model.specs.ViewLaws.{Beginning, inGroup, newGroup}
+use Rattle.model.specs.ViewLaws.{Beginning, samePoint, newPoint}
 use Rattle.model.specs.LaidLaws.{chain-wider, begin-laid}
 use Rattle.model.specs.MachineLaws.{never}
 use Rattle.image.specs.Layout.{noLink, paged, blank, mapFront, isFree, flagsIn, flagsOf, LinkedPage, nextOf}
@@ -231,11 +231,11 @@ module _ (x : Index) (l : Laid x) (sq : List ℕ) (a : Stays x sq (point (suc (x
       (q ∙ a .buckets (splitFrom (suc (x .maxBucket)))
       (omega (arith, split-lt (suc (x .maxBucket)) (omega arith), max-under x l))))
 
--- ---- within a group, and with a new one
+-- ---- at the same overflow point, and at a new one
 
-pub stays-group : (x : Index) → point (suc (x .maxBucket)) ≡ point (x .maxBucket)
+pub stays-point : (x : Index) → point (suc (x .maxBucket)) ≡ point (x .maxBucket)
     → Laid (widen x (x .spares)) → Stays x (x .spares) (point (suc (x .maxBucket)))
-stays-group x q m =
+stays-point x q m =
     record {
       bits = λ n h. ap (λ (i : ℕ). bitBlock (x .spares) i n) q;
       buckets = λ d h. refl;
@@ -270,20 +270,20 @@ stays-more x l q m =
         ≡ bucketBlock (x .spares) (suc (x .maxBucket))
     newest =
         ap (λ (n : ℕ). suc (x .maxBucket) + n + 1)
-        (List·getD-append (x .spares) (topBit x ∷ []) 0 (pred (groupOf (suc (x .maxBucket))))
+        (List·getD-append (x .spares) (topBit x ∷ []) 0 (pred (bucketPoint (suc (x .maxBucket))))
         (omega (
           arith,
           q,
           l .spares .points,
-          group-le (suc (x .maxBucket)) (point (suc (x .maxBucket)))
+          bucketPoint-le (suc (x .maxBucket)) (point (suc (x .maxBucket)))
               (point-is (suc (x .maxBucket)) .over),
         )))
 
 pub frame-begin : (x : Index) → Laid x → x .job ≡ idle → {y : Index} → Beginning x (some y) → (k : ℕ)
     → Apart k (beginBlocks x)
     → encodeBlock y k ≡ encodeBlock x k
-frame-begin x l e (inGroup g) =
-    frame-stays x l (x .spares) (stays-group x (point-next (x .maxBucket) false g) (begin-laid x l (inGroup g))) e
-frame-begin x l e (newGroup g r) =
+frame-begin x l e (samePoint g) =
+    frame-stays x l (x .spares) (stays-point x (point-next (x .maxBucket) false g) (begin-laid x l (samePoint g))) e
+frame-begin x l e (newPoint g r) =
     frame-stays x l (x .spares ++ topBit x ∷ [])
-    (stays-more x l (point-next (x .maxBucket) true g) (begin-laid x l (newGroup g r))) e
+    (stays-more x l (point-next (x .maxBucket) true g) (begin-laid x l (newPoint g r))) e

@@ -16,14 +16,14 @@ use Rattle.page.specs.Entries.{encodePage}
 use Rattle.model.specs.Index.{Chain, Index, noChain, chain, topBit}
 use Rattle.model.specs.Steps.{widen}
 use Rattle.model.specs.WellFormed.{Laid}
-use Rattle.model.specs.ViewLaws.{Beginning, inGroup, newGroup}
+use Rattle.model.specs.ViewLaws.{Beginning, samePoint, newPoint}
 use Rattle.model.specs.LaidLaws.{chain-wider, begin-laid}
 use Rattle.image.specs.Layout.{noLink, paged, flagsOf, nextOf, bucketImage, encodeBlock}
 use Rattle.frame.specs.Frame.{pageBlock}
 use Rattle.image.specs.BoundLaws.{max-under}
 use Rattle.frame.specs.ImagesLaws.{next-first, bucket-image}
 use Rattle.frame.specs.JobLaws.{flags-new, flags-old}
-use Rattle.frame.specs.BeginLaws.{Stays, stays-group, stays-more, next-made}
+use Rattle.frame.specs.BeginLaws.{Stays, stays-point, stays-more, next-made}
 
 -- the new bucket and the old one are split last by the new one
 last-new : (m b : ℕ) → 1 ≤ m → eqb (suc m) b || eqb (splitFrom (suc m)) b ≡ true → lastSplit (suc m) b ≡ suc m
@@ -78,12 +78,12 @@ module _ (x : Index) (l : Laid x) where
   -- an empty page, "being populated"
   pub begin-new : {y : Index} → Beginning x (some y) → encodeBlock y (bucketBlock (x .spares) (suc (x .maxBucket)))
       ≡ paged (encodePage [] []) (suc (x .maxBucket)) noLink (suc (x .maxBucket)) 18
-  begin-new (inGroup g) =
+  begin-new (samePoint g) =
       let v =
-      begin-laid x l (inGroup g) in new-page x l (x .spares) (stays-group x (point-next (x .maxBucket) false g) v) v
-  begin-new (newGroup g r) =
+      begin-laid x l (samePoint g) in new-page x l (x .spares) (stays-point x (point-next (x .maxBucket) false g) v) v
+  begin-new (newPoint g r) =
       let v =
-      begin-laid x l (newGroup g r) in new-page x l (x .spares ++ topBit x ∷ [])
+      begin-laid x l (newPoint g r) in new-page x l (x .spares ++ topBit x ∷ [])
       (stays-more x l (point-next (x .maxBucket) true g) v) v
 
   -- the page with its new last split, "being split"
@@ -91,10 +91,10 @@ module _ (x : Index) (l : Laid x) where
       → let o = splitFrom (suc (x .maxBucket)) in
       encodeBlock y (bucketBlock (x .spares) o)
       ≡ paged (encodePage (chain x o .first) []) (suc (x .maxBucket)) (pageBlock x o 1) o 34
-  begin-old (inGroup g) =
+  begin-old (samePoint g) =
       let v =
-      begin-laid x l (inGroup g) in old-page x l (x .spares) (stays-group x (point-next (x .maxBucket) false g) v) v
-  begin-old (newGroup g r) =
+      begin-laid x l (samePoint g) in old-page x l (x .spares) (stays-point x (point-next (x .maxBucket) false g) v) v
+  begin-old (newPoint g r) =
       let v =
-      begin-laid x l (newGroup g r) in old-page x l (x .spares ++ topBit x ∷ [])
+      begin-laid x l (newPoint g r) in old-page x l (x .spares ++ topBit x ∷ [])
       (stays-more x l (point-next (x .maxBucket) true g) v) v

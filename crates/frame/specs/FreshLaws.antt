@@ -12,7 +12,7 @@ use lib.ListN.{length, getD, set, length-set}
 use lib.Seq.{getD-set-same, getD-set-other}
 use Rattle.lists.specs.Lists.{b2n, find}
 use Rattle.lists.specs.ListsLaws.{eqb-yes, eqb-no}
-use Rattle.address.specs.Address.{bucketsAt, lastSplit, point, bucketBlock, bitBlock, bitGroup, made}
+use Rattle.address.specs.Address.{bucketsAt, lastSplit, point, bucketBlock, bitBlock, bitPoint, made}
 use Rattle.address.specs.Role.{SparesOk, Role, meta, bucketPage, bitPage, unmade, roleOf, RoleIs}
 use Rattle.address.specs.BlockLaws.{point-pos, spares-mono, BitAt, bit-at}
 use Rattle.address.specs.SparesLaws.{spares-more, bucket-spares, bit-spares}
@@ -69,7 +69,7 @@ module _ (x : Index) (n : ℕ) (ok : SparesOk (x .spares) (point (x .maxBucket))
   next-block = sym (bit-same (topBit x)) ∙ at .block ∙ ap (λ (i : ℕ). bucketsAt i + topBit x + 1) (go (decLt g s))
     where
       g : ℕ
-      g = bitGroup sq (topBit x) 1 (pred s)
+      g = bitPoint sq (topBit x) 1 (pred s)
 
       at : BitAt sq s n more-ok (point-pos (x .maxBucket)) (topBit x) g
       at = bit-at sq s n more-ok (point-pos (x .maxBucket)) (topBit x) (omega (arith, top-more))

@@ -23,7 +23,7 @@ use Rattle.model.specs.HeldIn.{heldIn}
 use Rattle.model.specs.PlacedLaws.{held-new}
 use Rattle.model.specs.HeldLaws.{is-parts, heldIn-held}
 use Rattle.model.specs.LaidLaws.{chain-wider}
-use Rattle.model.specs.ViewLaws.{Beginning, inGroup, newGroup, Stepping, began, copied, copiedAll, cleared, clearedAll, step-view}
+use Rattle.model.specs.ViewLaws.{Beginning, samePoint, newPoint, Stepping, began, copied, copiedAll, cleared, clearedAll, step-view}
 use Rattle.model.specs.StepLaws.{widen-becomes}
 use Rattle.model.specs.SortedLaws.{tally-keep-pair, any-keep-pair, length-is}
 use Rattle.model.specs.StepsLeft.{copiesLeft, oldEntries, stepsLeft}
@@ -98,8 +98,8 @@ pub begin-widens : (x y : Index) → x .job ≡ idle → step x ≡ next y → (
 begin-widens x y j h = go (rw h at (step-view x))
   where
     widens : {z : Index} → Beginning x (some z) → (sp : List ℕ) × (z ≡ widen x sp)
-    widens (inGroup k) = (x .spares, refl)
-    widens (newGroup k l) = (x .spares ++ topBit x ∷ [], refl)
+    widens (samePoint k) = (x .spares, refl)
+    widens (newPoint k l) = (x .spares ++ topBit x ∷ [], refl)
 
     go : {z : Index} → Stepping x (next z) → (sp : List ℕ) × (z ≡ widen x sp)
     go (began i k v) = widens v

@@ -16,7 +16,7 @@ use Rattle.lists.specs.RunLaws.{find-run}
 use Rattle.address.specs.Address.{point, made}
 use Rattle.address.specs.Role.{SparesOk}
 use Rattle.address.specs.BlockLaws.{point-pos}
-use Rattle.address.specs.SparesLaws.{point-next, spares-more, spares-group, top-pos}
+use Rattle.address.specs.SparesLaws.{point-next, spares-more, spares-new-point, top-pos}
 use Rattle.page.specs.declared.Pair.{Pair}
 use Rattle.page.specs.declared.Entry.{Entry}
 use Rattle.page.specs.Pair.{is}
@@ -27,7 +27,7 @@ use Rattle.model.specs.WellFormed.{EntryOk, ChainOk, uses, Laid}
 use Rattle.model.specs.ChainLaws.{bits-add, bits-page, bits-without}
 use Rattle.model.specs.ChainOkLaws.{addEntry-ok, addPage-ok, without-ok}
 use Rattle.model.specs.StandLaws.{chain-here, chain-there}
-use Rattle.model.specs.ViewLaws.{Putting, inPage, inNew, Beginning, inGroup, newGroup}
+use Rattle.model.specs.ViewLaws.{Putting, inPage, inNew, Beginning, samePoint, newPoint}
 
 -- ---- a chain set anew
 
@@ -205,12 +205,12 @@ widen-laid x sp l so le =
     up n r = (r .0, omega (arith, r .1))
 
 pub begin-laid : (x : Index) {y : Index} → Laid x → Beginning x (some y) → Laid y
-begin-laid x l (inGroup k) =
+begin-laid x l (samePoint k) =
     let q : point (suc (x .maxBucket)) ≡ point (x .maxBucket) = point-next (x .maxBucket) false k in
     widen-laid x (x .spares) l (rw q (l .spares)) (rw q (omega arith))
-begin-laid x l (newGroup k m) =
+begin-laid x l (newPoint k m) =
     widen-laid x (x .spares ++ topBit x ∷ []) l
-    (rw q (spares-group (x .spares) s (x .size) (l .spares) (point-pos (x .maxBucket)) m))
+    (rw q (spares-new-point (x .spares) s (x .size) (l .spares) (point-pos (x .maxBucket)) m))
     (rw q (omega (arith, last)))
   where
     s : ℕ

@@ -32,14 +32,14 @@ pub record NoPage (x : Index) (b : ℕ) : Type 0 where
   pub blocks : x .size ≤ made (x .spares) (point (x .maxBucket))
 
 -- Begin: the new bucket "needs a new group", and "2^(s+1) + spares[s] + 1" is above N
-pub record NoGroup (x : Index) : Type 0 where
+pub record NoPoint (x : Index) : Type 0 where
   pub needed : point (x .maxBucket) < point (suc (x .maxBucket))
   pub blocks : x .size < bucketsAt (suc (point (x .maxBucket))) + topBit x + 1
 
 -- A step, by phase: a begin with "slack below zero"; a copy that is left to make, "placed as by insert"; clearing
 -- never stops for room
 abbrev pub NoStep : Job → Index → Type 0
-NoStep idle x = (x .fill * suc (x .maxBucket) < count x) × NoGroup x
+NoStep idle x = (x .fill * suc (x .maxBucket) < count x) × NoPoint x
 NoStep copying x = (1 ≤ copiesLeft x) × NoPage x (newBucket x)
 NoStep clearing x = ⊥
 

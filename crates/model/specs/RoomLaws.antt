@@ -25,11 +25,11 @@ use Rattle.model.specs.Steps.{Step, stopped, toCopy, step}
 use Rattle.model.specs.Calls.{pairOk, Result, refused, insert}
 use Rattle.model.specs.StepsLeft.{copiesLeft}
 use Rattle.model.specs.WellFormed.{uses}
-use Rattle.model.specs.Room.{NoPage, NoGroup, NoStep}
+use Rattle.model.specs.Room.{NoPage, NoPoint, NoStep}
 use Rattle.model.specs.TallyLaws.{or-left, or-right, tally-upFrom}
 use Rattle.model.specs.LaidLaws.{TakenAs, nothing, again, fresh, take-view}
 use Rattle.model.specs.ViewLaws.{Putting, full, inPage, inNew, put-view, Inserting, already, noRoom, inserted}
-use Rattle.model.specs.ViewLaws.{insert-view, Beginning, noGroup, inGroup, newGroup, Stepping, resting, unbegun}
+use Rattle.model.specs.ViewLaws.{insert-view, Beginning, noPoint, samePoint, newPoint, Stepping, resting, unbegun}
 use Rattle.model.specs.ViewLaws.{began, uncopied, copied, copiedAll, cleared, clearedAll, step-view}
 
 -- ---- the chain
@@ -113,15 +113,15 @@ insert-noRoom x q ok nh = (λ h. to (rw h at (insert-view x q)), λ f. from f (i
 -- ---- a step
 
 module _ {x : Index} where
-  begin-none : Beginning x none → NoGroup x
-  begin-none (noGroup k l) =
+  begin-none : Beginning x none → NoPoint x
+  begin-none (noPoint k l) =
       record { needed = ltb-true (point (x .maxBucket)) (point (suc (x .maxBucket))) k; blocks = l }
 
-  noGroup-none : NoGroup x → {r : Option Index} → Beginning x r → r ≡ none
-  noGroup-none g (noGroup k l) = refl
-  noGroup-none g (inGroup k) =
+  noPoint-none : NoPoint x → {r : Option Index} → Beginning x r → r ≡ none
+  noPoint-none g (noPoint k l) = refl
+  noPoint-none g (samePoint k) =
       absurd (omega (arith, g .needed, ltb-false (point (x .maxBucket)) (point (suc (x .maxBucket))) k))
-  noGroup-none g (newGroup k l) = absurd (omega (arith, g .blocks))
+  noPoint-none g (newPoint k l) = absurd (omega (arith, g .blocks))
 
 wants : (x : Index) → wanted x ≡ true → x .fill * suc (x .maxBucket) < count x
 unfolding wanted
@@ -150,7 +150,7 @@ step-noRoom x = (λ h. to (rw h at (step-view x)), λ f. from (λ i e. subst (λ
     from : ((i : Job) → x .job ≡ i → NoStep i x) → {r : Step Index} → Stepping x r → r ≡ stopped Stop.NoRoom
     from f (resting j w) = absurd (omega (arith, f idle j .0, rests x w))
     from f (unbegun j w v) = refl
-    from f (began j w v) = let n = noGroup-none (f idle j .1) v in let z : _≡_ {A = ℕ} 0 1 = cc in absurd (omega arith)
+    from f (began j w v) = let n = noPoint-none (f idle j .1) v in let z : _≡_ {A = ℕ} 0 1 = cc in absurd (omega arith)
     from f (uncopied j e k v) = refl
     from f (copied j e k v) =
         let n = noPage-none (f copying j .1) v in let z : _≡_ {A = ℕ} 0 1 = cc in absurd (omega arith)

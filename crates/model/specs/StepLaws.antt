@@ -26,7 +26,7 @@ use Rattle.model.specs.ChainOkLaws.{found-ok}
 use Rattle.model.specs.StandLaws.{having, marked, number-here, number-there, number-same, cut-same, cut-there, cut-less}
 use Rattle.model.specs.HeldLaws.{old-new, old-range, new-range, stands-none, none-stands, stands-passed, found-stands, moves-yes, heldIn-held, held-is}
 use Rattle.model.specs.LaidLaws.{cut-laid, put-laid, job-laid, chain-wider, begin-laid}
-use Rattle.model.specs.ViewLaws.{movedEntry, Putting, put-as, Beginning, inGroup, newGroup, Stepping, began, copied, copiedAll, cleared, clearedAll, step-view}
+use Rattle.model.specs.ViewLaws.{movedEntry, Putting, put-as, Beginning, samePoint, newPoint, Stepping, began, copied, copiedAll, cleared, clearedAll, step-view}
 use Rattle.model.specs.BecomesLaws.{TurnedTo, unchanged, Becomes, becomes, placed-at, heldIn-at}
 use Rattle.model.specs.InsertLaws.{put-other}
 
@@ -52,8 +52,8 @@ widen-becomes x sp w j =
         (λ b. ap (λ (c : Chain). tally (having p marked) (entriesIn c)) (chain-wider (x .chains) b))
 
 begin-becomes : (x : Index) {y : Index} → WF x → x .job ≡ idle → Beginning x (some y) → Becomes unchanged x y
-begin-becomes x w j (inGroup k) = widen-becomes x (x .spares) w j
-begin-becomes x w j (newGroup k l) = widen-becomes x _ w j
+begin-becomes x w j (samePoint k) = widen-becomes x (x .spares) w j
+begin-becomes x w j (newPoint k l) = widen-becomes x _ w j
 
 -- ---- copying
 

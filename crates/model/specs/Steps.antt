@@ -37,8 +37,8 @@ widen x sp =
       chains = x .chains ++ noChain ∷ [];
     }
 
--- by whether the new bucket needs a new group, and whether there is room for it; "spares[s+1] = spares[s]"
-abbrev pub beginIn : (newGroup room : Bool) → Index → Option Index
+-- by whether the new bucket needs a new overflow point, and whether there is room for it; "spares[s+1] = spares[s]"
+abbrev pub beginIn : (newPoint room : Bool) → Index → Option Index
 beginIn false room x = some (widen x (x .spares))
 beginIn true true x = some (widen x (x .spares ++ topBit x ∷ []))
 beginIn true false x = none

@@ -107,10 +107,10 @@ remove-view x q = go (pairOk q) (held x q) refl refl
 -- ---- begin and step
 
 pub data Beginning (x : Index) : Option Index → Type 0 where
-  noGroup : ltb (point (x .maxBucket)) (point (suc (x .maxBucket))) ≡ true
+  noPoint : ltb (point (x .maxBucket)) (point (suc (x .maxBucket))) ≡ true
       → x .size < bucketsAt (suc (point (x .maxBucket))) + topBit x + 1 → Beginning x none
-  inGroup : ltb (point (x .maxBucket)) (point (suc (x .maxBucket))) ≡ false → Beginning x (some (widen x (x .spares)))
-  newGroup : ltb (point (x .maxBucket)) (point (suc (x .maxBucket))) ≡ true
+  samePoint : ltb (point (x .maxBucket)) (point (suc (x .maxBucket))) ≡ false → Beginning x (some (widen x (x .spares)))
+  newPoint : ltb (point (x .maxBucket)) (point (suc (x .maxBucket))) ≡ true
       → bucketsAt (suc (point (x .maxBucket))) + topBit x + 1 ≤ x .size
       → Beginning x (some (widen x (x .spares ++ topBit x ∷ [])))
 
@@ -120,9 +120,9 @@ begin-view x = go _ _ refl refl
   where
     go : (a b : Bool) → ltb (point (x .maxBucket)) (point (suc (x .maxBucket))) ≡ a
         → leb (bucketsAt (suc (point (x .maxBucket))) + topBit x + 1) (x .size) ≡ b → Beginning x (beginIn a b x)
-    go false b k l = inGroup k
-    go true true k l = newGroup k (leb-true _ (x .size) l)
-    go true false k l = noGroup k (leb-false _ (x .size) l)
+    go false b k l = samePoint k
+    go true true k l = newPoint k (leb-true _ (x .size) l)
+    go true false k l = noPoint k (leb-false _ (x .size) l)
 
 pub data Stepping (x : Index) : Step Index → Type 0 where
   resting : x .job ≡ idle → wanted x ≡ false → Stepping x (stopped Stop.Idle)

@@ -12,7 +12,7 @@ use Rattle.lists.specs.Lists.{upFrom, Each}
 use Rattle.lists.specs.Block.{blocks, block}
 use Rattle.endian.specs.Endian.{le16, le32, u16At, u32At}
 use Rattle.address.specs.Address.{bucketsAt, maskDigits, highMask, lowMask, bucketOf, digits, splitFrom}
-use Rattle.address.specs.Address.{point, groupOf, bucketBlock, bitBlock, made}
+use Rattle.address.specs.Address.{point, bucketPoint, bucketBlock, bitBlock, made}
 use Rattle.address.specs.Role.{roleOf}
 use Rattle.page.specs.Entries.{encodeEntry, encodePage, readEntry, entryAt, entriesFrom, entriesOf}
 use Rattle.store.specs.Store.{trailer, covered, sealed}
@@ -137,7 +137,7 @@ module _ (fresh : ℕ → List ℕ) (e : (n : ℕ) → length (fresh n) ≡ 512 
   -- cards C to K: E and F are the stores after those cards' calls, each with its index; G to J are what calls get
   calls : Each (λ (c : Card). c .gives ≡ c .said) (drop 3 (cards fresh))
   unfolding cards
-      bucketsAt maskDigits highMask lowMask bucketOf digits splitFrom point groupOf bucketBlock bitBlock made
+      bucketsAt maskDigits highMask lowMask bucketOf digits splitFrom point bucketPoint bucketBlock bitBlock made
       freeBit firstFree takePage put cut sources held matches count slack wanted begin step
       format insert remove lookup standing work runIndex
       metaOf padded mapFront roleOf encodeBlock image paged blank sealed covered trailer le16 le32 u16At u32At
@@ -181,5 +181,5 @@ module _ (fresh : ℕ → List ℕ) (e : (n : ℕ) → length (fresh n) ≡ 512 
       reply r = map pos (replyNumbers r)
 
 pub bench : Bench
-unfolding cards bucketsAt maskDigits highMask lowMask bucketOf groupOf bucketBlock bitBlock
+unfolding cards bucketsAt maskDigits highMask lowMask bucketOf bucketPoint bucketBlock bitBlock
 bench fresh e = (refl, (refl, (refl, calls fresh e)))

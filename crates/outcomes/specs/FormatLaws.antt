@@ -13,7 +13,7 @@ use Rattle.address.specs.Address.{
   lowMask,
   lastSplit,
   point,
-  groupOf,
+  bucketPoint,
   bucketBlock,
   bitBlock,
   made,
@@ -52,11 +52,11 @@ module _ (n fill : ℕ) where
 
   second-format : encodeBlock (format n fill) 2 ≡ formatBlock n fill 2
   unfolding encodeBlock image roleOf format formatBlock bucketImage flagsOf lastSplit point bucketsAt bucketBlock
-      groupOf encodePage le16
+      bucketPoint encodePage le16
   second-format = refl
 
   bitmap-format : encodeBlock (format n fill) 3 ≡ formatBlock n fill 3
-  unfolding encodeBlock image roleOf format formatBlock mapFront point bucketsAt bucketBlock groupOf bitBlock
+  unfolding encodeBlock image roleOf format formatBlock mapFront point bucketsAt bucketBlock bucketPoint bitBlock
   bitmap-format = refl
 
   -- the spares of a formatted index have their rule, so that the blocks past the bitmap are not made

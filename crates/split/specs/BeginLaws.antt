@@ -14,10 +14,10 @@ use lib.ListN.{length, getD, set, replicate, length-append, List·getD-append}
 use lib.Seq.{set-at, set-getD}
 use Rattle.lists.specs.Lists.{any, find, upFrom}
 use Rattle.lists.specs.ListsLaws.{tally-bind}
-use Rattle.address.specs.Address.{bucketsAt, splitFrom, highMask, lowMask, point, groupOf, bucketBlock, made}
+use Rattle.address.specs.Address.{bucketsAt, splitFrom, highMask, lowMask, point, bucketPoint, bucketBlock, made}
 use Rattle.address.specs.OverLaws.{buckets-grow, buckets-mono}
 use Rattle.address.specs.MaskLaws.{split-lt}
-use Rattle.address.specs.GroupLaws.{group-le}
+use Rattle.address.specs.PointLaws.{bucketPoint-le}
 use Rattle.address.specs.BlockLaws.{point-is, point-pos, bucket-apart}
 use Rattle.address.specs.SparesLaws.{point-next}
 use Rattle.model.specs.Index.{Index, noChain, topBit}
@@ -25,14 +25,14 @@ use Rattle.model.specs.Pages.{bitsOf, bitsUsed, freeBit, firstFree}
 use Rattle.model.specs.Held.{count}
 use Rattle.model.specs.Steps.{widen, begin}
 use Rattle.model.specs.WellFormed.{Laid}
-use Rattle.model.specs.ViewLaws.{Beginning, noGroup, inGroup, newGroup, begin-view}
+use Rattle.model.specs.ViewLaws.{Beginning, noPoint, samePoint, newPoint, begin-view}
 use Rattle.model.specs.TallyLaws.{any-more}
 use Rattle.model.specs.LaidLaws.{begin-laid}
 use Rattle.image.specs.declared.Meta.{Meta}
 use Rattle.image.specs.Layout.{padded, metaOf}
 use Rattle.image.specs.BoundLaws.{max-under}
 use Rattle.image.specs.EncodeLaws.{bucket-inside}
-use Rattle.frame.specs.BeginLaws.{Stays, stays-group, stays-more}
+use Rattle.frame.specs.BeginLaws.{Stays, stays-point, stays-more}
 use Rattle.chain.specs.FindLaws.{isSome}
 
 module _ (x : Index) (l : Laid x) where
@@ -70,13 +70,13 @@ module _ (x : Index) (l : Laid x) where
   begin-room = go (begin-view x)
     where
       go : {o : Option Index} → Beginning x o → isSome o ≡ leb (bucketsAt (point (suc m)) + topBit x + 1) (x .size)
-      go (noGroup k h) =
+      go (noPoint k h) =
           sym (lt-leb (bucketsAt (point (suc m)) + topBit x + 1) (x .size)
           (omega (arith, h, ap bucketsAt (point-next m true k))))
-      go (inGroup k) =
+      go (samePoint k) =
           sym (le-leb (bucketsAt (point (suc m)) + topBit x + 1) (x .size)
           (omega (arith, l .spares .room, ap bucketsAt (point-next m false k))))
-      go (newGroup k h) =
+      go (newPoint k h) =
           sym (le-leb (bucketsAt (point (suc m)) + topBit x + 1) (x .size)
           (omega (arith, h, ap bucketsAt (point-next m true k))))
 
@@ -87,8 +87,8 @@ module _ (x : Index) (l : Laid x) where
   unfolding padded bucketBlock
   padded-new =
       ap (λ (n : ℕ). suc m + n + 1)
-      (List·getD-append (x .spares) (replicate (16 - length (x .spares)) 0) 0 (pred (groupOf (suc m)))
-      (omega (arith, l .spares .points, group-le (suc m) (suc s) (omega (arith, max-under x l, buckets-grow s)))))
+      (List·getD-append (x .spares) (replicate (16 - length (x .spares)) 0) 0 (pred (bucketPoint (suc m)))
+      (omega (arith, l .spares .points, bucketPoint-le (suc m) (suc s) (omega (arith, max-under x l, buckets-grow s)))))
 
   pub padded-top : getD (padded (x .spares)) (point (x .maxBucket)) 0 ≡ topBit x
   unfolding padded
@@ -113,13 +113,13 @@ module _ (x : Index) (l : Laid x) where
     unfolding metaOf
     field-size = ap (λ (g : Meta). g .size) e
 
-  -- a new group begins with the last one's; within a group this is no change
+  -- a new overflow point begins with the last one's; at the same point this is no change
   spares-next : {y : Index} → Beginning x (some y)
       → set (padded (x .spares)) (point (suc (x .maxBucket))) (topBit x) ≡ padded (y .spares)
   unfolding padded
-  spares-next (inGroup k) =
+  spares-next (samePoint k) =
       ap₂ (set (padded (x .spares))) (point-next m false k) (sym padded-top) ∙ set-getD (padded (x .spares)) s 0
-  spares-next (newGroup k h) =
+  spares-next (newPoint k h) =
       let r : 16 - length (x .spares) ≡ suc (16 - length (x .spares ++ topBit x ∷ [])) =
       omega (arith, length-append (x .spares) (topBit x ∷ []), l .spares .points, point-low) in
       ap₂ (λ (n i : ℕ). set (x .spares ++ replicate n 0) i (topBit x)) r (point-next m true k)
@@ -130,12 +130,12 @@ module _ (x : Index) (l : Laid x) where
   -- ---- what a begin leaves
 
   stays : {y : Index} → Beginning x (some y) → Stays x (y .spares) (point (suc (x .maxBucket)))
-  stays (inGroup k) = stays-group x (point-next m false k) (begin-laid x l (inGroup k))
-  stays (newGroup k h) = stays-more x l (point-next m true k) (begin-laid x l (newGroup k h))
+  stays (samePoint k) = stays-point x (point-next m false k) (begin-laid x l (samePoint k))
+  stays (newPoint k h) = stays-more x l (point-next m true k) (begin-laid x l (newPoint k h))
 
   widens : {y : Index} → Beginning x (some y) → y ≡ widen x (y .spares)
-  widens (inGroup k) = refl
-  widens (newGroup k h) = refl
+  widens (samePoint k) = refl
+  widens (newPoint k h) = refl
 
   first-wider : (sq : List ℕ) → getD sq (point (suc (x .maxBucket))) 0 ≡ topBit x → firstFree (widen x sq)
       ≡ firstFree x

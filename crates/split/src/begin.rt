@@ -34,7 +34,7 @@ ghost use Rattle.split.specs.Begin.{Begun};
 // A bucket page's flags: bucket, being split.
 const SPLIT: u16 = 2 + 32;
 
-// Whether the new bucket's group is made or has room to be: where it is made, the made blocks are at most N.
+// Whether the new bucket's overflow point is made or has room to be: where it is made, the made blocks are at most N.
 fn has_room(m: Meta) -> bool
     requires { ⌜ ((x : Index) × (Laid x) × (m ≡ metaOf x)) ⌝ }
     ensures { λ r. ⌜ ((x : Index) → Laid x → m ≡ metaOf x → r ≡ isSome (begin x)) ⌝ }
@@ -44,7 +44,7 @@ fn has_room(m: Meta) -> bool
     buckets_at(point_of(m.max + 1)) + top + 1 <= m.size
 }
 
-// The fields of the meta block after the begin. A new group begins with the last one's spares.
+// The fields of the meta block after the begin. A new overflow point begins with the last one's spares.
 fn begin_fields(m: Meta) -> Meta
     requires { ⌜ ((x : Index) × (Laid x) × (m ≡ metaOf x)) ⌝ }
     ensures { λ r. ⌜ ((x y : Index) → Laid x → m ≡ metaOf x → begin x ≡ some y → count y ≡ count x → r ≡ metaOf y) ⌝ }

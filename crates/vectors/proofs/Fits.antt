@@ -6,7 +6,7 @@ use Prim.Native.Nat.{ℕ, zero, suc, pred, _+_, _^_, _≤_, _<_}
 use native.Mathlib.Omega.{arith}
 use lib.Dec.{ltb}
 use lib.ListN.{getD, set, replicate}
-use Rattle.address.specs.Address.{bucketsAt, groupOf, bucketBlock, bitGroup, bitBlock}
+use Rattle.address.specs.Address.{bucketsAt, bucketPoint, bucketBlock, bitPoint, bitBlock}
 use Rattle.address.specs.OverLaws.{buckets-mono}
 use Rattle.vectors.specs.Small.{Small}
 
@@ -29,19 +29,19 @@ buckets-last = refl
 pub bucket-fits : (sp : List ℕ) (b : ℕ) → Small sp → b < 65536 → bucketBlock sp b < 2 ^ 32
 unfolding bucketBlock
 bucket-fits sp zero h l = omega arith
-bucket-fits sp (suc b) h l = omega (arith, h (pred (groupOf (suc b))))
+bucket-fits sp (suc b) h l = omega (arith, h (pred (bucketPoint (suc b))))
 
-group-upto : (sp : List ℕ) (n i k : ℕ) → bitGroup sp n i k ≤ i + k
-group-upto sp n i zero = omega arith
-group-upto sp n i (suc k) = go (ltb n (getD sp i 0)) (group-upto sp n (suc i) k)
+bitPoint-upto : (sp : List ℕ) (n i k : ℕ) → bitPoint sp n i k ≤ i + k
+bitPoint-upto sp n i zero = omega arith
+bitPoint-upto sp n i (suc k) = go (ltb n (getD sp i 0)) (bitPoint-upto sp n (suc i) k)
   where
-    go : (t : Bool) → bitGroup sp n (suc i) k ≤ suc i + k
-        → _≤_ (elim t [ true ↦ i | false ↦ bitGroup sp n (suc i) k ]) (i + suc k)
+    go : (t : Bool) → bitPoint sp n (suc i) k ≤ suc i + k
+        → _≤_ (elim t [ true ↦ i | false ↦ bitPoint sp n (suc i) k ]) (i + suc k)
     go true h = omega arith
     go false h = omega arith
 
 pub bit-fits : (sp : List ℕ) (s n : ℕ) → s ≤ 15 → n < 65536 → bitBlock sp s n < 2 ^ 32
 unfolding bitBlock
 bit-fits sp s n h l =
-    let g : bitGroup sp n 1 (pred s) ≤ 16 = omega (arith, group-upto sp n 1 (pred s)) in
-    omega (arith, buckets-last, buckets-mono (bitGroup sp n 1 (pred s)) 16 g)
+    let g : bitPoint sp n 1 (pred s) ≤ 16 = omega (arith, bitPoint-upto sp n 1 (pred s)) in
+    omega (arith, buckets-last, buckets-mono (bitPoint sp n 1 (pred s)) 16 g)

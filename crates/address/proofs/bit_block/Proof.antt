@@ -6,18 +6,18 @@ use Rattle.address.specs.Address.{bucketsAt, bitBlock}
 use Rattle.address.proofs.bit_block.Statement.{statement}
 use Rattle.address.proofs.bit_block.Tie as tie
 
-bit-group-requires : tie.Need-bit-group-requires
-bit-group-requires c κs = search needs
+bit-point-requires : tie.Need-bit-point-requires
+bit-point-requires c κs = search needs
 
 buckets-at-requires : tie.Need-buckets-at-requires
-buckets-at-requires c κs = omega (arith, c .bit-group .ensures .1)
+buckets-at-requires c κs = omega (arith, c .bit-point .ensures .1)
 
 block-is : (c : tie.After-buckets-at) → c .buckets-at .result + c .before .before .args .bit + 1
     ≡ bitBlock (c .before .before .args .spares) (c .before .before .args .s) (c .before .before .args .bit)
 unfolding bitBlock
 block-is c =
     ap (λ (x : ℕ). x + c .before .before .args .bit + 1)
-    (c .buckets-at .ensures ∙ ap bucketsAt (c .before .bit-group .ensures .0))
+    (c .buckets-at .ensures ∙ ap bucketsAt (c .before .bit-point .ensures .0))
 
 add-result : tie.Need-add-result
 add-result c = omega (arith, block-is c, c .before .before .pre .1)
@@ -31,4 +31,4 @@ returns c = block-is c
 pub bit-block-spec : {M : Type 1} → statement M
 bit-block-spec =
     tie.close
-    (tie.spec bit-group-requires buckets-at-requires add-result add-result-2 returns)
+    (tie.spec bit-point-requires buckets-at-requires add-result add-result-2 returns)

@@ -4,8 +4,8 @@ use Prim.Native.Nat.{ℕ, zero, suc, pred, _+_, _-_, _≤_}
 use native.Mathlib.Omega.{arith}
 use borrow.Author.Needs.{needs}
 use lib.ListN.{getD}
-use Rattle.address.specs.Address.{groupOf, bucketBlock}
-use Rattle.address.specs.GroupLaws.{group-pos, group-le}
+use Rattle.address.specs.Address.{bucketPoint, bucketBlock}
+use Rattle.address.specs.PointLaws.{bucketPoint-pos, bucketPoint-le}
 use Rattle.address.proofs.bucket_block.Statement.{statement}
 use Rattle.address.proofs.bucket_block.Tie as tie
 
@@ -14,21 +14,21 @@ unfolding bucketBlock
 first sp zero e = refl
 first sp (suc b) e = absurd (omega arith)
 
-later : (sp : List ℕ) (b g : ℕ) → 1 ≤ b → g ≡ groupOf b → b + getD sp (g - 1) 0 + 1 ≡ bucketBlock sp b
+later : (sp : List ℕ) (b g : ℕ) → 1 ≤ b → g ≡ bucketPoint b → b + getD sp (g - 1) 0 + 1 ≡ bucketBlock sp b
 unfolding bucketBlock
 later sp zero g h e = absurd (omega arith)
 later sp (suc b) g h e =
-    let q : g - 1 ≡ pred (groupOf (suc b)) = omega arith in
+    let q : g - 1 ≡ pred (bucketPoint (suc b)) = omega arith in
     ap (λ (i : ℕ). suc b + getD sp i 0 + 1) q
 
 returns : tie.Need-returns
 returns c = first (c .before .args .t1) (c .before .args .bucket) (c .if1 .taken)
 
-group-of-requires : tie.Need-group-of-requires
-group-of-requires c κs = search needs
+point-of-bucket-requires : tie.Need-point-of-bucket-requires
+point-of-bucket-requires c κs = search needs
 
 sub-before : tie.Need-sub-before
-sub-before c = omega (arith, c .group-of .ensures, group-pos (c .before .before .args .bucket) (omega arith))
+sub-before c = omega (arith, c .point-of-bucket .ensures, bucketPoint-pos (c .before .before .args .bucket) (omega arith))
 
 cast-before : tie.Need-cast-before
 cast-before c = search needs
@@ -38,14 +38,14 @@ mul-result c = search needs
 
 array-read-result : tie.Need-array-read-result
 array-read-result c =
-    omega (arith, c .group-of .ensures, group-le (c .before .before .args .bucket) 16 (c .before .before .pre .0))
+    omega (arith, c .point-of-bucket .ensures, bucketPoint-le (c .before .before .args .bucket) 16 (c .before .before .pre .0))
 
-block-is : (c : tie.After-group-of)
-    → c .before .before .args .bucket + getD (c .before .before .args .t1) (c .group-of .result - 1) 0 + 1
+block-is : (c : tie.After-point-of-bucket)
+    → c .before .before .args .bucket + getD (c .before .before .args .t1) (c .point-of-bucket .result - 1) 0 + 1
     ≡ bucketBlock (c .before .before .args .t1) (c .before .before .args .bucket)
 block-is c =
     let a = c .before .before .args in
-    later (a .t1) (a .bucket) (c .group-of .result) (omega arith) (c .group-of .ensures)
+    later (a .t1) (a .bucket) (c .point-of-bucket .result) (omega arith) (c .point-of-bucket .ensures)
 
 add-result : tie.Need-add-result
 add-result c = record { fits = omega (arith, block-is c, c .before .before .pre .1) }
@@ -61,7 +61,7 @@ bucket-block-spec =
     tie.close
     (tie.spec
     returns
-    group-of-requires
+    point-of-bucket-requires
     sub-before
     cast-before
     mul-result

@@ -10,7 +10,7 @@ use Rattle.address.proofs.Role.{sum-below, role-unmade, before-le, buck
 use Rattle.address.proofs.role_of.Statement.{statement}
 use Rattle.address.proofs.role_of.Tie as tie
 
--- the block is past the groups before group i
+-- the block is past the points before point i
 abbrev Inv-loop : tie.InvT-loop
 Inv-loop s block spares place i₀ i =
     (1 ≤ i) × (i ≤ s + 1) × (1 ≤ i - 1 → bucketsAt (i - 1) + getD spares (i - 1) 0 ≤ place)
@@ -49,7 +49,7 @@ array-read-before c = omega arith
 add-if2 : tie.Need-add-if2 Inv-loop μ-loop
 add-if2 c =
     let s = c .before .before .before .before in
-    let i = c .before .before .loop .group in
+    let i = c .before .before .loop .point in
     omega (
       arith,
       c .buckets-at .ensures,
@@ -60,7 +60,7 @@ sub-t17 : tie.Need-sub-t17 Inv-loop μ-loop
 sub-t17 c =
     let s = c .before .before .before .before .before in
     let l = c .before .before .before .loop in
-    let h = before-le (s .args .t1) (s .args .s) _ (s .pre .1) (l .group - 1) (s .args .block) in
+    let h = before-le (s .args .t1) (s .args .s) _ (s .pre .1) (l .point - 1) (s .args .block) in
     omega (arith, h (omega arith) (omega arith) (l .inv .2))
 
 returns-2 : tie.Need-returns-2 Inv-loop μ-loop
@@ -68,9 +68,9 @@ returns-2 c =
     let s = c .before .before .before .before .before in
     let l = c .before .before .before .loop in
     sym (ap roleCase
-    (bucket-in (s .args .t1) (s .args .s) _ (s .pre .1) (l .group - 1) (s .args .block) (omega arith) (omega arith)
+    (bucket-in (s .args .t1) (s .args .s) _ (s .pre .1) (l .point - 1) (s .args .block) (omega arith) (omega arith)
     (l .inv .2)
-    (omega (arith, c .if2 .taken, c .before .buckets-at .ensures, ap bucketsAt (after (l .group) (l .inv .0))))))
+    (omega (arith, c .if2 .taken, c .before .buckets-at .ensures, ap bucketsAt (after (l .point) (l .inv .0))))))
 
 cast-if3 : tie.Need-cast-if3 Inv-loop μ-loop
 cast-if3 c = omega arith
@@ -84,7 +84,7 @@ array-read-if3 c = omega arith
 add-if3 : tie.Need-add-if3 Inv-loop μ-loop
 add-if3 c =
     let s = c .before .before .before .before .before in
-    let i = c .before .before .before .loop .group in
+    let i = c .before .before .before .loop .point in
     omega (
       arith,
       c .before .buckets-at .ensures,
@@ -98,24 +98,24 @@ returns-3 : tie.Need-returns-3 Inv-loop μ-loop
 returns-3 c =
     let s = c .before .before .before .before .before .before in
     let l = c .before .before .before .before .loop in
-    let e : l .group ≡ suc (l .group - 1) = after (l .group) (l .inv .0) in
-    let b : c .before .before .buckets-at .result ≡ bucketsAt (suc (l .group - 1)) =
+    let e : l .point ≡ suc (l .point - 1) = after (l .point) (l .inv .0) in
+    let b : c .before .before .buckets-at .result ≡ bucketsAt (suc (l .point - 1)) =
     c .before .before .buckets-at .ensures ∙ ap bucketsAt e in
     ap (λ (x : ℕ). roleCase (bitPage (s .args .block - 1 - x))) b
     ∙ sym (ap roleCase
-    (bit-in (s .args .t1) (s .args .s) _ (s .pre .1) (l .group - 1) (s .args .block) (omega arith) (omega arith)
+    (bit-in (s .args .t1) (s .args .s) _ (s .pre .1) (l .point - 1) (s .args .block) (omega arith) (omega arith)
     (omega (arith, c .before .if2 .left))
     (omega (arith, c .if3 .taken, ap (λ (x : ℕ). getD (s .args .t1) x 0) e))))
 
-add-group : tie.Need-add-group Inv-loop μ-loop
-add-group c = omega arith
+add-point : tie.Need-add-point Inv-loop μ-loop
+add-point c = omega arith
 
 loop-less : tie.Need-loop-less Inv-loop μ-loop
 loop-less c = omega arith
 
 loop-again : tie.Need-loop-again Inv-loop μ-loop
 loop-again c =
-    let i = c .before .before .before .before .loop .group in
+    let i = c .before .before .before .before .loop .point in
     let e : i + 1 - 1 ≡ i = omega arith in
     (omega arith, omega arith, λ h. rw e (omega (arith, c .if3 .left, c .before .before .buckets-at .ensures)))
 
@@ -123,7 +123,7 @@ returns-4 : tie.Need-returns-4 Inv-loop μ-loop
 returns-4 c =
     let s = c .before .before .before in
     let l = c .before .loop in
-    let e : l .group - 1 ≡ s .args .s = omega (arith, c .loop-test .left) in
+    let e : l .point - 1 ≡ s .args .s = omega (arith, c .loop-test .left) in
     sym (ap roleCase
     (role-unmade (s .args .t1) (s .args .s) _ (s .pre .1) (s .args .block) (omega arith)
     (rw (← e) (l .inv .2 (omega (arith, spares-point _ (s .args .s) _ (s .pre .1)))))))
@@ -151,7 +151,7 @@ role-of-spec =
     add-if3
     sub-t20
     returns-3
-    add-group
+    add-point
     loop-less
     loop-again
     returns-4)

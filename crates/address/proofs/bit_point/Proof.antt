@@ -5,13 +5,13 @@ use native.Mathlib.Numerals.{add-one}
 use native.Mathlib.Omega.{arith}
 use borrow.Author.Tests.{lt-ltb, le-ltb}
 use lib.ListN.{getD}
-use Rattle.address.specs.Address.{bitGroup}
-use Rattle.address.proofs.bit_group.Statement.{statement}
-use Rattle.address.proofs.bit_group.Tie as tie
+use Rattle.address.specs.Address.{bitPoint}
+use Rattle.address.proofs.bit_point.Statement.{statement}
+use Rattle.address.proofs.bit_point.Tie as tie
 
 -- what is left answers what was asked
 abbrev Inv-loop : tie.InvT-loop
-Inv-loop s bit spares i₀ i = (i ≤ 16) × (bitGroup spares bit 1 (pred s) ≡ bitGroup spares bit i (s - i))
+Inv-loop s bit spares i₀ i = (i ≤ 16) × (bitPoint spares bit 1 (pred s) ≡ bitPoint spares bit i (s - i))
 
 abbrev μ-loop : tie.MeasureT-loop
 μ-loop s bit spares i₀ i = s - i
@@ -20,21 +20,21 @@ module _ (sp : List ℕ) (s n i : ℕ) where
   more : i < s → s - i ≡ suc (s - (i + 1))
   more h = omega arith
 
-  found : i < s → n < getD sp i 0 → bitGroup sp n i (s - i) ≡ i
-  found h l = ap (bitGroup sp n i) (more h) ∙ rw (lt-ltb n (getD sp i 0) l, bitGroup)
+  found : i < s → n < getD sp i 0 → bitPoint sp n i (s - i) ≡ i
+  found h l = ap (bitPoint sp n i) (more h) ∙ rw (lt-ltb n (getD sp i 0) l, bitPoint)
 
-  passed : i < s → getD sp i 0 ≤ n → bitGroup sp n i (s - i) ≡ bitGroup sp n (i + 1) (s - (i + 1))
+  passed : i < s → getD sp i 0 ≤ n → bitPoint sp n i (s - i) ≡ bitPoint sp n (i + 1) (s - (i + 1))
   passed h l =
-      ap (bitGroup sp n i) (more h) ∙ rw (le-ltb n (getD sp i 0) l, bitGroup)
-      (ap (λ (j : ℕ). bitGroup sp n j (s - (i + 1))) (sym (add-one i)))
+      ap (bitPoint sp n i) (more h) ∙ rw (le-ltb n (getD sp i 0) l, bitPoint)
+      (ap (λ (j : ℕ). bitPoint sp n j (s - (i + 1))) (sym (add-one i)))
 
-  ended : s ≤ i → bitGroup sp n i (s - i) ≡ i
-  ended h = let e : s - i ≡ 0 = omega arith in ap (bitGroup sp n i) e
+  ended : s ≤ i → bitPoint sp n i (s - i) ≡ i
+  ended h = let e : s - i ≡ 0 = omega arith in ap (bitPoint sp n i) e
 
 loop-holds : tie.Need-loop-holds Inv-loop μ-loop
 loop-holds c =
     let e : pred (c .args .s) ≡ c .args .s - 1 = omega arith in
-    (omega arith, ap (bitGroup (c .args .t1) (c .args .bit) 1) e)
+    (omega arith, ap (bitPoint (c .args .t1) (c .args .bit) 1) e)
 
 cast-if1 : tie.Need-cast-if1 Inv-loop μ-loop
 cast-if1 c = omega arith
@@ -66,8 +66,8 @@ returns-2 c =
     let l = c .before .loop in
     (sym (l .inv .1 ∙ ended _ _ _ (l .i) (c .loop-test .left)), l .inv .0)
 
-pub bit-group-spec : {M : Type 1} → statement M
-bit-group-spec =
+pub bit-point-spec : {M : Type 1} → statement M
+bit-point-spec =
     tie.close
     (tie.spec
     Inv-loop
