@@ -1,4 +1,4 @@
--- A page made anew.
+-- A block made unused, and a page made anew.
 use mathlib.Core.Path.{_≡_, ap, _∙_}
 use mathlib.Core.List.{List, [], _++_, append-assoc}
 use Prim.Native.Nat.{ℕ, _+_}
@@ -9,6 +9,10 @@ use Rattle.lists.specs.ZeroLaws.{zeros-front}
 use Rattle.endian.specs.Endian.{le16}
 use Rattle.page.specs.Entries.{encodePage}
 use Rattle.page.specs.PageLaws.{length-encodePage}
+
+-- a block whose bytes before the check are zero
+pub clear-bytes : (l : List ℕ) → length l ≡ 512 → sets l 0 (replicate 508 0) ≡ replicate 508 0 ++ drop 508 l
+clear-bytes l h = zeros-front l 508 (omega arith)
 
 -- sixteen bytes after 492 zeros
 pub empty-page : (l t : List ℕ) → length l ≡ 512 → length t ≡ 16

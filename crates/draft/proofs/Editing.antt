@@ -23,7 +23,7 @@ module _ {s : List ℕ} {c : Change} {images : List ℕ} {k : ℕ} {r : Opened} 
   at = r .at
 
   -- the image as it is lent, and the images after it is given back as b
-  abbrev lent : List ℕ
+  abbrev pub lent : List ℕ
   lent = take (512 * r .at + 512 - 512 * r .at) (drop (512 * r .at) images′)
 
   abbrev given : List ℕ → List ℕ

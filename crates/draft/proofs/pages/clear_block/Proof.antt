@@ -4,8 +4,8 @@ use Prim.Native.Nat.{ℕ}
 use native.Mathlib.Omega.{arith}
 use borrow.Author.Needs.{needs}
 use lib.ListN.{drop, replicate, length-append, length-drop, length-replicate}
-use Rattle.lists.specs.ZeroLaws.{zeros-front}
-use Rattle.draft.proofs.Editing.{image-inside, length-lent, edit-part}
+use Rattle.draft.proofs.Clearing.{clear-bytes}
+use Rattle.draft.proofs.Editing.{lent, image-inside, length-lent, edit-part}
 use Rattle.draft.proofs.pages.clear_block.Statement.{statement}
 use Rattle.draft.proofs.pages.clear_block.Tie as tie
 
@@ -48,7 +48,7 @@ returns c =
     (λ b e.
     length-append (replicate 508 0) (drop 508 b)
     ∙ omega (arith, length-replicate {A = ℕ} 508 0, length-drop 508 b))
-    _ (p .ensures ∙ zeros-front _ 508 (omega (arith, length-lent (o .ensures) (s .pre .1 .draft))))
+    _ (p .ensures ∙ clear-bytes (lent (o .ensures)) (length-lent (o .ensures) (s .pre .1 .draft)))
 
 pub clear-block-spec : {M : Type 1} → statement M
 clear-block-spec =
