@@ -1,88 +1,21 @@
 -- The store after a draft is finished: the draft with every check written anew, and an index's bytes where its blocks
 -- are the index's.
-use mathlib.Core.Path.{_≡_, refl, sym, ap, ap₂, _∙_}
-use mathlib.Core.Bool.{Bool, true, false, cond}
-use mathlib.Core.List.{List, _++_}
-use Prim.Native.Nat.{ℕ, zero, suc, _+_, _*_, _/_, _≤_, _<_}
+use mathlib.Core.Path.{_≡_, sym, ap, _∙_}
+use mathlib.Core.List.{List}
+use Prim.Native.Nat.{ℕ, _*_, _/_, _≤_, _<_}
 use native.Mathlib.Omega.{arith}
-use borrow.Author.Tests.{ltb-true, lt-ltb}
-use lib.Dec.{ltb}
-use lib.ListN.{length, getD, replicate, length-replicate}
+use lib.ListN.{length, getD}
 use Rattle.lists.specs.Lists.{bind, upFrom}
-use Rattle.lists.specs.Bytes.{Bytes}
 use Rattle.lists.specs.Block.{blocks, block}
-use Rattle.lists.specs.BlockLaws.{length-block, length-bind, block-bind}
 use Rattle.store.specs.declared.Change.{Change}
-use Rattle.store.specs.Store.{sealed, checked, seals, commits}
-use Rattle.store.specs.CheckLaws.{length-sealed, block-checked}
-use Rattle.store.specs.ChangeLaws.{length-seals, block-seals, commits-ext, commits-zero}
+use Rattle.store.specs.Store.{sealed, seals}
+use Rattle.store.specs.ChangeLaws.{length-seals, block-seals, commits-ext}
+use Rattle.store.specs.Finish.{finished, resealed, Sealed}
+use Rattle.store.specs.FinishLaws.{bind-run, length-resealed, block-resealed}
 use Rattle.model.specs.Index.{Index}
 use Rattle.image.specs.Layout.{encodeBlock, encode}
 use Rattle.draft.specs.Draft.{Draft}
 use Rattle.draft.specs.DraftLaws.{length-draft, block-image, block-rest}
-use Rattle.draft.specs.Finish.{finished, resealed, Sealed}
-
--- ---- n images, one after the other
-
--- lists that agree on a run of numbers
-pub bind-run : (f g : ℕ → List ℕ) (i n : ℕ) → ((k : ℕ) → i ≤ k → k < i + n → f k ≡ g k)
-    → bind (upFrom i n) f ≡ bind (upFrom i n) g
-bind-run f g i zero h = refl
-bind-run f g i (suc n) h =
-    ap₂ (λ (x y : List ℕ). x ++ y) (h i (omega arith) (omega arith))
-    (bind-run f g (suc i) n (λ k l u. h k (omega arith) (omega arith)))
-
-module _ (f : ℕ → List ℕ) (n : ℕ) (whole : (k : ℕ) → k < n → length (f k) ≡ 512) where
-  -- f below n, and 512 zeros from there on
-  filled : ℕ → List ℕ
-  filled k = cond (ltb k n) (f k) (replicate 512 0)
-
-  length-filled : (k : ℕ) → length (filled k) ≡ 512
-  unfolding filled
-  length-filled k = go (ltb k n) refl
-    where
-      go : (t : Bool) → ltb k n ≡ t → length (cond t (f k) (replicate 512 0)) ≡ 512
-      go true e = whole k (ltb-true k n e)
-      go false e = length-replicate {A = ℕ} 512 0
-
-  is-filled : (k : ℕ) → k < n → f k ≡ filled k
-  unfolding filled
-  is-filled k h = rw (lt-ltb k n h)
-
-  as-filled : bind (upFrom 0 n) f ≡ bind (upFrom 0 n) filled
-  as-filled = bind-run f filled 0 n (λ k l h. is-filled k (omega arith))
-
-  pub length-images : length (bind (upFrom 0 n) f) ≡ 512 * n
-  length-images = ap length as-filled ∙ length-bind filled length-filled 0 n
-
-  pub block-images : (k : ℕ) → k < n → block (bind (upFrom 0 n) f) k ≡ f k
-  block-images k h =
-      let z : 0 + k ≡ k = omega arith in
-      ap (λ (x : List ℕ). block x k) as-filled
-      ∙ block-bind filled length-filled 0 n k h
-      ∙ ap filled z
-      ∙ sym (is-filled k h)
-
--- ---- the store with every check written anew
-
-module _ (d : List ℕ) (whole : length d ≡ 512 * blocks d) where
-  full : (k : ℕ) → k < blocks d → length (sealed (block d k)) ≡ 512
-  full k h = length-sealed (block d k) (omega (arith, length-block d k (omega arith)))
-
-  pub length-resealed : length (resealed d) ≡ 512 * blocks d
-  unfolding resealed
-  length-resealed = length-images (λ k. sealed (block d k)) (blocks d) full
-
-  pub block-resealed : (k : ℕ) → k < blocks d → block (resealed d) k ≡ sealed (block d k)
-  unfolding resealed
-  block-resealed k h = block-images (λ k. sealed (block d k)) (blocks d) full k h
-
--- ---- a draft is finished
-
-pub finished-none : (s : List ℕ) (c : Change) (images : List ℕ) → c .count ≡ 0 → finished s c images ≡ s
-unfolding finished
-finished-none s c images e =
-    ap (commits s (c .numbers) (seals images (c .count))) e ∙ commits-zero s (c .numbers) (seals images (c .count))
 
 pub finished-draft : {s : List ℕ} {c : Change} {images d : List ℕ} → Draft s c images d → Sealed s
     → finished s c images ≡ resealed d
@@ -104,13 +37,6 @@ finished-draft {s} {c} {images} {d} g sound =
     block-resealed d whole k (omega arith)
     ∙ ap sealed (block-rest g k h (λ w. free (w .0) (w .1) (w .2)))
     ∙ sound k h))
-
--- ---- what it is over
-
--- a store of bytes whose checks are right
-pub sealed-checked : (s : List ℕ) → Bytes s → length s ≡ 512 * blocks s
-    → ((k : ℕ) → k < blocks s → checked s k ≡ true) → Sealed s
-sealed-checked s bytes whole h k l = sym (block-checked s k bytes (omega arith) (h k l))
 
 -- a draft whose blocks are an index's, but for the checks
 pub resealed-encode : (d : List ℕ) (y : Index) → blocks d ≡ y .size

@@ -6,7 +6,6 @@ pub mod OpenLaws
 pub mod Bits
 pub mod BitLaws
 pub mod ShapeLaws
-pub mod Finish
 pub mod FinishLaws
 pub mod Trim
 pub mod TrimLaws

@@ -17,10 +17,11 @@ use Rattle.store.specs.declared.Change.{Change}
 use Rattle.store.specs.Store.{covered, sealed}
 use Rattle.store.specs.CheckLaws.{sealed-cong}
 use Rattle.store.specs.ChangeLaws.{find-number}
+use Rattle.store.specs.Finish.{finished, resealed, Sealed}
+use Rattle.store.specs.FinishLaws.{bind-run, length-images, block-images}
 use Rattle.draft.specs.Draft.{Listed}
 use Rattle.draft.specs.DraftLaws.{block-rest}
-use Rattle.draft.specs.Finish.{finished, resealed, Sealed}
-use Rattle.draft.specs.FinishLaws.{bind-run, length-images, block-images, finished-draft}
+use Rattle.draft.specs.FinishLaws.{finished-draft}
 use Rattle.draft.specs.Trim.{alike, trimmedBlock, trimmed, Trimmed}
 
 -- ---- alike

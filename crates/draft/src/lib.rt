@@ -1,7 +1,6 @@
 // A change of some blocks that is being built: planning reads the store and edits copies of the blocks that change.
 pub mod open; // open.rt: a block's copy, at its place in the change
 pub mod trim; // trim.rt: blocks that are not altered
-pub mod finish; // finish.rt: checks and images written
 pub mod pages; // pages.rt: pages and unused blocks
 pub mod edit; // edit.rt: links, flags, bits and fields of a block
 

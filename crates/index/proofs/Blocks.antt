@@ -10,8 +10,9 @@ use Rattle.lists.specs.Lists.{bind, upFrom}
 use Rattle.lists.specs.Block.{block, setBlock}
 use Rattle.lists.specs.BlockLaws.{length-setBlock, block-same, block-other, blocks-ext, length-bind, block-bind}
 use Rattle.endian.specs.Endian.{le16, le32}
-use Rattle.store.specs.Store.{sealed, seals, stored, commits, Fits}
+use Rattle.store.specs.Store.{sealed, copies, seals, commits, Fits}
 use Rattle.store.specs.ChangeLaws.{block-seals}
+use Rattle.store.specs.Finish.{finished}
 use Rattle.image.specs.Layout.{noLink}
 use Rattle.outcomes.specs.Format.{formatMeta, formatBlock}
 use Rattle.image.specs.PagedLaws.{length-paged, length-blank}
@@ -28,15 +29,15 @@ fits-one s numbers h =
     inside (suc j) l = absurd (omega arith)
 
 -- its image sealed and stored
-pub commits-one : (s numbers zeros body images : List ℕ) → length zeros ≡ 4096 → length body ≡ 512
-    → images ≡ seals (setBlock zeros 0 body) 1
-    → commits s numbers images 1 ≡ setBlock s (getD numbers 0 0) (sealed body)
-unfolding commits stored
-commits-one s numbers zeros body images lz lb e =
+pub finished-one : (s numbers zeros body images : List ℕ) → length zeros ≡ 4096 → length body ≡ 512
+    → images ≡ setBlock zeros 0 body
+    → finished s (record { count = 1; numbers = numbers }) images ≡ setBlock s (getD numbers 0 0) (sealed body)
+unfolding finished commits copies
+finished-one s numbers zeros body images lz lb e =
     let fits : 512 * 0 + 512 ≤ length zeros = omega arith in
     let l : length (setBlock zeros 0 body) ≡ length zeros = length-setBlock zeros 0 body fits lb in
     ap (setBlock s (getD numbers 0 0))
-    (ap (λ (x : List ℕ). block x 0) e
+    (ap (λ (x : List ℕ). block (seals x 1) 0) e
     ∙ block-seals (setBlock zeros 0 body) 1 (omega arith) 0 (omega arith)
     ∙ ap sealed (block-same zeros 0 body fits lb))
 

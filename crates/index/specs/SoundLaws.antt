@@ -7,6 +7,8 @@ use native.Mathlib.Omega.{arith}
 use lib.ListN.{length}
 use Rattle.store.specs.declared.Change.{Change}
 use Rattle.store.specs.Store.{Fits}
+use Rattle.store.specs.Finish.{finished}
+use Rattle.store.specs.FinishLaws.{finished-none}
 use Rattle.model.specs.declared.Answer.{Answer}
 use Rattle.model.specs.declared.Stop.{Stop}
 use Rattle.model.specs.declared.WorkAnswer.{WorkAnswer}
@@ -19,8 +21,6 @@ use Rattle.model.specs.MachineLaws.{never}
 use Rattle.image.specs.Layout.{encode}
 use Rattle.image.specs.Decode.{decode}
 use Rattle.outcomes.specs.Outcomes.{changed, stepOn, stepOutcome}
-use Rattle.draft.specs.Finish.{finished}
-use Rattle.draft.specs.FinishLaws.{finished-none}
 use Rattle.plan.specs.declared.Advance.{Advance}
 use Rattle.plan.specs.Plan.{Settles, accepted, declined, Advances, advanced, halted}
 use Rattle.plan.specs.PlanLaws.{fits-none}

@@ -6,10 +6,9 @@ use meta::put_meta;
 use model::Answer;
 use model::Refusal;
 use store::Change;
-use store::commit;
+use store::finish;
 use store::put_block;
 use store::put_trailer;
-use store::seal_change;
 use verify::check_length;
 ghost use mathlib.Core.Path.{_≡_};
 ghost use mathlib.Core.List.{_++_};
@@ -102,8 +101,7 @@ fn format_block(store: &mut [u8], k: u32, size: u32, fill: u16)
     let body = build_body(k, size, fill);
     let mut images = [0u8; 4096];
     put_block(&mut images, 0, &body);
-    seal_change(change, &mut images);
-    commit(store, change, &images);
+    finish(store, change, &mut images);
 }
 
 // Writes every block of a new store.

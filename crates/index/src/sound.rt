@@ -1,5 +1,4 @@
 // What the calls do to a store that passed the tests: the change is planned, and then sealed and written.
-use draft::finish::finish;
 use image::Meta;
 use insertion::insert::plan_insert;
 use meta::read_meta;
@@ -9,6 +8,7 @@ use plan::Advance;
 use removal::plan_remove;
 use split::step::plan_step;
 use store::block_at;
+use store::finish;
 ghost use mathlib.Core.Path.{_≡_};
 ghost use mathlib.Core.Bool.{true};
 ghost use Rattle.model.specs.Calls.{pairOk, insert, remove};

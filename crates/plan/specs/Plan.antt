@@ -9,6 +9,7 @@ use Prim.Native.Nat.{ℕ}
 use Rattle.lists.specs.Block.{block}
 use Rattle.store.specs.declared.Change.{Change}
 use Rattle.store.specs.Store.{Fits}
+use Rattle.store.specs.Finish.{finished}
 use Rattle.model.specs.declared.Refusal.{Refusal}
 use Rattle.model.specs.declared.Answer.{Answer}
 use Rattle.model.specs.declared.Stop.{Stop}
@@ -17,7 +18,6 @@ use Rattle.model.specs.Steps.{Step, next, stopped}
 use Rattle.model.specs.Calls.{Result, done, refused}
 use Rattle.image.specs.Layout.{encode}
 use Rattle.draft.specs.Draft.{Listed}
-use Rattle.draft.specs.Finish.{finished}
 use Rattle.plan.specs.declared.Advance.{Advance}
 
 -- the change, sealed and written, makes the store s that of y, and lists exactly the blocks that it alters

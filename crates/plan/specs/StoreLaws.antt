@@ -10,6 +10,8 @@ use Rattle.lists.specs.Block.{block}
 use Rattle.address.specs.Address.{lastSplit}
 use Rattle.page.specs.Entries.{encodePage}
 use Rattle.store.specs.Store.{checked}
+use Rattle.store.specs.Finish.{Sealed}
+use Rattle.store.specs.FinishLaws.{sealed-checked}
 use Rattle.model.specs.Index.{Page, Chain, Index, chain}
 use Rattle.model.specs.WellFormed.{MoreOk, ChainOk}
 use Rattle.image.specs.declared.Meta.{Meta}
@@ -24,8 +26,6 @@ use Rattle.frame.specs.Frame.{flagsFor, pageWith}
 use Rattle.frame.specs.ImagesLaws.{top-one, page-inside, page-image, meta-image, map-image}
 use Rattle.view.specs.Reads.{Reads}
 use Rattle.view.specs.ReadsLaws.{reads-laid, reads-size, reads-max, reads-sized}
-use Rattle.draft.specs.Finish.{Sealed}
-use Rattle.draft.specs.FinishLaws.{sealed-checked}
 use Rattle.plan.specs.Shape.{Shaped}
 use Rattle.plan.specs.ShapeLaws.{shaped-paged}
 

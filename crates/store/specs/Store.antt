@@ -48,10 +48,14 @@ checked s k = eqb (u32At (block s k) 508) (crcOf (covered (block s k)))
 -- ---- a change: the first n of the numbers, and the images, block j of which is the new body of the block that the
 -- j-th number names
 
+-- s after n block stores, the j-th of which puts b j into block at j
+unfoldable pub copies : List ℕ → (at : ℕ → ℕ) → (b : ℕ → List ℕ) → ℕ → List ℕ
+copies s at b zero = s
+copies s at b (suc n) = setBlock (copies s at b n) (at n) (b n)
+
 -- the images after the first n are sealed
 unfoldable pub seals : List ℕ → ℕ → List ℕ
-seals images zero = images
-seals images (suc n) = setBlock (seals images n) n (sealed (block images n))
+seals images n = copies images (λ j. j) (λ j. sealed (block images j)) n
 
 -- the store after the j-th block store
 unfoldable pub stored : List ℕ → List ℕ → List ℕ → ℕ → List ℕ
@@ -59,9 +63,7 @@ stored s numbers images j = setBlock s (getD numbers j 0) (block images j)
 
 -- the store after the first n block stores
 unfoldable pub commits : List ℕ → List ℕ → List ℕ → ℕ → List ℕ
-unfolding stored
-commits s numbers images zero = s
-commits s numbers images (suc n) = stored (commits s numbers images n) numbers images n
+commits s numbers images n = copies s (λ j. getD numbers j 0) (block images) n
 
 -- at most eight blocks of the store, in ascending order
 pub record Fits (s numbers : List ℕ) (n : ℕ) : Type 0 where

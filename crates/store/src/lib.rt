@@ -13,6 +13,7 @@ ghost use Rattle.lists.specs.Block.{block, setBlock};
 ghost use Rattle.crc32c.specs.Crc.{crcOf};
 ghost use Rattle.store.specs.Store.{prevAt, nextAt, bucketAt, flagsAt, idAt, trailer};
 ghost use Rattle.store.specs.Store.{covered, sealed, checked, seals, stored, commits, Fits};
+ghost use Rattle.store.specs.Finish.{finished};
 
 // Block `k`, as a part of the store.
 pub fn block_at(store: &[u8], k: usize) -> &[u8]
@@ -124,7 +125,7 @@ fn seal_one(images: &mut [u8], n: usize)
 }
 
 // Writes the checks of a change's images.
-pub fn seal_change(change: Change, images: &mut [u8])
+fn seal_change(change: Change, images: &mut [u8])
     requires { ⌜ (change .count ≤ 8) × (length (now images) ≡ 4096) ⌝ }
     ensures { λ _. ⌜ now (images .exit) ≡ seals (now (images .entry)) (change .count) ⌝ }
 {
@@ -147,7 +148,7 @@ pub fn commit_one(store: &mut [u8], change: Change, images: &[u8], n: usize)
 }
 
 // Does all block stores of a change.
-pub fn commit(store: &mut [u8], change: Change, images: &[u8])
+fn commit(store: &mut [u8], change: Change, images: &[u8])
     requires { ⌜ Fits (now store) (change .numbers) (change .count) ⌝ }
     requires { ⌜ length (now images) ≡ 4096 ⌝ }
     ensures { λ _. ⌜ now (store .exit)
@@ -159,4 +160,14 @@ pub fn commit(store: &mut [u8], change: Change, images: &[u8])
         commit_one(store, change, images, done);
         done += 1;
     }
+}
+
+// Writes the checks of a change's images, and the images to the store.
+pub fn finish(store: &mut [u8], change: Change, images: &mut [u8])
+    requires { ⌜ Fits (now store) (change .numbers) (change .count) ⌝ }
+    requires { ⌜ length (now images) ≡ 4096 ⌝ }
+    ensures { λ _. ⌜ now (store .exit) ≡ finished (now (store .entry)) change (now (images .entry)) ⌝ }
+{
+    seal_change(change, images);
+    commit(store, change, images);
 }

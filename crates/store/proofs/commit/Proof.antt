@@ -1,9 +1,9 @@
-use mathlib.Core.Path.{_≡_, refl, ap, _∙_}
+use mathlib.Core.Path.{_≡_, refl, sym, ap, _∙_}
 use Prim.Native.Nat.{_-_, _≤_}
 use native.Mathlib.Omega.{arith}
 use lib.ListN.{length}
 use Rattle.store.specs.Store.{commits}
-use Rattle.store.specs.ChangeLaws.{commits-suc}
+use Rattle.store.specs.ChangeLaws.{commits-zero, commits-suc}
 use Rattle.store.proofs.commit.Statement.{statement}
 use Rattle.store.proofs.commit.Tie as tie
 
@@ -15,8 +15,9 @@ abbrev μ-loop : tie.MeasureT-loop
 μ-loop store₀ change images count done₀ store done = count - done
 
 loop-holds : tie.Need-loop-holds Inv-loop μ-loop
-unfolding commits
-loop-holds c = (omega arith, refl, refl)
+loop-holds c =
+    let a = c .before .before .args in
+    (omega arith, refl, sym (commits-zero (a .store .now) (a .change .numbers) (a .images .now)))
 
 commit-one-requires : tie.Need-commit-one-requires Inv-loop μ-loop
 commit-one-requires c κs =

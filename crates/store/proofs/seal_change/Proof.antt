@@ -1,9 +1,9 @@
-use mathlib.Core.Path.{_≡_, refl, ap, _∙_}
+use mathlib.Core.Path.{_≡_, refl, sym, ap, _∙_}
 use Prim.Native.Nat.{_-_, _≤_}
 use native.Mathlib.Omega.{arith}
 use lib.ListN.{length}
 use Rattle.store.specs.Store.{seals}
-use Rattle.store.specs.ChangeLaws.{seals-suc}
+use Rattle.store.specs.ChangeLaws.{seals-zero, seals-suc}
 use Rattle.store.proofs.seal_change.Statement.{statement}
 use Rattle.store.proofs.seal_change.Tie as tie
 
@@ -15,8 +15,7 @@ abbrev μ-loop : tie.MeasureT-loop
 μ-loop images₀ count n₀ images n = count - n
 
 loop-holds : tie.Need-loop-holds Inv-loop μ-loop
-unfolding seals
-loop-holds c = (omega arith, refl, refl)
+loop-holds c = (omega arith, refl, sym (seals-zero (c .before .args .images .now)))
 
 seal-one-requires : tie.Need-seal-one-requires Inv-loop μ-loop
 seal-one-requires c κs = omega arith

@@ -1,11 +1,11 @@
--- A draft is finished: its images get their checks and are written to the store.
+-- A change is finished: its images get their checks and are written to the store.
 use mathlib.Core.Path.{_≡_}
 use mathlib.Core.List.{List}
 use Prim.Native.Nat.{ℕ, _<_}
 use Rattle.lists.specs.Lists.{bind, upFrom}
 use Rattle.lists.specs.Block.{blocks, block}
 use Rattle.store.specs.declared.Change.{Change}
 use Rattle.store.specs.Store.{sealed, seals, commits}
 
 -- the store after a change whose images are sealed first
 unfoldable pub finished : List ℕ → Change → List ℕ → List ℕ

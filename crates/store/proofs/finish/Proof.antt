@@ -1,7 +1,7 @@
 use borrow.Author.Needs.{needs}
-use Rattle.draft.specs.Finish.{finished}
-use Rattle.draft.proofs.finish.finish.Statement.{statement}
-use Rattle.draft.proofs.finish.finish.Tie as tie
+use Rattle.store.specs.Finish.{finished}
+use Rattle.store.proofs.finish.Statement.{statement}
+use Rattle.store.proofs.finish.Tie as tie
 
 seal-change-requires : tie.Need-seal-change-requires
 seal-change-requires c κs = search needs
