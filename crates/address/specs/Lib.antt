@@ -1,3 +1,4 @@
+pub mod Limits
 pub mod Address
 pub mod Role
 pub mod BlockRole
@@ -6,6 +7,7 @@ pub mod MaskLaws
 pub mod BucketLaws
 pub mod BlockLaws
 pub mod PointLaws
+pub mod LimitLaws
 pub mod LastSplitLaws
 pub mod RoleLaws
 pub mod SparesLaws

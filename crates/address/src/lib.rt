@@ -1,4 +1,7 @@
 // Document 01, "Where things stand": the bucket of a hash code, and the blocks of buckets and overflow bits.
+
+pub mod limits; // limits.rt: the largest N
+
 ghost use mathlib.Core.Path.{_≡_};
 ghost use Prim.Native.Nat.{suc, pred, _+_, _^_, _≤_, _<_};
 ghost use lib.ListN.{take};

@@ -4,7 +4,7 @@ use mathlib.Core.List.{List, _∷_}
 use Prim.Native.Nat.{ℕ, pred, _*_, _≤_}
 use lib.ListN.{length, getD, take}
 use Rattle.lists.specs.Block.{blocks}
-use Rattle.model.specs.Calls.{maxBlocks}
+use Rattle.address.specs.Limits.{maxBlocks}
 use Rattle.image.specs.Decode.{follow}
 use Rattle.chain.specs.declared.Walk.{Walk}
 

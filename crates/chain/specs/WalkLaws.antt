@@ -12,7 +12,7 @@ use Rattle.lists.specs.ListsLaws.{and-left, and-right}
 use Rattle.lists.specs.Block.{blocks, block}
 use Rattle.endian.specs.Endian.{u32At}
 use Rattle.store.specs.Store.{nextAt}
-use Rattle.model.specs.Calls.{maxBlocks}
+use Rattle.address.specs.Limits.{maxBlocks}
 use Rattle.image.specs.Layout.{noLink}
 use Rattle.image.specs.Decode.{follow, blockOf, trail}
 use Rattle.image.specs.Rules.{lengthOk}

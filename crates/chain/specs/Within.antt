@@ -9,7 +9,7 @@ use Rattle.lists.specs.Block.{blocks, block}
 use Rattle.page.specs.declared.Entry.{Entry}
 use Rattle.page.specs.Entries.{entriesOf}
 use Rattle.page.specs.Rule.{pageOk, Sorted}
-use Rattle.model.specs.Calls.{maxBlocks}
+use Rattle.address.specs.Limits.{maxBlocks}
 
 module _ (s : List ℕ) where
   -- the entries of block k

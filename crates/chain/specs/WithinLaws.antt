@@ -14,7 +14,7 @@ use Rattle.lists.specs.BlockLaws.{length-block}
 use Rattle.page.specs.SublistLaws.{each-getD, all-each}
 use Rattle.page.specs.Rule.{pageOk, Sorted}
 use Rattle.page.specs.RuleLaws.{pageOk-sorted}
-use Rattle.model.specs.Calls.{maxBlocks}
+use Rattle.address.specs.Limits.{maxBlocks}
 use Rattle.chain.specs.declared.Walk.{Walk}
 use Rattle.chain.specs.Walk.{walk, lastOf, Sized, Walked}
 use Rattle.chain.specs.WalkLaws.{walk-some, walk-few}

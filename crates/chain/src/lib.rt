@@ -3,8 +3,7 @@ pub mod links; // links.rt: the blocks of a chain
 pub mod search; // search.rt: a pair in a chain, the first page with room
 pub mod bitmap; // bitmap.rt: the lowest free bit
 
-// The largest N of a store.
-pub const MAX_BLOCKS: usize = 128;
+use address::limits::MAX_BLOCKS;
 
 // A link field's "none".
 pub const NO_LINK: u32 = 0xFFFFFFFF;

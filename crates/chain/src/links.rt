@@ -1,7 +1,7 @@
 // The blocks of a chain: the one loop that follows next fields, and the page at an index of a walk.
-use crate::MAX_BLOCKS;
 use crate::NO_LINK;
 use crate::Walk;
+use address::limits::MAX_BLOCKS;
 use store::block_at;
 use store::next_at;
 ghost use mathlib.Core.Path.{_≡_};

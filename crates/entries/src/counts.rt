@@ -13,8 +13,9 @@ use shape::roles::phase_of;
 use store::block_at;
 use store::prev_at;
 ghost use mathlib.Core.Path.{_≡_};
-ghost use Prim.Native.Nat.{_≤_};
+ghost use Prim.Native.Nat.{suc, _*_, _≤_};
 ghost use Rattle.lists.specs.Lists.{all, tally, bind};
+ghost use Rattle.address.specs.Limits.{maxBlocks};
 ghost use Rattle.page.specs.Entries.{entriesOf};
 ghost use Rattle.page.specs.Rule.{Sorted};
 ghost use Rattle.model.specs.Held.{count};
@@ -73,7 +74,7 @@ fn count_page(page: &[u8], phase: Phase, max: u32, b: u32) -> u32
 fn count_walk(store: &[u8], walk: Walk, phase: Phase, max: u32, b: u32) -> u32
     requires { ⌜ (Within (now store) (walk .blocks) (walk .count)) × (PagesOk (now store) (blocksOf walk)) ⌝ }
     ensures { λ r. ⌜ (r ≡ tally (liveIn phase max b) (bind (blocksOf walk) (entriesOn (now (store .entry)))))
-        × (r ≤ 5160) ⌝ }
+        × (r ≤ 40 * suc maxBlocks) ⌝ }
 {
     let blocks = walk.blocks;
     let count = walk.count;

@@ -11,6 +11,7 @@ use lib.ListN.{length, getD, replicate, length-append, length-replicate, length-
 use lib.Pow.{pow-mono}
 use Rattle.lists.specs.Lists.{bind}
 use Rattle.lists.specs.ListsLaws.{each-append}
+use Rattle.address.specs.Limits.{maxBlocks}
 use Rattle.address.specs.Address.{bucketsAt, maskDigits, highMask, splitFrom, lastSplit, point}
 use Rattle.address.specs.MaskLaws.{mask-is, high-double, low-size}
 use Rattle.address.specs.BlockLaws.{point-is, point-pos, spares-mono}
@@ -55,10 +56,10 @@ module _ (x : Index) (l : Laid x) where
   pub max-under : x .maxBucket < bucketsAt (point (x .maxBucket))
   max-under = point-is (x .maxBucket) .over
 
-  pub max-small : x .maxBucket < 128
+  pub max-small : x .maxBucket < maxBlocks
   max-small = omega (arith, laid-room x l, l .size)
 
-  pub top-small : topBit x < 128
+  pub top-small : topBit x < maxBlocks
   top-small = omega (arith, laid-room x l, l .size)
 
   free-small : firstFree x ≤ topBit x

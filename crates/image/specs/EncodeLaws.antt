@@ -15,6 +15,7 @@ use Rattle.lists.specs.Bytes.{Bytes}
 use Rattle.lists.specs.BytesLaws.{Bytes-append}
 use Rattle.lists.specs.Block.{blocks, block}
 use Rattle.lists.specs.BlockLaws.{length-bind, block-bind}
+use Rattle.address.specs.Limits.{maxBlocks}
 use Rattle.address.specs.Address.{point, bucketBlock, bitBlock}
 use Rattle.address.specs.Role.{Role, meta, bucketPage, bitPage, unmade, roleOf}
 use Rattle.address.specs.BlockLaws.{point-pos, bit-made, bucket-made}
@@ -227,4 +228,4 @@ module _ (x : Index) (l : Laid x) where
       and-both (eqb (length (encode x) % 512) 0) _
       (eq-eqb (length (encode x) % 512) 0 (omega (arith, length-encode)))
       (rw blocks-encode
-      (and-both (leb 4 (x .size)) _ (le-leb 4 (x .size) (laid-size x l)) (le-leb (x .size) 128 (l .size))))
+      (and-both (leb 4 (x .size)) _ (le-leb 4 (x .size) (laid-size x l)) (le-leb (x .size) maxBlocks (l .size))))

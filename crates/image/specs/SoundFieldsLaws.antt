@@ -3,7 +3,6 @@ use mathlib.Core.Path.{_≡_, sym, ap, _∙_}
 use mathlib.Core.Bool.{Bool, true}
 use mathlib.Core.List.{List, _++_}
 use Prim.Native.Nat.{ℕ, zero, suc, _-_, _*_, _%_, _≤_, _<_}
-use native.Mathlib.Decide.{decLe}
 use native.Mathlib.Omega.{arith}
 use lib.Dec.{leb, eqb}
 use lib.ListN.{length, getD, take, drop, replicate, length-drop, take-append-drop}
@@ -15,9 +14,10 @@ use Rattle.lists.specs.RunLaws.{all-get}
 use Rattle.lists.specs.Bytes.{Bytes, allZero}
 use Rattle.lists.specs.BytesLaws.{allZero-replicate}
 use Rattle.lists.specs.Block.{blocks, block}
-use Rattle.address.specs.Address.{bucketsAt, highMask, lowMask, point, made}
+use Rattle.address.specs.Limits.{maxBlocks}
+use Rattle.address.specs.Address.{highMask, lowMask, point, made}
 use Rattle.address.specs.Role.{SparesOk}
-use Rattle.address.specs.OverLaws.{buckets-mono}
+use Rattle.address.specs.LimitLaws.{point-under}
 use Rattle.address.specs.BlockLaws.{point-pos}
 use Rattle.address.specs.AgreeLaws.{made-same, spares-front}
 use Rattle.model.specs.Calls.{sizeOk, fillOk}
@@ -32,7 +32,7 @@ use Rattle.image.specs.VerdictLaws.{Passes}
 pub record SoundBytes (s : List ℕ) : Type 0 where
   pub bytes : Bytes s
   pub whole : length s ≡ 512 * blocks s
-  pub small : blocks s ≤ 128
+  pub small : blocks s ≤ maxBlocks
   pub passes : Passes s
 
 pub sound-bytes : (s : List ℕ) → Bytes s → lengthOk s ≡ true → Passes s → SoundBytes s
@@ -43,7 +43,7 @@ sound-bytes s b h p =
     record {
       bytes = b;
       whole = omega arith;
-      small = leb-true (blocks s) 128 (and-right (leb 4 (blocks s)) _ z);
+      small = leb-true (blocks s) maxBlocks (and-right (leb 4 (blocks s)) _ z);
       passes = p;
     }
 
@@ -51,14 +51,9 @@ sound-bytes s b h p =
 
 -- the 16 spares that pass rule 2 at overflow point s
 module _ (sp : List ℕ) (s n : ℕ) (sixteen : length sp ≡ 16) (ok : sparesOk s sp ≡ true) (room : made sp s ≤ n)
-    (small : n ≤ 128) (pos : 1 ≤ s) where
+    (small : n ≤ maxBlocks) (pos : 1 ≤ s) where
   low : s ≤ 15
-  unfolding made bucketsAt
-  low = go (decLe s 15)
-    where
-      go : Dec (s ≤ 15) → s ≤ 15
-      go (yes h) = h
-      go (no h) = absurd (omega (arith, buckets-mono 16 s (omega arith)))
+  low = omega (arith, point-under sp s n room small)
 
   length-taken : length (take (suc s) sp) ≡ suc s
   length-taken = length-take-le (suc s) sp (omega (arith, low))

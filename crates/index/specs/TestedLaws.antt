@@ -11,7 +11,7 @@ use Rattle.lists.specs.ListsLaws.{and-left, and-right}
 use Rattle.lists.specs.Bytes.{Bytes}
 use Rattle.lists.specs.Block.{blocks}
 use Rattle.model.specs.declared.Refusal.{Refusal}
-use Rattle.model.specs.Calls.{maxBlocks}
+use Rattle.address.specs.Limits.{maxBlocks}
 use Rattle.model.specs.MachineLaws.{never}
 use Rattle.image.specs.declared.Meta.{Meta}
 use Rattle.image.specs.declared.Verdict.{Verdict}

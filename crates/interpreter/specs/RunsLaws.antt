@@ -18,7 +18,8 @@ use Rattle.model.specs.declared.LookupAnswer.{LookupAnswer}
 use Rattle.model.specs.Answers.{refusalNo}
 use Rattle.model.specs.Index.{Index}
 use Rattle.model.specs.Held.{matches}
-use Rattle.model.specs.Calls.{maxBlocks, sizeOk, fillOk, format, listed, lookup}
+use Rattle.model.specs.Calls.{sizeOk, fillOk, format, listed, lookup}
+use Rattle.address.specs.Limits.{maxBlocks}
 use Rattle.image.specs.Layout.{encode}
 use Rattle.outcomes.specs.Outcomes.{Tested, passed, failed, tested, Changed, formatOn, formatOutcome}
 use Rattle.image.specs.Rules.{lengthOk}

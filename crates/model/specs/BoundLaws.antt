@@ -3,11 +3,10 @@ use mathlib.Core.Path.{_≡_, ap}
 use mathlib.Core.List.{List, [], _∷_, map}
 use Prim.Native.Nat.{ℕ, suc, pred, _+_, _*_, _≤_, _<_}
 use native.Mathlib.Omega.{arith}
-use native.Mathlib.Decide.{decLe}
 use lib.ListN.{length, getD, length-append}
 use Rattle.lists.specs.Lists.{keep, bind, upFrom, Each}
-use Rattle.address.specs.Address.{bucketsAt, point, made}
-use Rattle.address.specs.OverLaws.{buckets-mono}
+use Rattle.address.specs.Address.{point, made}
+use Rattle.address.specs.LimitLaws.{point-under}
 use Rattle.address.specs.BlockLaws.{point-is}
 use Rattle.page.specs.SublistLaws.{sublist-keep, length-sublist}
 use Rattle.page.specs.declared.Entry.{Entry}
@@ -33,12 +32,7 @@ module _ (x : Index) (l : Laid x) where
 
   -- spares[0..s] are no more than 16
   pub laid-point : point (x .maxBucket) < 16
-  unfolding made bucketsAt
-  laid-point = go (decLe 16 (point (x .maxBucket)))
-    where
-      go : Dec (16 ≤ point (x .maxBucket)) → point (x .maxBucket) < 16
-      go (yes h) = absurd (omega (arith, buckets-mono 16 (point (x .maxBucket)) h, l .spares .room, l .size))
-      go (no h) = omega arith
+  laid-point = omega (arith, point-under (x .spares) (point (x .maxBucket)) (x .size) (l .spares .room) (l .size))
 
   pub bits-le : suc (length (bitsUsed x)) ≤ topBit x
   bits-le =

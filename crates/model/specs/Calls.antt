@@ -7,6 +7,7 @@ use lib.Dec.{leb, eqb}
 use lib.ListN.{length, drop}
 use Rattle.lists.specs.Lists.{bind}
 use Rattle.endian.specs.Endian.{le16, le32}
+use Rattle.address.specs.Limits.{maxBlocks}
 use Rattle.page.specs.declared.Pair.{Pair}
 use Rattle.page.specs.declared.Entry.{Entry}
 use Rattle.page.specs.Pair.{badPair}
@@ -23,10 +24,6 @@ use Rattle.model.specs.Held.{held, matches, count, slack}
 use Rattle.model.specs.Steps.{Worked, step, iterate}
 
 -- ---- refusals 1 and 2
-
--- the largest N of a store
-abbrev pub maxBlocks : ℕ
-maxBlocks = 128
 
 -- "N outside 4..128"
 abbrev pub sizeOk : ℕ → Bool

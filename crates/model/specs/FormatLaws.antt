@@ -13,7 +13,8 @@ use Rattle.address.specs.Role.{SparesOk}
 use Rattle.page.specs.declared.Pair.{Pair}
 use Rattle.model.specs.Index.{noChain, chain, bucket}
 use Rattle.model.specs.Held.{held}
-use Rattle.model.specs.Calls.{maxBlocks, sizeOk, fillOk, format}
+use Rattle.model.specs.Calls.{sizeOk, fillOk, format}
+use Rattle.address.specs.Limits.{maxBlocks}
 use Rattle.model.specs.WellFormed.{unmovedAt, movedAt, PlacedIn, Laid, WF}
 use Rattle.model.specs.HeldIn.{heldIn}
 use Rattle.model.specs.PlacedLaws.{idle-copying}

@@ -15,7 +15,7 @@ use Rattle.page.specs.declared.Entry.{Entry}
 use Rattle.page.specs.Pair.{is, badPair, PairFits, ascending}
 use Rattle.model.specs.Index.{Page, Chain, Job, idle, copying, clearing, Index, chain, entriesAt, bucket, newBucket, oldBucket, topBit}
 use Rattle.model.specs.Pages.{bitsUsed}
-use Rattle.model.specs.Calls.{maxBlocks}
+use Rattle.address.specs.Limits.{maxBlocks}
 
 -- ---- pages
 

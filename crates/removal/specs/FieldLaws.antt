@@ -7,7 +7,7 @@ use lib.ListN.{take}
 use Rattle.address.specs.Address.{point}
 use Rattle.address.specs.Role.{SparesOk, roleOf}
 use Rattle.address.specs.AgreeLaws.{role-same, spares-wider}
-use Rattle.model.specs.Calls.{maxBlocks}
+use Rattle.address.specs.Limits.{maxBlocks}
 use Rattle.model.specs.BoundLaws.{laid-point}
 use Rattle.image.specs.declared.Meta.{Meta}
 use Rattle.image.specs.Decode.{pointAt, decode}

@@ -13,6 +13,7 @@ use Rattle.lists.specs.Lists.{all, tally, bind, upFrom}
 use Rattle.lists.specs.RunLaws.{all-get}
 use Rattle.lists.specs.Block.{blocks, block}
 use Rattle.endian.specs.Endian.{u16At}
+use Rattle.address.specs.Limits.{maxBlocks}
 use Rattle.store.specs.Store.{prevAt, nextAt, bucketAt}
 use Rattle.image.specs.declared.Meta.{Meta}
 use Rattle.image.specs.Layout.{noLink}
@@ -77,7 +78,7 @@ module _ (s : List ℕ) (b : ℕ) (w : Walk) (held : Walked s (blockOf s b) w) w
   unfolding walk
   trail-count = held .count
 
-  pub trail-few : Sized s → w .count ≤ 129
+  pub trail-few : Sized s → w .count ≤ suc maxBlocks
   trail-few sized = omega (arith, held .count, walk-few s (blockOf s b), sized .few)
 
 -- ---- from bucket to bucket
@@ -89,7 +90,7 @@ linksFrom s b = length (bind (upFrom b (suc (maxAt s) - b)) (trail s))
 -- before bucket b there are `links` of them, and what is left decides
 pub record Linking (s : List ℕ) (links b : ℕ) : Type 0 where
   pub upto : b ≤ suc (maxAt s)
-  pub few : links ≤ 128 * b
+  pub few : links ≤ maxBlocks * b
   pub count : links + linksFrom s b ≡ length (bind (buckets s) (trail s))
   pub rest : left (chained s) (suc (maxAt s)) b ≡ all (chained s) (buckets s)
 

@@ -11,7 +11,7 @@ use Rattle.address.specs.Role.{SparesOk, roleOf, RoleIs}
 use Rattle.address.specs.BlockLaws.{point-pos}
 use Rattle.address.specs.SparesLaws.{top-pos}
 use Rattle.address.specs.AgreeLaws.{bucket-same, bit-same, role-same, spares-front}
-use Rattle.model.specs.Calls.{maxBlocks}
+use Rattle.address.specs.Limits.{maxBlocks}
 use Rattle.image.specs.declared.Meta.{Meta}
 use Rattle.image.specs.Decode.{readMeta, metaAt, maxAt, pointAt, sparesAt, roleAt, blockOf}
 use Rattle.image.specs.Rules.{topAt, rule2}

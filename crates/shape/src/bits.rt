@@ -13,7 +13,7 @@ ghost use lib.Dec.{eqb};
 ghost use lib.ListN.{getD};
 ghost use Rattle.lists.specs.Lists.{all, upFrom};
 ghost use Rattle.address.specs.Address.{bitBlock};
-ghost use Rattle.model.specs.Calls.{maxBlocks};
+ghost use Rattle.address.specs.Limits.{maxBlocks};
 ghost use Rattle.image.specs.Decode.{metaAt};
 ghost use Rattle.image.specs.Rules.{mapAt, freeAt, rule6};
 ghost use Rattle.meta.specs.Addressed.{Addressed};

@@ -20,7 +20,7 @@ ghost use Rattle.lists.specs.Block.{blocks, block};
 ghost use Rattle.address.specs.Address.{bucketBlock};
 ghost use Rattle.address.specs.Role.{bucketPage, bitPage, roleOf};
 ghost use Rattle.address.specs.BlockRole.{roleCase};
-ghost use Rattle.model.specs.Calls.{maxBlocks};
+ghost use Rattle.address.specs.Limits.{maxBlocks};
 ghost use Rattle.image.specs.Decode.{maxAt, roleAt, blockOf};
 ghost use Rattle.image.specs.Rules.{unused, unlinked, bucketFlagsOk, fits, isOverflow, rule3};
 ghost use Rattle.meta.specs.Addressed.{Addressed};

@@ -5,7 +5,6 @@ use mathlib.Core.Bool.{Bool, true, false, not}
 use mathlib.Core.List.{List, [], _∷_, _++_, append-assoc}
 use mathlib.Core.Option.{Option, some, Option·getD}
 use Prim.Native.Nat.{ℕ, suc, pred, _+_, _-_, _≤_, _<_}
-use native.Mathlib.Decide.{decLe}
 use native.Mathlib.Numerals.{add-one}
 use native.Mathlib.Omega.{arith}
 use borrow.Author.Tests.{le-leb, lt-leb}
@@ -14,9 +13,11 @@ use lib.ListN.{length, getD, set, replicate, length-append, List·getD-append}
 use lib.Seq.{set-at, set-getD}
 use Rattle.lists.specs.Lists.{any, find, upFrom}
 use Rattle.lists.specs.ListsLaws.{tally-bind}
+use Rattle.address.specs.Limits.{maxBlocks, lastPoint}
 use Rattle.address.specs.Address.{bucketsAt, splitFrom, highMask, lowMask, point, bucketPoint, bucketBlock, made}
 use Rattle.address.specs.OverLaws.{buckets-grow, buckets-mono}
 use Rattle.address.specs.MaskLaws.{split-lt}
+use Rattle.address.specs.LimitLaws.{buckets-last, point-under}
 use Rattle.address.specs.PointLaws.{bucketPoint-le}
 use Rattle.address.specs.BlockLaws.{point-is, point-pos, bucket-apart}
 use Rattle.address.specs.SparesLaws.{point-next}
@@ -44,24 +45,18 @@ module _ (x : Index) (l : Laid x) where
 
   -- ---- the new overflow point
 
-  point-low : point (x .maxBucket) < 7
-  unfolding made bucketsAt
-  point-low = go (decLe 7 s)
-    where
-      go : Dec (7 ≤ s) → s < 7
-      go (yes h) = absurd (omega (arith, buckets-mono 7 s h, l .spares .room, l .size))
-      go (no h) = omega arith
+  point-low : point (x .maxBucket) < lastPoint
+  point-low = point-under (x .spares) s (x .size) (l .spares .room) (l .size)
 
-  pub point-small : point (suc (x .maxBucket)) ≤ 7
+  pub point-small : point (suc (x .maxBucket)) ≤ lastPoint
   point-small = go (ltb s (point (suc m))) refl
     where
-      go : (k : Bool) → ltb s (point (suc m)) ≡ k → point (suc m) ≤ 7
+      go : (k : Bool) → ltb s (point (suc m)) ≡ k → point (suc m) ≤ lastPoint
       go true e = omega (arith, point-low, point-next m true e)
       go false e = omega (arith, point-low, point-next m false e)
 
-  pub buckets-small : bucketsAt (point (suc (x .maxBucket))) ≤ 128
-  unfolding bucketsAt
-  buckets-small = buckets-mono (point (suc m)) 7 point-small
+  pub buckets-small : bucketsAt (point (suc (x .maxBucket))) ≤ maxBlocks
+  buckets-small = omega (arith, buckets-last, buckets-mono (point (suc m)) lastPoint point-small)
 
   -- ---- room
 

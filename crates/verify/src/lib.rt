@@ -1,5 +1,6 @@
 // What a store is: of bad length, damaged, not an index, or sound. The rules one by one stand in the crates `meta` (1
 // and 2), `shape` (3, 4 and 6) and `entries` (5, 7 and 8).
+use address::limits::MAX_BLOCKS;
 use entries::counts::check_counts;
 use entries::pages::check_pages;
 use entries::places::check_places;
@@ -29,7 +30,7 @@ pub fn check_length(store: &[u8]) -> bool
         return false;
     }
     let size = store.len() / 512;
-    4 <= size && size <= 128
+    4 <= size && size <= MAX_BLOCKS
 }
 
 // The lowest broken rule, the first two of them tested already.

@@ -10,6 +10,7 @@ use lib.ListN.{length}
 use Rattle.lists.specs.Bytes.{Bytes}
 use Rattle.lists.specs.Block.{blocks, block}
 use Rattle.lists.specs.BlockLaws.{length-block}
+use Rattle.address.specs.Limits.{maxBlocks}
 use Rattle.address.specs.Address.{bucketsAt, bucketBlock, splitFrom}
 use Rattle.address.specs.MaskLaws.{split-lt}
 use Rattle.address.specs.AgreeLaws.{bucket-same, spares-front}
@@ -87,7 +88,7 @@ module _ {s : List ℕ} {m : Meta} (r : Reads s m) where
   unfolding metaOf
   reads-fill = ap (λ (n : Meta). n .fill) reads-meta
 
-  pub reads-low : m .max < 128
+  pub reads-low : m .max < maxBlocks
   reads-low = omega (arith, reads-max, max-small (decode s) reads-laid)
 
   -- ---- buckets

@@ -4,7 +4,7 @@ use Prim.Native.Nat.{suc, _+_, _-_, _≤_, _<_}
 use native.Mathlib.Omega.{arith}
 use lib.ListN.{length, take, length-set}
 use Rattle.lists.specs.Block.{blocks}
-use Rattle.model.specs.Calls.{maxBlocks}
+use Rattle.address.specs.Limits.{maxBlocks}
 use Rattle.image.specs.Decode.{follow}
 use Rattle.chain.specs.Walk.{walk}
 use Rattle.chain.proofs.Walking.{begin, turn, ended, spent}

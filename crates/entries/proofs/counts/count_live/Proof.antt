@@ -1,6 +1,7 @@
 use mathlib.Core.Path.{_≡_, sym, _∙_}
 use Prim.Native.Nat.{ℕ, suc, _+_, _*_, _-_, _≤_}
 use native.Mathlib.Omega.{arith}
+use Rattle.address.specs.Limits.{maxBlocks}
 use Rattle.model.specs.Held.{count}
 use Rattle.image.specs.Decode.{maxAt, decode}
 use Rattle.shape.specs.KnownLaws.{max-is, max-small}
@@ -10,7 +11,7 @@ use Rattle.entries.proofs.counts.count_live.Statement.{statement}
 use Rattle.entries.proofs.counts.count_live.Tie as tie
 
 abbrev Inv-loop : tie.InvT-loop
-Inv-loop store m max phase live₀ b₀ live b = (b ≤ suc (maxAt store)) × (live ≤ 5160 * b) × (live + liveFrom store b ≡ count (decode store))
+Inv-loop store m max phase live₀ b₀ live b = (b ≤ suc (maxAt store)) × (live ≤ 40 * suc maxBlocks * b) × (live + liveFrom store b ≡ count (decode store))
 
 abbrev μ-loop : tie.MeasureT-loop
 μ-loop store m max phase live₀ b₀ live b = max + 1 - b

@@ -16,7 +16,7 @@ use Rattle.address.specs.Role.{Role, meta, bucketPage, bitPage, unmade, roleOf}
 use Rattle.address.specs.declared.BlockRole.{BlockRole}
 use Rattle.address.specs.BlockRole.{roleCase}
 use Rattle.address.specs.AgreeLaws.{spares-wider}
-use Rattle.model.specs.Calls.{maxBlocks}
+use Rattle.address.specs.Limits.{maxBlocks}
 use Rattle.view.specs.ReadsLaws.{reads-whole, reads-block}
 use Rattle.removal.specs.declared.Freed.{Freed}
 use Rattle.removal.specs.Freeing.{emptied}

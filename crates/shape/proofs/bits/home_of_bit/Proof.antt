@@ -1,5 +1,5 @@
 use native.Mathlib.Omega.{arith}
-use Rattle.model.specs.Calls.{maxBlocks}
+use Rattle.address.specs.Limits.{maxBlocks}
 use Rattle.meta.specs.Addressed.{bit-inside}
 use borrow.Author.Needs.{needs}
 use Rattle.shape.proofs.bits.home_of_bit.Statement.{statement}

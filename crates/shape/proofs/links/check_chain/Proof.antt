@@ -1,9 +1,10 @@
 use mathlib.Core.Path.{_≡_, sym, ap, _∙_}
-use Prim.Native.Nat.{ℕ, _+_, _-_, _≤_, _<_}
+use Prim.Native.Nat.{ℕ, suc, _+_, _-_, _≤_, _<_}
 use native.Mathlib.Omega.{arith}
 use borrow.Author.Tests.{not-true, not-false}
 use lib.Dec.{eqb}
 use lib.ListN.{getD, drop}
+use Rattle.address.specs.Limits.{maxBlocks}
 use Rattle.image.specs.Layout.{noLink}
 use Rattle.image.specs.Decode.{blockOf}
 use Rattle.image.specs.Rules.{linked}
@@ -18,7 +19,7 @@ use Rattle.shape.proofs.links.check_chain.Tie as tie
 
 abbrev Inv-loop : tie.InvT-loop
 Inv-loop store m b blocks count i₀ i =
-    (i < count) × (count ≤ 129)
+    (i < count) × (count ≤ suc maxBlocks)
     × (linked store b (getD blocks i 0) (drop (i + 1) (walk store (blockOf store b))) ≡ chained store b)
 
 abbrev μ-loop : tie.MeasureT-loop

@@ -1,6 +1,6 @@
 use native.Mathlib.Omega.{arith}
 use Rattle.address.specs.OverLaws.{buckets-mono}
-use Rattle.model.specs.Calls.{maxBlocks}
+use Rattle.address.specs.Limits.{maxBlocks}
 use Rattle.meta.specs.Addressed.{max-under, home-inside}
 use borrow.Author.Needs.{needs}
 use Rattle.shape.proofs.roles.home_of.Statement.{statement}

@@ -2,7 +2,7 @@ use native.Mathlib.Omega.{arith}
 use Prim.Native.Nat.{suc, _^_}
 use lib.ListN.{take}
 use Rattle.address.specs.AgreeLaws.{spares-wider}
-use Rattle.model.specs.Calls.{maxBlocks}
+use Rattle.address.specs.Limits.{maxBlocks}
 use borrow.Author.Needs.{needs}
 use Rattle.shape.proofs.roles.role_at.Statement.{statement}
 use Rattle.shape.proofs.roles.role_at.Tie as tie

@@ -1,9 +1,10 @@
 use mathlib.Core.Path.{_≡_, sym, ap, ap₂, _∙_}
-use Prim.Native.Nat.{ℕ, suc, _+_, _≤_}
+use Prim.Native.Nat.{ℕ, suc, _+_, _*_, _≤_}
 use native.Mathlib.Omega.{arith}
 use borrow.Author.Needs.{needs}
 use lib.Dec.{leb}
 use lib.ListN.{getD}
+use Rattle.address.specs.Limits.{maxBlocks}
 use Rattle.address.specs.Address.{bucketsAt, point}
 use Rattle.model.specs.Index.{Index}
 use Rattle.model.specs.WellFormed.{Laid}
@@ -46,7 +47,7 @@ buckets-at-requires c κs =
 
 few : (c : tie.After-buckets-at)
     → let m = c .before .before .before .before .before .args .m in
-    c .buckets-at .result + getD (m .spares) (m .point) 0 ≤ 256
+    c .buckets-at .result + getD (m .spares) (m .point) 0 ≤ 2 * maxBlocks
 few c =
     let w = c .before .before .before .before .before .pre in
     omega (

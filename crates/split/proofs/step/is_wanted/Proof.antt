@@ -4,6 +4,7 @@ use native.Mathlib.Nat.{mul-le-mul}
 use native.Mathlib.Omega.{arith}
 use borrow.Author.Needs.{needs}
 use lib.Dec.{ltb}
+use Rattle.address.specs.Limits.{maxBlocks}
 use Rattle.model.specs.Held.{wanted}
 use Rattle.image.specs.declared.Meta.{Meta}
 use Rattle.image.specs.Layout.{metaOf}
@@ -16,12 +17,12 @@ cast-result : tie.Need-cast-result
 cast-result c = search needs
 
 -- the buckets, and the pairs that they have room for
-buckets : (c : tie.Start) → c .args .m .max + 1 ≤ 128
+buckets : (c : tie.Start) → c .args .m .max + 1 ≤ maxBlocks
 buckets c =
     let w = c .pre in
     omega (arith, field-next (w .0) (w .1) (w .2), max-small (w .0) (w .1))
 
-product : (c : tie.Start) → c .args .m .fill * (c .args .m .max + 1) ≤ 40 * 128
+product : (c : tie.Start) → c .args .m .fill * (c .args .m .max + 1) ≤ 40 * maxBlocks
 unfolding metaOf
 product c =
     let w = c .pre in

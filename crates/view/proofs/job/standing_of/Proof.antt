@@ -8,6 +8,7 @@ use lib.IntN.{subℕ}
 use mir.Syntax.{w64}
 use mir.Val.{SFits}
 use mir.ValLaws.{toZ-ofZ}
+use Rattle.address.specs.Limits.{maxBlocks}
 use Rattle.model.specs.Held.{slack}
 use Rattle.model.specs.Calls.{standing}
 use Rattle.image.specs.declared.Meta.{Meta}
@@ -17,10 +18,10 @@ use Rattle.view.proofs.Slack.{sub-is, sub-fits}
 use Rattle.view.proofs.job.standing_of.Statement.{statement}
 use Rattle.view.proofs.job.standing_of.Tie as tie
 
-product : (c : tie.Start) → c .args .m .fill * (c .args .m .max + 1) ≤ 40 * 128
+product : (c : tie.Start) → c .args .m .fill * (c .args .m .max + 1) ≤ 40 * maxBlocks
 product c =
     let f : c .args .m .fill ≤ 40 = omega (arith, reads-fill (c .pre), reads-laid (c .pre) .fillHigh) in
-    let b : c .args .m .max + 1 ≤ 128 = omega (arith, reads-low (c .pre)) in
+    let b : c .args .m .max + 1 ≤ maxBlocks = omega (arith, reads-low (c .pre)) in
     mul-le-mul f b
 
 add-buckets : tie.Need-add-buckets

@@ -1,0 +1,2 @@
+// The largest N of a store.
+pub const MAX_BLOCKS: usize = 128;
