@@ -12,3 +12,4 @@ pub mod LastSplitLaws
 pub mod RoleLaws
 pub mod SparesLaws
 pub mod AgreeLaws
+pub mod FormatLaws

@@ -2,14 +2,15 @@
 use mathlib.Core.Path.{_≡_, refl}
 use mathlib.Core.Bool.{true, false}
 use mathlib.Core.List.{[], _∷_}
-use Prim.Native.Nat.{ℕ, zero, suc, _+_, _≤_, _<_}
+use Prim.Native.Nat.{ℕ, zero, suc, _+_}
 use native.Mathlib.Omega.{arith}
 use borrow.Author.Tests.{leb-true}
 use lib.Dec.{leb}
-use lib.ListN.{getD}
 use Rattle.lists.specs.ListsLaws.{and-left, and-right}
-use Rattle.address.specs.Address.{bucketsAt, point, made}
+use Rattle.address.specs.Address.{point}
 use Rattle.address.specs.Role.{SparesOk}
+use Rattle.address.specs.AgreeLaws.{spares-wider}
+use Rattle.address.specs.FormatLaws.{point-first, spares-first}
 use Rattle.page.specs.declared.Pair.{Pair}
 use Rattle.model.specs.Index.{noChain, chain, bucket}
 use Rattle.model.specs.Held.{held}
@@ -23,19 +24,9 @@ use Rattle.model.specs.HeldLaws.{held-is}
 
 module _ (n fill : ℕ) (so : sizeOk n ≡ true) (fo : fillOk fill ≡ true) where
   format-spares : SparesOk (0 ∷ 1 ∷ []) (point 1) n
-  unfolding made point bucketsAt
   format-spares =
-      record {
-        points = refl;
-        zeroth = refl;
-        rising = rising;
-        bitmap = omega arith;
-        room = omega (arith, leb-true 4 n (and-left (leb 4 n) (leb n maxBlocks) so));
-      }
-    where
-      rising : (i : ℕ) → i < 1 → getD (0 ∷ 1 ∷ []) i 0 ≤ getD (0 ∷ 1 ∷ []) (suc i) 0
-      rising zero l = omega arith
-      rising (suc i) l = absurd (omega arith)
+      rw point-first
+      (spares-wider (0 ∷ 1 ∷ []) 1 4 n (leb-true 4 n (and-left (leb 4 n) (leb n maxBlocks) so)) spares-first)
 
   format-chain : (b : ℕ) → chain (format n fill) b ≡ noChain
   unfolding format

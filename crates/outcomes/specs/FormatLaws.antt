@@ -1,25 +1,17 @@
 -- The bytes of a formatted index are the blocks spelt out.
-use mathlib.Core.Path.{_≡_, refl, sym, ap, _∙_}
-use mathlib.Core.List.{[], _∷_}
-use Prim.Native.Nat.{ℕ, zero, suc, _≤_, _<_}
+use mathlib.Core.Path.{_≡_, sym, ap, _∙_}
+use Prim.Native.Nat.{ℕ, zero, suc, _≤_}
 use native.Mathlib.Omega.{arith}
-use lib.ListN.{getD}
 use Rattle.lists.specs.Lists.{bind, upFrom}
 use Rattle.endian.specs.Endian.{le16, le32}
 use Rattle.address.specs.Address.{
-  bucketsAt,
   maskDigits,
   highMask,
   lowMask,
   lastSplit,
-  point,
-  bucketPoint,
-  bucketBlock,
-  bitBlock,
-  made,
 }
-use Rattle.address.specs.Role.{SparesOk, unmade, roleOf}
-use Rattle.address.specs.RoleLaws.{role-only}
+use Rattle.address.specs.Role.{roleOf}
+use Rattle.address.specs.FormatLaws.{point-first, role-first, role-second, role-bitmap, role-past}
 use Rattle.page.specs.Entries.{encodePage}
 use Rattle.model.specs.Pages.{freeBit, firstFree}
 use Rattle.model.specs.Held.{count}
@@ -42,34 +34,24 @@ use Rattle.lists.specs.TestLaws.{bind-cong}
 module _ (n fill : ℕ) where
   meta-format : encodeBlock (format n fill) 0 ≡ formatBlock n fill 0
   unfolding encodeBlock image roleOf format formatBlock formatMeta metaFront metaOf padded count firstFree freeBit
-      highMask maskDigits lowMask point bucketsAt le32 le16
-  meta-format = refl
+      highMask maskDigits lowMask le32 le16
+  meta-format = rw point-first
 
   first-format : encodeBlock (format n fill) 1 ≡ formatBlock n fill 1
-  unfolding encodeBlock image roleOf format formatBlock bucketImage flagsOf lastSplit point bucketsAt bucketBlock
-      encodePage le16
-  first-format = refl
+  unfolding encodeBlock image format formatBlock bucketImage flagsOf lastSplit encodePage le16
+  first-format = ap (image (format n fill)) role-first
 
   second-format : encodeBlock (format n fill) 2 ≡ formatBlock n fill 2
-  unfolding encodeBlock image roleOf format formatBlock bucketImage flagsOf lastSplit point bucketsAt bucketBlock
-      bucketPoint encodePage le16
-  second-format = refl
+  unfolding encodeBlock image format formatBlock bucketImage flagsOf lastSplit encodePage le16
+  second-format = ap (image (format n fill)) role-second
 
   bitmap-format : encodeBlock (format n fill) 3 ≡ formatBlock n fill 3
-  unfolding encodeBlock image roleOf format formatBlock mapFront point bucketsAt bucketBlock bucketPoint bitBlock
-  bitmap-format = refl
+  unfolding encodeBlock image format formatBlock mapFront
+  bitmap-format = ap (image (format n fill)) role-bitmap ∙ rw point-first
 
-  -- the spares of a formatted index have their rule, so that the blocks past the bitmap are not made
   past : (k : ℕ) → 4 ≤ k → encodeBlock (format n fill) k ≡ blank
-  unfolding encodeBlock image format point bucketsAt made
-  past k h = ap (image (format n fill)) (role-only (0 ∷ 1 ∷ []) 1 4 spares (omega arith) k unmade h)
-    where
-      rising : (i : ℕ) → i < 1 → getD (0 ∷ 1 ∷ []) i 0 ≤ getD (0 ∷ 1 ∷ []) (suc i) 0
-      rising zero h = omega arith
-      rising (suc i) h = absurd (omega arith)
-
-      spares : SparesOk (0 ∷ 1 ∷ []) 1 4
-      spares = record { points = refl; zeroth = refl; rising = rising; bitmap = omega arith; room = omega arith }
+  unfolding encodeBlock image format
+  past k h = ap (image (format n fill)) (role-past k h)
 
   pub format-block : (k : ℕ) → encodeBlock (format n fill) k ≡ formatBlock n fill k
   unfolding formatBlock

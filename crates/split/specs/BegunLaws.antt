@@ -12,6 +12,7 @@ use lib.Seq.{sets}
 use Rattle.lists.specs.Block.{blocks, block, setBlock}
 use Rattle.endian.specs.Endian.{le16, le32}
 use Rattle.address.specs.Address.{bucketsAt, point, bucketBlock}
+use Rattle.address.specs.LimitLaws.{max-spared}
 use Rattle.address.specs.MaskLaws.{split-lt}
 use Rattle.address.specs.BlockLaws.{point-pos, bucket-pos}
 use Rattle.page.specs.Entries.{encodePage}
@@ -95,8 +96,7 @@ module _ {s : List ℕ} {m : Meta} (r : Reads s m) (y : Index) (b : begin (decod
 
   -- what `bucket_block` asks of the new bucket
   pub new-fits : (m .max + 1 < bucketsAt 16) × (bucketBlock (m .spares) (m .max + 1) < 2 ^ 32)
-  unfolding bucketsAt
-  new-fits = (omega (arith, reads-low r), omega (arith, new-block, new-at, reads-sized r .few))
+  new-fits = (omega (arith, reads-low r, max-spared), omega (arith, new-block, new-at, reads-sized r .few))
 
   apart : bucketAt s (parentBucket s) ≢ bucketAt s (nextBucket s)
   apart = pages-apart x (reads-laid r) y b

@@ -1,13 +1,13 @@
 -- With small numbers and spares the blocks of buckets and overflow bits fit 32 bits.
-use mathlib.Core.Path.{_≡_, refl}
 use mathlib.Core.Bool.{Bool, true, false}
 use mathlib.Core.List.{List, [], _∷_}
 use Prim.Native.Nat.{ℕ, zero, suc, pred, _+_, _^_, _≤_, _<_}
 use native.Mathlib.Omega.{arith}
 use lib.Dec.{ltb}
 use lib.ListN.{getD, set, replicate}
-use Rattle.address.specs.Address.{bucketsAt, bucketPoint, bucketBlock, bitPoint, bitBlock}
+use Rattle.address.specs.Address.{bucketPoint, bucketBlock, bitPoint, bitBlock}
 use Rattle.address.specs.OverLaws.{buckets-mono}
+use Rattle.address.specs.LimitLaws.{buckets-sixteen}
 use Rattle.vectors.specs.Small.{Small}
 
 pub small-set : (sp : List ℕ) (k v : ℕ) → Small sp → v < 65536 → Small (set sp k v)
@@ -21,10 +21,6 @@ pub small-zeros : (k : ℕ) → Small (replicate k 0)
 small-zeros zero i = omega arith
 small-zeros (suc k) zero = omega arith
 small-zeros (suc k) (suc i) = small-zeros k i
-
-pub buckets-last : bucketsAt 16 ≡ 65536
-unfolding bucketsAt
-buckets-last = refl
 
 pub bucket-fits : (sp : List ℕ) (b : ℕ) → Small sp → b < 65536 → bucketBlock sp b < 2 ^ 32
 unfolding bucketBlock
@@ -44,4 +40,4 @@ pub bit-fits : (sp : List ℕ) (s n : ℕ) → s ≤ 15 → n < 65536 → bitBlo
 unfolding bitBlock
 bit-fits sp s n h l =
     let g : bitPoint sp n 1 (pred s) ≤ 16 = omega (arith, bitPoint-upto sp n 1 (pred s)) in
-    omega (arith, buckets-last, buckets-mono (bitPoint sp n 1 (pred s)) 16 g)
+    omega (arith, buckets-sixteen, buckets-mono (bitPoint sp n 1 (pred s)) 16 g)

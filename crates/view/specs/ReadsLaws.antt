@@ -12,6 +12,7 @@ use Rattle.lists.specs.Block.{blocks, block}
 use Rattle.lists.specs.BlockLaws.{length-block}
 use Rattle.address.specs.Limits.{maxBlocks}
 use Rattle.address.specs.Address.{bucketsAt, bucketBlock, splitFrom}
+use Rattle.address.specs.LimitLaws.{max-spared}
 use Rattle.address.specs.MaskLaws.{split-lt}
 use Rattle.address.specs.AgreeLaws.{bucket-same, spares-front}
 use Rattle.store.specs.Store.{flagsAt}
@@ -95,8 +96,7 @@ module _ {s : List ℕ} {m : Meta} (r : Reads s m) where
 
   module _ (b : ℕ) (made : b ≤ m .max) where
     pub bucket-low : b < bucketsAt 16
-    unfolding bucketsAt
-    bucket-low = omega (arith, reads-low)
+    bucket-low = omega (arith, reads-low, max-spared)
 
     pub block-read : bucketBlock (m .spares) b ≡ blockOf s b
     unfolding decode

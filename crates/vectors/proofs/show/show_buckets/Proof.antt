@@ -3,7 +3,8 @@ use Prim.Native.Nat.{_-_}
 use native.Mathlib.Omega.{arith}
 use lib.ListN.{length}
 use Rattle.vectors.specs.Small.{Within}
-use Rattle.vectors.proofs.Fits.{buckets-last, bucket-fits}
+use Rattle.address.specs.LimitLaws.{buckets-sixteen}
+use Rattle.vectors.proofs.Fits.{bucket-fits}
 use Rattle.vectors.proofs.show.show_buckets.Statement.{statement}
 use Rattle.vectors.proofs.show.show_buckets.Tie as tie
 
@@ -28,7 +29,7 @@ slice-aggregate-put-number c = refl
 bucket-block-requires : tie.Need-bucket-block-requires Inv-loop μ-loop
 bucket-block-requires c κs =
     let s = c .before .before .before .before .before .before .before in
-    (omega (arith, buckets-last), bucket-fits _ _ (s .pre .1) (omega arith))
+    (omega (arith, buckets-sixteen), bucket-fits _ _ (s .pre .1) (omega arith))
 
 cast-put-number : tie.Need-cast-put-number Inv-loop μ-loop
 cast-put-number c = omega arith
