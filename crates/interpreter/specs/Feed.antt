@@ -13,7 +13,7 @@ use Rattle.line.specs.Command.{maxLine, readLine}
 use Rattle.text.specs.Text.{lineOutput}
 use Rattle.interpreter.specs.declared.ScriptState.{ScriptState}
 use Rattle.interpreter.specs.declared.Fed.{Fed}
-use Rattle.interpreter.specs.Script.{Turn, runCommand}
+use Rattle.interpreter.specs.Script.{Turn, scriptBlocks, runCommand}
 
 -- ---- the state
 
@@ -36,10 +36,6 @@ gathered c bs =
     }
 
 -- ---- room
-
--- the script's largest N
-abbrev pub scriptBlocks : ℕ
-scriptBlocks = 128
 
 abbrev pub storeBytes : ℕ
 storeBytes = 512 * scriptBlocks

@@ -15,7 +15,8 @@ use Rattle.text.specs.TextLaws.{wrote-start, wrote-count}
 use Rattle.interpreter.specs.declared.ScriptState.{ScriptState}
 use Rattle.interpreter.specs.declared.Fed.{Fed}
 use Rattle.interpreter.specs.declared.Gathered.{Gathered}
-use Rattle.interpreter.specs.Feed.{tooMany, gathered, scriptBlocks, storeBytes, ready, Feeding, fedAs, still}
+use Rattle.interpreter.specs.Feed.{tooMany, gathered, storeBytes, ready, Feeding, fedAs, still}
+use Rattle.interpreter.specs.Script.{scriptBlocks}
 use Rattle.interpreter.specs.Feed.{nextLine, lineTurn, over, nextState, lineEnds, feedOutcome, finishOutcome}
 use Rattle.interpreter.specs.Runs.{Runs, Room}
 use Rattle.interpreter.specs.Held.{gatherIn}

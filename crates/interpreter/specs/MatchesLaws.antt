@@ -25,6 +25,7 @@ use Rattle.model.specs.SortedLaws.{length-sorted}
 use Rattle.model.specs.BoundLaws.{laid-room, bits-le}
 use Rattle.image.specs.BoundLaws.{bits-part}
 use Rattle.model.specs.MachineLaws.{never}
+use Rattle.interpreter.specs.Script.{scriptBlocks}
 
 -- ---- entries of one chain and of two
 
@@ -50,7 +51,7 @@ two-parts (c ∷ cs) zero (suc j) h =
     simp length-append (omega (arith, one-part cs j, length-map (c .more) (λ (g : Page). g .bit)))
 two-parts (c ∷ cs) (suc i) (suc j) h = simp length-append (omega (arith, two-parts cs i j (omega arith)))
 
-module _ (x : Index) (l : Laid x) where
+module _ (x : Index) (l : Laid x) (small : x .size ≤ scriptBlocks) where
   one-le : (b : ℕ) → length (entriesAt x b) ≤ 5000
   one-le b =
       omega (
@@ -59,7 +60,6 @@ module _ (x : Index) (l : Laid x) where
         one-part (x .chains) b,
         bits-le x l,
         laid-room x l,
-        l .size,
         l .two,
       )
 
@@ -72,7 +72,6 @@ module _ (x : Index) (l : Laid x) where
         two-parts (x .chains) (oldBucket x) (newBucket x) (split-lt (x .maxBucket) (l .two)),
         bits-le x l,
         laid-room x l,
-        l .size,
       )
 
   sources-le : (x .job ≢ idle → 2 ≤ x .maxBucket) → (h : ℕ) → length (sources x h) ≤ 5000

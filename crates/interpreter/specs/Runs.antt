@@ -7,7 +7,8 @@ use lib.ListN.{length}
 use Rattle.text.specs.Text.{Wrote, lineOutput}
 use Rattle.interpreter.specs.Script.{Turn}
 use Rattle.model.specs.declared.LookupAnswer.{LookupAnswer}
-use Rattle.interpreter.specs.Feed.{scriptBlocks, storeBytes, over}
+use Rattle.interpreter.specs.Feed.{storeBytes, over}
+use Rattle.interpreter.specs.Script.{scriptBlocks}
 
 -- the store that stands is that of the turn, of `blocks` blocks, and later bytes stay
 pub record Stands (t : List ℕ) (old new : List ℕ) (blocks : ℕ) : Type 0 where

@@ -4,7 +4,7 @@ use mathlib.Core.Bool.{Bool, true, false, _&&_}
 use mathlib.Core.List.{List, _++_}
 use Prim.Native.Nat.{ℕ, _+_, _*_, _/_, _%_, _≤_, _<_}
 use native.Mathlib.Omega.{arith}
-use borrow.Author.Tests.{leb-true, lt-leb}
+use borrow.Author.Tests.{leb-true, le-leb, lt-leb}
 use lib.Dec.{eqb, leb}
 use lib.ListN.{length, take, drop, replicate, length-replicate, take-append-drop}
 use lib.Seq.{length-take-le}
@@ -19,13 +19,13 @@ use Rattle.model.specs.Answers.{refusalNo}
 use Rattle.model.specs.Index.{Index}
 use Rattle.model.specs.Held.{matches}
 use Rattle.model.specs.Calls.{sizeOk, fillOk, format, listed, lookup}
-use Rattle.address.specs.Limits.{maxBlocks}
 use Rattle.image.specs.Layout.{encode}
-use Rattle.outcomes.specs.Outcomes.{Tested, passed, failed, tested, Changed, formatOn, formatOutcome}
+use Rattle.outcomes.specs.Outcomes.{Tested, passed, failed, tested, formatOn, formatOutcome}
 use Rattle.image.specs.Rules.{lengthOk}
 use Rattle.outcomes.specs.Outcomes.{lookupOn, lookupOutcome}
-use Rattle.interpreter.specs.Script.{Turn, formatTurn, runCommand}
-use Rattle.interpreter.specs.Feed.{scriptBlocks, over}
+use Rattle.interpreter.specs.Script.{Turn, formatTurn, formatLine, runCommand}
+use Rattle.interpreter.specs.Feed.{over}
+use Rattle.interpreter.specs.Script.{scriptBlocks}
 use Rattle.interpreter.specs.Runs.{Stands, Runs, Room, Roomy}
 
 -- ---- the store that stands
@@ -96,11 +96,13 @@ format-turn s t line n fill old e =
     both true false y = refl
     both true true y = refl
 
-module _ (s : List ℕ) (line n fill : ℕ) (old : List ℕ) (size : length s ≡ 512 * n) where
+module _ (s : List ℕ) (line n fill : ℕ) (old : List ℕ) (size : length s ≡ 512 * n) (few : n ≤ scriptBlocks) where
   same : formatTurn line n fill (formatOutcome s fill .answer) old (formatOutcome s fill .store)
       ≡ runCommand (Command.Format n fill) line old
   unfolding runCommand
-  same = format-turn s (replicate (512 * n) 0) line n fill old (size ∙ sym (length-replicate (512 * n) 0))
+  same =
+      format-turn s (replicate (512 * n) 0) line n fill old (size ∙ sym (length-replicate (512 * n) 0))
+      ∙ ap (λ (b : Bool). formatLine b n fill line old) (sym (le-leb n scriptBlocks few))
 
   pub format-done : formatOutcome s fill .answer ≡ Answer.Done
       → record { text = storeText n fill; store = formatOutcome s fill .store }
@@ -122,22 +124,8 @@ format-kept s fill r e = go (lengthOk s) (fillOk fill) (encode (format (blocks s
     go true false y q = refl
     go true true y q = let z : _≡_ {A = ℕ} 0 1 = cc in absurd (omega arith)
 
-and-no : (a : Bool) → a && false ≡ false
-and-no true = refl
-and-no false = refl
-
-unfit : (n : ℕ) → 128 < n → lengthOk (replicate (512 * n) 0) ≡ false
-unfolding lengthOk blocks
-unfit n h =
-    let size : length (replicate {A = ℕ} (512 * n) 0) ≡ 512 * n = length-replicate (512 * n) 0 in
-    let count : length (replicate {A = ℕ} (512 * n) 0) / 512 ≡ n = omega arith in
-    rw (count, lt-leb n maxBlocks h, and-no (leb 4 n)) (and-no (eqb (length (replicate {A = ℕ} (512 * n) 0) % 512) 0))
-
--- N above 128 gets 1
-pub format-large : (line n fill : ℕ) (old : List ℕ) → 128 < n
+-- N above the script's gets 1
+pub format-large : (line n fill : ℕ) (old : List ℕ) → scriptBlocks < n
     → record { text = refusedText line 1; store = old } ≡ runCommand (Command.Format n fill) line old
-unfolding formatOutcome lengthOk blocks runCommand
-format-large line n fill old h =
-    let z = replicate {A = ℕ} (512 * n) 0 in
-    let c : Bool → Changed = λ l. formatOn l (fillOk fill) z (encode (format (blocks z) fill)) in
-    ap (λ (l : Bool). formatTurn line n fill (c l .answer) old (c l .store)) (sym (unfit n h))
+unfolding runCommand
+format-large line n fill old h = ap (λ (b : Bool). formatLine b n fill line old) (sym (lt-leb n scriptBlocks h))

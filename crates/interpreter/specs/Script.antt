@@ -1,6 +1,8 @@
 -- docs/RULES.md 8, "The script": from the bytes of a script to the bytes that it writes.
+use mathlib.Core.Bool.{Bool, true, false}
 use mathlib.Core.List.{List, [], _∷_, _++_}
 use Prim.Native.Nat.{ℕ, _+_, _*_}
+use lib.Dec.{leb}
 use lib.ListN.{replicate}
 use Rattle.line.specs.declared.Command.{Command}
 use Rattle.line.specs.Words.{parts}
@@ -38,14 +40,23 @@ abbrev pub formatTurn : (line blocks fill : ℕ) → Answer → (old new : List 
 formatTurn line n fill Answer.Done old new = record { text = storeText n fill; store = new }
 formatTurn line n fill (Answer.Refused r) old new = record { text = refusedText line (refusalNo r); store = old }
 
+-- the script's own largest N: "the 5,000 matches that 128 blocks can hold"
+abbrev pub scriptBlocks : ℕ
+scriptBlocks = 128
+
+-- an f, by whether N is at most that: "A number that is outside its field gets 2, N gets 1."
+abbrev pub formatLine : (small : Bool) → (blocks fill line : ℕ) → (store : List ℕ) → Turn
+formatLine true n fill line s =
+    let c = formatOutcome (replicate (512 * n) 0) fill in formatTurn line n fill (c .answer) s (c .store)
+formatLine false n fill line s = record { text = refusedText line 1; store = s }
+
 -- "A lookup lends 30,000 bytes"
 abbrev pub lent : ℕ
 lent = 30000
 
 -- the call of a line on the store that stands; "Anything else .. is refusal 10"
 unfoldable pub runCommand : Command → (line : ℕ) → (store : List ℕ) → Turn
-runCommand (Command.Format n fill) line s =
-    let c = formatOutcome (replicate (512 * n) 0) fill in formatTurn line n fill (c .answer) s (c .store)
+runCommand (Command.Format n fill) line s = formatLine (leb n scriptBlocks) n fill line s
 runCommand (Command.Insert h b o) line s =
     let c = insertOutcome s (record { hash = h; block = b; offset = o }) in
     record { text = answerText line (c .answer); store = c .store }

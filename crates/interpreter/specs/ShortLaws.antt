@@ -30,7 +30,7 @@ not-short [] empty h m e = never (cc)
 not-short s (bytes x d) h m e = go (leb (length (matches x h)) (length (replicate {A = ℕ} lent 0) / 6)) room found
   where
     few : length (matches x h) ≤ 5000
-    few = matches-few x (d .wf .laid) (d .begun) h
+    few = matches-few x (d .wf .laid) (d .small) (d .begun) h
 
     room : leb (length (matches x h)) (length (replicate {A = ℕ} lent 0) / 6) ≡ true
     room =

@@ -13,12 +13,14 @@ use Rattle.image.specs.Layout.{encode}
 use Rattle.outcomes.specs.Outcomes.{lookupOutcome}
 use Rattle.interpreter.specs.declared.ScriptState.{ScriptState}
 use Rattle.interpreter.specs.Script.{lent, runCommand}
-use Rattle.interpreter.specs.Feed.{tooMany, scriptBlocks, storeBytes}
+use Rattle.interpreter.specs.Feed.{tooMany, storeBytes}
+use Rattle.interpreter.specs.Script.{scriptBlocks}
 
--- the indexes that calls make from a format on: only a begin makes a job, and it makes a bucket
+-- the indexes that a script's calls make from a format on: only a begin makes a job, and it makes a bucket
 pub record Made (x : Index) : Type 0 where
   pub wf : WF x
   pub begun : x .job ≢ idle → 2 ≤ x .maxBucket
+  pub small : x .size ≤ scriptBlocks
 
 -- none, or the bytes of such an index
 pub data ScriptStore : List ℕ → Type 0 where

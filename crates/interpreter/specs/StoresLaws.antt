@@ -5,7 +5,9 @@ use mathlib.Core.Bool.{Bool, true, false}
 use mathlib.Core.List.{List, [], _∷_}
 use Prim.Native.Nat.{ℕ, _*_, _/_, _≤_}
 use native.Mathlib.Omega.{arith}
-use lib.ListN.{length, replicate}
+use borrow.Author.Tests.{leb-true}
+use lib.Dec.{leb}
+use lib.ListN.{length, replicate, length-replicate}
 use Rattle.lists.specs.Block.{blocks}
 use Rattle.line.specs.declared.Command.{Command}
 use Rattle.line.specs.FitsLaws.{CommandFits}
@@ -26,8 +28,7 @@ use Rattle.image.specs.Rules.{lengthOk}
 use Rattle.outcomes.specs.Outcomes.{workOutcome, runStore}
 use Rattle.outcomes.specs.OutcomeIndexLaws.{run-encode, run-wf}
 use Rattle.outcomes.specs.OutcomeSoundLaws.{legal-size}
-use Rattle.interpreter.specs.Script.{formatTurn, runCommand}
-use Rattle.interpreter.specs.Feed.{scriptBlocks}
+use Rattle.interpreter.specs.Script.{scriptBlocks, formatTurn, formatLine, runCommand}
 use Rattle.interpreter.specs.Stores.{Made, ScriptStore, empty, bytes}
 
 -- ---- a job of two buckets comes from no call: only a begin makes one
@@ -49,13 +50,34 @@ begun-step x y h e one n = go (x .job) refl
     go copying q = busy (λ r. never (cc))
     go clearing q = busy (λ r. never (cc))
 
+size-step : (x y : Index) → step x ≡ next y → y .size ≡ x .size
+size-step x y e = go (x .job) refl
+  where
+    go : (j : Job) → x .job ≡ j → y .size ≡ x .size
+    go idle q = begin-frame x y q e .size
+    go copying q = job-frame x y (λ r. never (cc)) e .size
+    go clearing q = job-frame x y (λ r. never (cc)) e .size
+
 made-step : (x y : Index) → Made x → step x ≡ next y → Made y
 made-step x y m e =
-    record { wf = step-wf x y (m .wf) e; begun = begun-step x y (m .begun) e (m .wf .laid .two) }
+    record {
+      wf = step-wf x y (m .wf) e;
+      begun = begun-step x y (m .begun) e (m .wf .laid .two);
+      small = omega (arith, size-step x y e, m .small);
+    }
 
 -- format of the model, by its tests
 abbrev formatAs : (size fill : Bool) → Index → Result
 formatAs = Rattle.model.specs.Calls.formatIn
+
+size-format : (x : Index) (fill : ℕ) (y : Index) → formatted x fill ≡ done y → y .size ≡ x .size
+unfolding formatted format
+size-format x fill y e = go (sizeOk (x .size)) (fillOk fill) e
+  where
+    go : (a b : Bool) → formatAs a b (format (x .size) fill) ≡ done y → y .size ≡ x .size
+    go false b e = never (cc)
+    go true false e = never (cc)
+    go true true e = let q : format (x .size) fill ≡ y = cc in ap (λ (z : Index). z .size) (sym q)
 
 begun-format : (x : Index) (fill : ℕ) (y : Index) → formatted x fill ≡ done y → Begun y
 unfolding formatted format
@@ -71,22 +93,30 @@ made-settled : (x : Index) (r : Result) → Begun x → ((y : Index) → r ≡ d
 made-settled x (done y) h f = f y refl
 made-settled x (refused r) h f = h
 
+size-settled : (x : Index) (r : Result) → x .size ≤ scriptBlocks → ((y : Index) → r ≡ done y → y .size ≡ x .size)
+    → settled x r .state .size ≤ scriptBlocks
+size-settled x (done y) h f = omega (arith, f y refl)
+size-settled x (refused r) h f = h
+
 made-run : (c : Call) → CallFits c → (x : Index) → Made x → Made (runIndex c x .state)
 unfolding runIndex work
 made-run (formatting fill) f x m =
     record {
       wf = run-wf (formatting fill) f x (m .wf);
       begun = made-settled x (formatted x fill) (m .begun) (λ y e. begun-format x fill y e);
+      small = size-settled x (formatted x fill) (m .small) (λ y e. size-format x fill y e);
     }
 made-run (inserting p) f x m =
     record {
       wf = run-wf (inserting p) f x (m .wf);
       begun = made-settled x (insert x p) (m .begun) (λ y e. begun-same (insert-frame x p y e) (m .begun));
+      small = size-settled x (insert x p) (m .small) (λ y e. insert-frame x p y e .frame .size);
     }
 made-run (removing p) f x m =
     record {
       wf = run-wf (removing p) f x (m .wf);
       begun = made-settled x (remove x p) (m .begun) (λ y e. begun-same (remove-frame x p y e) (m .begun));
+      small = size-settled x (remove x p) (m .small) (λ y e. remove-frame x p y e .frame .size);
     }
 made-run (looking h out) f x m = m
 made-run (working budget) f x m = go (budgetOk budget)
@@ -107,10 +137,10 @@ call-store c f s (bytes x m) e =
     (bytes (runIndex c x .state) (made-run c f x m))
 
 -- an accepted f makes one, and a refused one leaves what stands
-format-store : (line n fill : ℕ) (z s : List ℕ) → ScriptStore s
+format-store : (line n fill : ℕ) (z s : List ℕ) → blocks z ≤ scriptBlocks → ScriptStore s
     → let c = formatOutcome z fill in ScriptStore (formatTurn line n fill (c .answer) s (c .store) .store)
 unfolding formatOutcome format
-format-store line n fill z s p = go (lengthOk z) refl (fillOk fill) refl
+format-store line n fill z s few p = go (lengthOk z) refl (fillOk fill) refl
   where
     go : (l : Bool) → lengthOk z ≡ l → (f : Bool) → fillOk fill ≡ f
         → let c = formatOn l f z (encode (format (blocks z) fill)) in
@@ -119,12 +149,24 @@ format-store line n fill z s p = go (lengthOk z) refl (fillOk fill) refl
     go true h false k = p
     go true h true k =
         bytes (format (blocks z) fill)
-        (record { wf = format-wf (blocks z) fill (legal-size z h) k; begun = λ n. absurd (n refl) })
+        (record { wf = format-wf (blocks z) fill (legal-size z h) k; begun = λ n. absurd (n refl); small = few })
+
+-- N of the script's, or refusal 1
+line-store : (line n fill : ℕ) (s : List ℕ) → ScriptStore s
+    → ScriptStore (formatLine (leb n scriptBlocks) n fill line s .store)
+unfolding blocks
+line-store line n fill s p = go (leb n scriptBlocks) refl
+  where
+    go : (t : Bool) → leb n scriptBlocks ≡ t → ScriptStore (formatLine t n fill line s .store)
+    go true e =
+        format-store line n fill (replicate (512 * n) 0) s
+        (omega (arith, leb-true n scriptBlocks e, length-replicate {A = ℕ} (512 * n) 0)) p
+    go false e = p
 
 pub store-after : (c : Command) → CommandFits c → (line : ℕ) (s : List ℕ)
     → ScriptStore s → ScriptStore (runCommand c line s .store)
 unfolding runCommand runStore insertOutcome removeOutcome workOutcome tested lengthOk blocks
-store-after (Command.Format n fill) f line s p = format-store line n fill (replicate (512 * n) 0) s p
+store-after (Command.Format n fill) f line s p = line-store line n fill s p
 store-after (Command.Insert h b o) f line s p =
     call-store (inserting (record { hash = h; block = b; offset = o })) f s p refl
 store-after (Command.Remove h b o) f line s p =
@@ -139,5 +181,5 @@ unfolding blocks
 store-size [] empty = (refl, omega arith)
 store-size s (bytes x m) =
     let g = encoding-is-sound x (m .wf) in
-    let few = m .wf .laid .size in
+    let few = m .small in
     (omega (arith, g .size), omega (arith, g .size, few))

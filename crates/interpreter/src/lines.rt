@@ -10,7 +10,8 @@ use std::num::wrapping_add_u64;
 ghost use mathlib.Core.Path.{_≡_};
 ghost use Prim.Native.Nat.{_*_, _≤_};
 ghost use lib.ListN.{length, take};
-ghost use Rattle.interpreter.specs.Feed.{scriptBlocks, pendingCommand, lineEnds, fedAs};
+ghost use Rattle.interpreter.specs.Feed.{pendingCommand, lineEnds, fedAs};
+ghost use Rattle.interpreter.specs.Script.{scriptBlocks};
 ghost use Rattle.interpreter.specs.Runs.{Room};
 ghost use Rattle.interpreter.specs.Held.{kept, gatherIn};
 

@@ -75,7 +75,7 @@ returns-2 c =
     let a = e .before .before .before .args in
     runs-as
     (format-done (take (512 * a .blocks) (a .store .now)) (a .line) (a .blocks) (a .fill)
-    (take (512 * a .standing) (a .store .now)) (part e)
+    (take (512 * a .standing) (a .store .now)) (part e) (e .if1 .left)
     (sym (f .format .ensures .0) ∙ k .enum-told .given .1))
     (record {
       store = stands-made (a .store .now) _ (f .format .last .0) (e .if1 .left) (f .format .kept .0 ∙ part e)
@@ -103,7 +103,7 @@ returns-3 c =
     let kept : f .format .last .0 ++ drop (512 * a .blocks) old ≡ old =
     ap (λ (x : List ℕ). x ++ drop (512 * a .blocks) old) (f .format .ensures .1 ∙ format-kept now (a .fill) _ no)
     ∙ take-append-drop (512 * a .blocks) old in
-    runs-as (format-refused now (a .line) (a .blocks) (a .fill) (take (512 * a .standing) old) (part e) _ no)
+    runs-as (format-refused now (a .line) (a .blocks) (a .fill) (take (512 * a .standing) old) (part e) (e .if1 .left) _ no)
     (record {
       store = subst (λ (x : List ℕ). Stands (take (512 * a .standing) old) old x (a .standing)) (sym kept)
           (stands-kept (s .pre));

@@ -1,7 +1,8 @@
 use mathlib.Core.Path.{refl}
 use borrow.Author.Tests.{le-leb, lt-leb}
 use lib.ListN.{length}
-use Rattle.interpreter.specs.Feed.{tooMany, scriptBlocks, storeBytes}
+use Rattle.interpreter.specs.Feed.{tooMany, storeBytes}
+use Rattle.interpreter.specs.Script.{scriptBlocks}
 use Rattle.interpreter.proofs.feed.is_ready.Statement.{statement}
 use Rattle.interpreter.proofs.feed.is_ready.Tie as tie
 
