@@ -10,6 +10,7 @@ use Rattle.endian.specs.Endian.{u16At, u32At}
 use Rattle.address.specs.Address.{splitFrom, point, bucketBlock}
 use Rattle.address.specs.Role.{Role, meta, bucketPage, bitPage, unmade, roleOf}
 use Rattle.page.specs.Entries.{entriesOf}
+use Rattle.store.specs.Flags.{populatedFlags, cleanupFlags}
 use Rattle.store.specs.Store.{nextAt, flagsAt}
 use Rattle.model.specs.Index.{Page, Chain, Job, idle, copying, clearing, Index}
 use Rattle.image.specs.declared.Meta.{Meta}
@@ -52,7 +53,7 @@ bitFrom unmade = 0
 
 -- by the flags of the max bucket's page and of the page of the bucket that it split off from
 abbrev pub jobFrom : (new old : ℕ) → Job
-jobFrom new old = cond (eqb new 18) copying (cond (eqb old 66) clearing idle)
+jobFrom new old = cond (eqb new populatedFlags) copying (cond (eqb old cleanupFlags) clearing idle)
 
 module _ (s : List ℕ) where
   abbrev pub metaAt : Meta

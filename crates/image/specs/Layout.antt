@@ -11,6 +11,8 @@ use Rattle.address.specs.Address.{highMask, lowMask, splitFrom, lastSplit, poin
 use Rattle.address.specs.Role.{Role, meta, bucketPage, bitPage, unmade, roleOf}
 use Rattle.page.specs.declared.Entry.{Entry}
 use Rattle.page.specs.Entries.{encodePage}
+use Rattle.store.specs.Flags.{overflowFlags, bucketFlags, bitmapFlags, metaFlags}
+use Rattle.store.specs.Flags.{populatedFlags, splitFlags, cleanupFlags}
 use Rattle.store.specs.Store.{trailer, sealed}
 use Rattle.model.specs.Index.{Page, Chain, Job, idle, copying, clearing, Index, chain, topBit}
 use Rattle.model.specs.Pages.{bitsUsed, firstFree}
@@ -81,9 +83,9 @@ mapBit x n = b2n (not (isFree x n))
 
 -- the flags of bucket b's page: "bucket 2, .. being populated 16, being split 32, needs split cleanup 64"
 abbrev pub flagsIn : Job → (new old b : ℕ) → ℕ
-flagsIn idle new old b = 2
-flagsIn copying new old b = cond (eqb b new) 18 (cond (eqb b old) 34 2)
-flagsIn clearing new old b = cond (eqb b old) 66 2
+flagsIn idle new old b = bucketFlags
+flagsIn copying new old b = cond (eqb b new) populatedFlags (cond (eqb b old) splitFlags bucketFlags)
+flagsIn clearing new old b = cond (eqb b old) cleanupFlags bucketFlags
 
 unfoldable pub flagsOf : Index → ℕ → ℕ
 flagsOf x b = flagsIn (x .job) (x .maxBucket) (splitFrom (x .maxBucket)) b
@@ -126,13 +128,13 @@ bucketImage x b =
 
 abbrev pub overflowImage : Option LinkedPage → List ℕ
 overflowImage none = blank
-overflowImage (some g) = paged (encodePage (g .entries) []) (g .prev) (g .next) (g .bucket) 1
+overflowImage (some g) = paged (encodePage (g .entries) []) (g .prev) (g .next) (g .bucket) overflowFlags
 
 -- the block of a role; a bucket's block above max bucket is kept for it, and unused
 unfoldable pub image : Index → Role → List ℕ
-image x meta = paged (metaFront (metaOf x)) noLink noLink noLink 8
+image x meta = paged (metaFront (metaOf x)) noLink noLink noLink metaFlags
 image x (bucketPage b) = cond (leb b (x .maxBucket)) (bucketImage x b) blank
-image x (bitPage zero) = paged (mapFront (mapBit x)) noLink noLink noLink 4
+image x (bitPage zero) = paged (mapFront (mapBit x)) noLink noLink noLink bitmapFlags
 image x (bitPage (suc n)) = overflowImage (find (λ g. eqb (suc n) (g .bit)) (linkedPages x))
 image x unmade = blank
 

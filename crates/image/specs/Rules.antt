@@ -15,6 +15,8 @@ use Rattle.address.specs.Role.{Role, meta, bucketPage, bitPage, unmade}
 use Rattle.page.specs.declared.Entry.{Entry}
 use Rattle.page.specs.Pair.{is}
 use Rattle.page.specs.Rule.{pageOk}
+use Rattle.store.specs.Flags.{overflowFlags, bucketFlags, bitmapFlags, metaFlags}
+use Rattle.store.specs.Flags.{populatedFlags, splitFlags, cleanupFlags, pageId}
 use Rattle.store.specs.Store.{prevAt, nextAt, bucketAt, flagsAt, idAt, checked}
 use Rattle.model.specs.Index.{Job, idle, copying, clearing, Index, entriesAt, bucket, newBucket, oldBucket}
 use Rattle.model.specs.Held.{count}
@@ -57,22 +59,23 @@ unused l = allZero (part 0 508 l)
 -- "meta and bitmap have no links", nor a bucket
 abbrev pub unlinked : (flags : ℕ) → List ℕ → Bool
 unlinked flags l =
-    eqb (flagsAt l) flags && (eqb (idAt l) 0xFF80 && (eqb (prevAt l) noLink && (eqb (nextAt l) noLink && eqb (bucketAt l) noLink)))
+    eqb (flagsAt l) flags && (eqb (idAt l) pageId && (eqb (prevAt l) noLink && (eqb (nextAt l) noLink && eqb (bucketAt l) noLink)))
 
 -- "job flags stand only on max bucket (populated) and the bucket that it split off from (split ..
 -- or cleanup alone)"
 abbrev pub bucketFlagsOk : (max b flags : ℕ) → Bool
 bucketFlagsOk max b f =
-    eqb f 2 || ((eqb b max && eqb f 18) || (eqb b (splitFrom max) && (eqb f 34 || eqb f 66)))
+    eqb f bucketFlags
+    || ((eqb b max && eqb f populatedFlags) || (eqb b (splitFrom max) && (eqb f splitFlags || eqb f cleanupFlags)))
 
 -- "each block's flags, id and bucket fit its role .. any made overflow block but the bitmap is an overflow page (flags 1) or unused
 -- (flags 0), as its flags say, with a bucket at most max bucket"
 unfoldable pub fits : (max : ℕ) → Role → List ℕ → Bool
-fits max meta l = unlinked 8 l
+fits max meta l = unlinked metaFlags l
 fits max (bucketPage b) l =
-    cond (leb b max) (bucketFlagsOk max b (flagsAt l) && (eqb (idAt l) 0xFF80 && eqb (bucketAt l) b)) (unused l)
-fits max (bitPage zero) l = unlinked 4 l
-fits max (bitPage (suc n)) l = cond (eqb (flagsAt l) 1) (eqb (idAt l) 0xFF80 && leb (bucketAt l) max) (unused l)
+    cond (leb b max) (bucketFlagsOk max b (flagsAt l) && (eqb (idAt l) pageId && eqb (bucketAt l) b)) (unused l)
+fits max (bitPage zero) l = unlinked bitmapFlags l
+fits max (bitPage (suc n)) l = cond (eqb (flagsAt l) overflowFlags) (eqb (idAt l) pageId && leb (bucketAt l) max) (unused l)
 fits max unmade l = unused l
 
 -- a made overflow block, but for the bitmap, with the flags of an overflow page
@@ -80,7 +83,7 @@ unfoldable pub overflowAs : Role → List ℕ → Bool
 overflowAs meta l = false
 overflowAs (bucketPage b) l = false
 overflowAs (bitPage zero) l = false
-overflowAs (bitPage (suc n)) l = eqb (flagsAt l) 1
+overflowAs (bitPage (suc n)) l = eqb (flagsAt l) overflowFlags
 overflowAs unmade l = false
 
 -- ---- rules 5 and 7, of entries
@@ -119,7 +122,7 @@ module _ (s : List ℕ) where
   unfoldable pub rule3 : Bool
   rule3 =
       all (λ k. fits (maxAt s) (roleAt s k) (block s k)) (upFrom 0 (blocks s))
-      && Bool·beq (eqb (newFlags s) 18) (eqb (oldFlags s) 34)
+      && Bool·beq (eqb (newFlags s) populatedFlags) (eqb (oldFlags s) splitFlags)
 
   -- the chain of bucket b goes on from block k to the blocks js: "every next is none or an overflow page whose previous names the page it
   -- came from", of the chain's own bucket, and "none is empty"

@@ -7,6 +7,9 @@ use model::Answer;
 use model::Refusal;
 use store::Change;
 use store::finish;
+use store::flags::BITMAP;
+use store::flags::BUCKET;
+use store::flags::META;
 use store::put_block;
 use store::put_trailer;
 use verify::check_length;
@@ -16,6 +19,7 @@ ghost use Prim.Native.Nat.{_+_, _*_, _≤_};
 ghost use lib.ListN.{length, replicate};
 ghost use Rattle.lists.specs.Lists.{bind, upFrom};
 ghost use Rattle.lists.specs.Block.{blocks, setBlock};
+ghost use Rattle.store.specs.Flags.{bucketFlags, bitmapFlags, metaFlags};
 ghost use Rattle.store.specs.Store.{sealed};
 ghost use Rattle.model.specs.Calls.{fillOk};
 ghost use Rattle.image.specs.Layout.{noLink, paged};
@@ -33,7 +37,7 @@ fn check_fill(fill: u32) -> bool
 // The blocks of a new store, without their checks.
 
 fn build_meta(size: u32, fill: u16) -> [u8; 512]
-    ensures { λ r. ⌜ sealed r ≡ paged (formatMeta size fill) noLink noLink noLink 8 ⌝ }
+    ensures { λ r. ⌜ sealed r ≡ paged (formatMeta size fill) noLink noLink noLink metaFlags ⌝ }
 {
     let mut spares = [0u32; 16];
     spares[1] = 1;
@@ -52,27 +56,27 @@ fn build_meta(size: u32, fill: u16) -> [u8; 512]
             spares,
         },
     );
-    put_trailer(&mut body, NO_LINK, NO_LINK, NO_LINK, 8);
+    put_trailer(&mut body, NO_LINK, NO_LINK, NO_LINK, META);
     body
 }
 
 // The page of a bucket without entries, from which none has split off.
 fn build_bucket(bucket: u32) -> [u8; 512]
-    ensures { λ r. ⌜ sealed r ≡ paged (replicate 492 0) 1 noLink bucket 2 ⌝ }
+    ensures { λ r. ⌜ sealed r ≡ paged (replicate 492 0) 1 noLink bucket bucketFlags ⌝ }
 {
     let mut body = [0u8; 512];
-    put_trailer(&mut body, 1, NO_LINK, bucket, 2);
+    put_trailer(&mut body, 1, NO_LINK, bucket, BUCKET);
     body
 }
 
 // A bitmap whose bits are all 1.
 fn build_bitmap() -> [u8; 512]
-    ensures { λ r. ⌜ sealed r ≡ paged (replicate 256 255 ++ replicate 236 0) noLink noLink noLink 4 ⌝ }
+    ensures { λ r. ⌜ sealed r ≡ paged (replicate 256 255 ++ replicate 236 0) noLink noLink noLink bitmapFlags ⌝ }
 {
     let ones = [255u8; 256];
     let mut body = [0u8; 512];
     copy_over(&mut body[..256], &ones);
-    put_trailer(&mut body, NO_LINK, NO_LINK, NO_LINK, 4);
+    put_trailer(&mut body, NO_LINK, NO_LINK, NO_LINK, BITMAP);
     body
 }
 

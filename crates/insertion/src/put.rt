@@ -19,6 +19,7 @@ use page::search::find_place;
 use plan::PutPlan;
 use store::Change;
 use store::block_at;
+use store::flags::OVERFLOW;
 use view::chains::room_in;
 ghost use mathlib.Core.Path.{_≡_};
 ghost use mathlib.Core.Bool.{true, false};
@@ -82,7 +83,7 @@ fn link_page(store: &[u8], b: u32, last: u32, k: u32, e: Entry, images: &mut [u8
     ensures { λ r. ⌜ Linked (now (store .entry)) b last k e r (now (images .exit)) ⌝ }
 {
     let linked = put_next(store, new_draft(), images, last, k);
-    write_page(store, linked, images, k, e, last, NO_LINK, b, 1)
+    write_page(store, linked, images, k, e, last, NO_LINK, b, OVERFLOW)
 }
 
 // The lowest free bit of a bitmap after bit `n` is taken, `top` without one.

@@ -4,6 +4,7 @@ use mathlib.Core.List.{List, _++_}
 use Prim.Native.Nat.{ℕ, zero, suc}
 use lib.ListN.{replicate}
 use Rattle.endian.specs.Endian.{le16, le32}
+use Rattle.store.specs.Flags.{bucketFlags, bitmapFlags, metaFlags}
 use Rattle.image.specs.Layout.{noLink, paged, blank}
 
 -- magic and edition, count 0, fill, max bucket 1, masks 3 and 1, overflow point 1, first free 1, N, spares[0] = 0,
@@ -15,8 +16,8 @@ formatMeta n fill =
 
 -- a bucket page has previous 1, no next, and flags 2
 unfoldable pub formatBlock : (n fill k : ℕ) → List ℕ
-formatBlock n fill zero = paged (formatMeta n fill) noLink noLink noLink 8
-formatBlock n fill (suc zero) = paged (replicate 492 0) 1 noLink 0 2
-formatBlock n fill (suc (suc zero)) = paged (replicate 492 0) 1 noLink 1 2
-formatBlock n fill (suc (suc (suc zero))) = paged (replicate 256 255 ++ replicate 236 0) noLink noLink noLink 4
+formatBlock n fill zero = paged (formatMeta n fill) noLink noLink noLink metaFlags
+formatBlock n fill (suc zero) = paged (replicate 492 0) 1 noLink 0 bucketFlags
+formatBlock n fill (suc (suc zero)) = paged (replicate 492 0) 1 noLink 1 bucketFlags
+formatBlock n fill (suc (suc (suc zero))) = paged (replicate 256 255 ++ replicate 236 0) noLink noLink noLink bitmapFlags
 formatBlock n fill (suc (suc (suc (suc k)))) = blank

@@ -8,6 +8,14 @@ use image::Meta;
 use model::Phase;
 use store::block_at;
 use store::bucket_at;
+use store::flags::BITMAP;
+use store::flags::BUCKET;
+use store::flags::CLEANUP;
+use store::flags::META;
+use store::flags::OVERFLOW;
+use store::flags::PAGE_ID;
+use store::flags::POPULATED;
+use store::flags::SPLIT;
 use store::flags_at;
 use store::id_at;
 use store::next_at;
@@ -61,7 +69,7 @@ pub fn is_overflow(store: &[u8], m: Meta, k: u32) -> bool
     match role_at(m, k) {
         BlockRole::Meta => false,
         BlockRole::Bucket(_) => false,
-        BlockRole::Bit(n) => n != 0 && flags_at(block_at(store, k as usize)) == 1,
+        BlockRole::Bit(n) => n != 0 && flags_at(block_at(store, k as usize)) == OVERFLOW,
         BlockRole::Unmade => false,
     }
 }
@@ -73,10 +81,10 @@ pub fn phase_of(store: &[u8], m: Meta) -> Phase
 {
     let new = m.max;
     let old = parent_of(new);
-    if flags_at(page_of(store, m, new)) == 18 {
+    if flags_at(page_of(store, m, new)) == POPULATED {
         return Phase::Copying { old, new };
     }
-    if flags_at(page_of(store, m, old)) == 66 {
+    if flags_at(page_of(store, m, old)) == CLEANUP {
         return Phase::Clearing { old, new };
     }
     Phase::None
@@ -97,7 +105,7 @@ fn is_unlinked(part: &[u8], flags: u16) -> bool
     if flags_at(part) != flags {
         return false;
     }
-    if id_at(part) != 0xFF80 {
+    if id_at(part) != PAGE_ID {
         return false;
     }
     if prev_at(part) != 0xFFFF_FFFF {
@@ -114,9 +122,9 @@ fn may_flag(max: u32, b: u32, flags: u16) -> bool
     ensures { λ r. ⌜ r ≡ bucketFlagsOk max b flags ⌝ }
 {
     match flags {
-        2 => true,
-        18 => b == max,
-        34 | 66 => b == parent_of(max),
+        BUCKET => true,
+        POPULATED => b == max,
+        SPLIT | CLEANUP => b == parent_of(max),
         _ => false,
     }
 }
@@ -132,7 +140,7 @@ fn fits_bucket(part: &[u8], max: u32, b: u32) -> bool
     if !may_flag(max, b, flags_at(part)) {
         return false;
     }
-    if id_at(part) != 0xFF80 {
+    if id_at(part) != PAGE_ID {
         return false;
     }
     bucket_at(part) == b
@@ -144,12 +152,12 @@ fn fits_bit(part: &[u8], max: u32, n: u32) -> bool
     ensures { λ r. ⌜ r ≡ fits max (bitPage n) (now (part .entry)) ⌝ }
 {
     if n == 0 {
-        return is_unlinked(part, 4);
+        return is_unlinked(part, BITMAP);
     }
-    if flags_at(part) != 1 {
+    if flags_at(part) != OVERFLOW {
         return is_unused(part);
     }
-    if id_at(part) != 0xFF80 {
+    if id_at(part) != PAGE_ID {
         return false;
     }
     bucket_at(part) <= max
@@ -161,7 +169,7 @@ pub fn fits_role(part: &[u8], max: u32, role: BlockRole) -> bool
     ensures { λ r. ⌜ r ≡ fits max (asRole role) (now (part .entry)) ⌝ }
 {
     match role {
-        BlockRole::Meta => is_unlinked(part, 8),
+        BlockRole::Meta => is_unlinked(part, META),
         BlockRole::Bucket(b) => fits_bucket(part, max, b),
         BlockRole::Bit(n) => fits_bit(part, max, n),
         BlockRole::Unmade => is_unused(part),
@@ -193,7 +201,7 @@ pub fn check_roles(store: &[u8], m: Meta) -> bool
     if !check_fits(store, m) {
         return false;
     }
-    let populated = flags_at(page_of(store, m, m.max)) == 18;
-    let split = flags_at(page_of(store, m, parent_of(m.max))) == 34;
+    let populated = flags_at(page_of(store, m, m.max)) == POPULATED;
+    let split = flags_at(page_of(store, m, parent_of(m.max))) == SPLIT;
     populated == split
 }

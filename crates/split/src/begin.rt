@@ -15,7 +15,8 @@ use draft::trim::drop_unchanged;
 use image::Meta;
 use plan::PutPlan;
 use store::Change;
-use view::job::POPULATED;
+use store::flags::POPULATED;
+use store::flags::SPLIT;
 ghost use mathlib.Core.Path.{_≡_};
 ghost use mathlib.Core.Bool.{true};
 ghost use mathlib.Core.Option.{some};
@@ -30,9 +31,6 @@ ghost use Rattle.chain.specs.FindLaws.{isSome};
 ghost use Rattle.view.specs.Reads.{Reads};
 ghost use Rattle.plan.specs.Plan.{Plans, Places};
 ghost use Rattle.split.specs.Begin.{Begun};
-
-// A bucket page's flags: bucket, being split.
-const SPLIT: u16 = 2 + 32;
 
 // Whether the new bucket's overflow point is made or has room to be: where it is made, the made blocks are at most N.
 fn has_room(m: Meta) -> bool

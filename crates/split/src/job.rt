@@ -6,7 +6,8 @@ use draft::new_draft;
 use draft::trim::drop_unchanged;
 use image::Meta;
 use store::Change;
-use view::job::CLEANUP;
+use store::flags::BUCKET;
+use store::flags::CLEANUP;
 ghost use mathlib.Core.Path.{_≡_};
 ghost use mathlib.Core.List.{List};
 ghost use mathlib.Core.Option.{none};
@@ -22,9 +23,6 @@ ghost use Rattle.image.specs.Decode.{decode};
 ghost use Rattle.draft.specs.Draft.{Ready, Edited};
 ghost use Rattle.view.specs.Reads.{Reads};
 ghost use Rattle.plan.specs.Plan.{Plans};
-
-// The flags of a bucket page that has no part in a job.
-const BUCKET: u16 = 2;
 
 // Writes the flags of bucket `b`'s page.
 pub fn mark_bucket(

@@ -1,3 +1,4 @@
+pub mod Flags
 pub mod Store
 pub mod TrailerLaws
 pub mod CheckLaws

@@ -9,6 +9,7 @@ use lib.ListN.{length, getD, take}
 use Rattle.lists.specs.Block.{block, setBlock}
 use Rattle.endian.specs.Endian.{le16, le32, u16At, u32At}
 use Rattle.crc32c.specs.Crc.{crcOf}
+use Rattle.store.specs.Flags.{pageId}
 
 -- ---- the trailer's fields, of a block's bytes
 
@@ -29,7 +30,7 @@ idAt l = u16At l 506
 
 -- bytes 492..507
 unfoldable pub trailer : (prev next bucket flags : ℕ) → List ℕ
-trailer prev next bucket flags = le32 prev ++ (le32 next ++ (le32 bucket ++ (le16 flags ++ le16 0xFF80)))
+trailer prev next bucket flags = le32 prev ++ (le32 next ++ (le32 bucket ++ (le16 flags ++ le16 pageId)))
 
 -- ---- the check
 

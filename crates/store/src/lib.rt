@@ -1,4 +1,8 @@
 // Blocks of a store: their trailers and checks, and a change of some of them.
+
+pub mod flags; // flags.rt: the flags and the page id by name
+
+use crate::flags::PAGE_ID;
 use crc32c::crc32c;
 use endian::get_u16;
 use endian::get_u32;
@@ -79,7 +83,7 @@ pub fn put_trailer(image: &mut [u8], prev: u32, next: u32, bucket: u32, flags: u
     put_u32(image, 496, next);
     put_u32(image, 500, bucket);
     put_u16(image, 504, flags);
-    put_u16(image, 506, 0xFF80);
+    put_u16(image, 506, PAGE_ID);
 }
 
 // The check that a block should have.

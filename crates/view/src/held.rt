@@ -2,12 +2,12 @@
 use crate::Sources;
 use crate::chains::bucket_flags;
 use crate::chains::find_in;
-use crate::job::POPULATED;
 use address::bucket_of;
 use address::parent_of;
 use chain::Found;
 use image::Meta;
 use page::Pair;
+use store::flags::POPULATED;
 ghost use mathlib.Core.Path.{_≡_};
 ghost use Rattle.image.specs.Decode.{decode};
 ghost use Rattle.model.specs.Held.{held};

@@ -4,15 +4,12 @@ use address::parent_of;
 use image::Meta;
 use model::Phase;
 use model::Standing;
+use store::flags::CLEANUP;
+use store::flags::POPULATED;
 ghost use mathlib.Core.Path.{_≡_};
 ghost use Rattle.image.specs.Decode.{decode};
 ghost use Rattle.model.specs.Calls.{standing};
 ghost use Rattle.view.specs.Reads.{Reads, phaseOf};
-
-// A bucket page's flags: bucket, and being populated or needs split cleanup.
-pub const POPULATED: u16 = 2 + 16;
-
-pub const CLEANUP: u16 = 2 + 64;
 
 pub fn read_job(store: &[u8], m: Meta) -> Phase
     requires { ⌜ Reads (now store) m ⌝ }
