@@ -9,7 +9,7 @@ use lib.ListN.{length, take, set}
 use lib.Seq.{take-suc-set, length-take-le}
 use Rattle.lists.specs.Block.{blocks, block}
 use Rattle.store.specs.Store.{nextAt}
-use Rattle.image.specs.Layout.{noLink}
+use Rattle.store.specs.Flags.{noLink}
 use Rattle.image.specs.Decode.{follow}
 use Rattle.chain.specs.Walk.{walk, Walked}
 use Rattle.chain.specs.WalkLaws.{follow-done, follow-none, follow-next}

@@ -13,7 +13,7 @@ use Rattle.lists.specs.Block.{blocks, block}
 use Rattle.endian.specs.Endian.{u32At}
 use Rattle.store.specs.Store.{nextAt}
 use Rattle.address.specs.Limits.{maxBlocks}
-use Rattle.image.specs.Layout.{noLink}
+use Rattle.store.specs.Flags.{noLink}
 use Rattle.image.specs.Decode.{follow, blockOf, trail}
 use Rattle.image.specs.Rules.{lengthOk}
 use Rattle.chain.specs.Walk.{walk, lastOf, Sized}

@@ -5,9 +5,6 @@ pub mod bitmap; // bitmap.rt: the lowest free bit
 
 use address::limits::MAX_BLOCKS;
 
-// A link field's "none".
-pub const NO_LINK: u32 = 0xFFFFFFFF;
-
 // The blocks of a chain, in order: the first `count` of `blocks`.
 pub struct Walk {
     pub count: usize,

@@ -1,8 +1,8 @@
 // The blocks of a chain: the one loop that follows next fields, and the page at an index of a walk.
-use crate::NO_LINK;
 use crate::Walk;
 use address::limits::MAX_BLOCKS;
 use store::block_at;
+use store::flags::NO_LINK;
 use store::next_at;
 ghost use mathlib.Core.Path.{_≡_};
 ghost use Prim.Native.Nat.{_<_};

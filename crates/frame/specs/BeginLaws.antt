@@ -29,7 +29,8 @@ use Rattle.model.specs.WellFormed.{uses, Laid}
 use Rattle.model.specs.ViewLaws.{Beginning, samePoint, newPoint}
 use Rattle.model.specs.LaidLaws.{chain-wider, begin-laid}
 use Rattle.model.specs.MachineLaws.{never}
-use Rattle.image.specs.Layout.{noLink, paged, blank, mapFront, isFree, flagsIn, flagsOf, LinkedPage, nextOf}
+use Rattle.image.specs.Layout.{paged, blank, mapFront, isFree, flagsIn, flagsOf, LinkedPage, nextOf}
+use Rattle.store.specs.Flags.{noLink}
 use Rattle.image.specs.Layout.{linkedOf, linkedFrom, linkedPages, bucketImage, overflowImage, image}
 use Rattle.image.specs.Layout.{encodeBlock}
 use Rattle.frame.specs.Frame.{Apart, blockOfBit, beginBlocks}

@@ -18,7 +18,8 @@ use Rattle.model.specs.Steps.{widen}
 use Rattle.model.specs.WellFormed.{Laid}
 use Rattle.model.specs.ViewLaws.{Beginning, samePoint, newPoint}
 use Rattle.model.specs.LaidLaws.{chain-wider, begin-laid}
-use Rattle.image.specs.Layout.{noLink, paged, flagsOf, nextOf, bucketImage, encodeBlock}
+use Rattle.image.specs.Layout.{paged, flagsOf, nextOf, bucketImage, encodeBlock}
+use Rattle.store.specs.Flags.{noLink}
 use Rattle.frame.specs.Frame.{pageBlock}
 use Rattle.image.specs.BoundLaws.{max-under}
 use Rattle.frame.specs.ImagesLaws.{next-first, bucket-image}

@@ -23,7 +23,8 @@ use Rattle.model.specs.Pages.{bitsOf, bitsUsed}
 use Rattle.model.specs.WellFormed.{uses, Laid}
 use Rattle.model.specs.StandLaws.{chain-here, chain-there}
 use Rattle.model.specs.LaidLaws.{bits-set}
-use Rattle.image.specs.Layout.{noLink, paged, blank, mapFront, isFree, flagsOf, LinkedPage, nextOf, linkedOf}
+use Rattle.image.specs.Layout.{paged, blank, mapFront, isFree, flagsOf, LinkedPage, nextOf, linkedOf}
+use Rattle.store.specs.Flags.{noLink}
 use Rattle.image.specs.Layout.{linkedFrom, bucketImage, overflowImage, image, encodeBlock}
 use Rattle.frame.specs.Frame.{blockOfBit, mapBlock}
 use Rattle.frame.specs.ListsLaws.{find-append}

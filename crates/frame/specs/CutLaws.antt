@@ -19,7 +19,8 @@ use Rattle.model.specs.Index.{Page, Index, onPages}
 use Rattle.model.specs.Pages.{thinEntries, thin, inUse}
 use Rattle.model.specs.WellFormed.{MoreOk}
 use Rattle.model.specs.MachineLaws.{never}
-use Rattle.image.specs.Layout.{noLink, LinkedPage, nextOf, linkedOf}
+use Rattle.image.specs.Layout.{LinkedPage, nextOf, linkedOf}
+use Rattle.store.specs.Flags.{noLink}
 use Rattle.frame.specs.Frame.{Apart, blockOfBit, blocksAfter, onPage, morePlace, frees}
 use Rattle.frame.specs.ListsLaws.{find-pass, find-cons, find-skip}
 use Rattle.image.specs.LinkedLaws.{hasBit}

@@ -17,7 +17,8 @@ use Rattle.model.specs.WellFormed.{Laid, WF}
 use Rattle.model.specs.StandLaws.{chain-there}
 use Rattle.model.specs.HeldLaws.{old-new, old-range, new-range}
 use Rattle.model.specs.LaidLaws.{cut-laid}
-use Rattle.image.specs.Layout.{noLink, encodeBlock}
+use Rattle.image.specs.Layout.{encodeBlock}
+use Rattle.store.specs.Flags.{noLink}
 use Rattle.frame.specs.Frame.{Apart, blockOfBit, chainBlocks, morePlace, pairPlace, frees, freesAt, pageBlock}
 use Rattle.frame.specs.Frame.{mapBlocks, pairBlocks, cutBlocks, cutsBlocks}
 use Rattle.frame.specs.RemoveLaws.{stands-once, frame-cut}

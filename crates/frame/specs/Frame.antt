@@ -16,7 +16,8 @@ use Rattle.model.specs.Index.{Page, Chain, Job, idle, copying, clearing, Index,
 use Rattle.model.specs.Index.{oldBucket, topBit}
 use Rattle.model.specs.Pages.{hasRoom, pageRoom, chainRoom, thin, inUse, freeBit}
 use Rattle.model.specs.Steps.{moves, toCopy}
-use Rattle.image.specs.Layout.{noLink, paged, flagsOf}
+use Rattle.image.specs.Layout.{paged, flagsOf}
+use Rattle.store.specs.Flags.{noLink}
 
 -- k is none of the blocks
 abbrev pub Apart : ℕ → List ℕ → Type 0

@@ -21,7 +21,8 @@ use Rattle.model.specs.Pages.{thinEntries, thin, inUse, without, cut}
 use Rattle.model.specs.WellFormed.{MoreOk, uses, Laid}
 use Rattle.model.specs.LaidLaws.{bits-set, cut-laid}
 use Rattle.model.specs.MachineLaws.{never}
-use Rattle.image.specs.Layout.{noLink, paged, blank, mapBit, flagsOf, encodeBlock}
+use Rattle.image.specs.Layout.{paged, blank, mapBit, flagsOf, encodeBlock}
+use Rattle.store.specs.Flags.{noLink}
 use Rattle.frame.specs.Frame.{blockOfBit, blocksAfter, chainBlocks, pageBlock, entriesAfter, pageEntries}
 use Rattle.frame.specs.Frame.{flagsFor, pageWith, onPage, morePlace, frees, freesAt}
 use Rattle.frame.specs.ImagesLaws.{noPage, free-image}

@@ -24,7 +24,8 @@ use Rattle.model.specs.Pages.{addPage}
 use Rattle.model.specs.WellFormed.{uses, Laid}
 use Rattle.model.specs.ChainLaws.{bits-page}
 use Rattle.model.specs.LaidLaws.{bits-set}
-use Rattle.image.specs.Layout.{noLink, paged, blank, mapFront, isFree, flagsOf, LinkedPage, nextOf, linkedOf}
+use Rattle.image.specs.Layout.{paged, blank, mapFront, isFree, flagsOf, LinkedPage, nextOf, linkedOf}
+use Rattle.store.specs.Flags.{noLink}
 use Rattle.image.specs.Layout.{linkedFrom, bucketImage, overflowImage, image, encodeBlock}
 use Rattle.frame.specs.Frame.{Apart, blockOfBit, blocksAfter, chainBlocks, putAlters}
 use Rattle.image.specs.LinkedLaws.{hasBit}

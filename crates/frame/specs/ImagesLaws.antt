@@ -19,7 +19,8 @@ use Rattle.page.specs.Entries.{encodePage}
 use Rattle.model.specs.Index.{Page, Chain, Index, noChain, chain, topBit}
 use Rattle.model.specs.Pages.{bitsOf}
 use Rattle.model.specs.WellFormed.{uses, Laid}
-use Rattle.image.specs.Layout.{flagsOf, noLink, paged, blank, metaFront, metaOf, mapFront, mapBit, LinkedPage}
+use Rattle.image.specs.Layout.{flagsOf, paged, blank, metaFront, metaOf, mapFront, mapBit, LinkedPage}
+use Rattle.store.specs.Flags.{noLink}
 use Rattle.image.specs.Layout.{nextOf, linkedOf, linkedFrom, linkedPages, bucketImage, overflowImage, image}
 use Rattle.image.specs.Layout.{encodeBlock}
 use Rattle.image.specs.LinkedLaws.{hasBit, tally-linked, linked-uses}

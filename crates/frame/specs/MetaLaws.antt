@@ -34,7 +34,8 @@ use Rattle.model.specs.StepLaws.{step-wf, step-held}
 use Rattle.model.specs.FrameLaws.{Framed, job-frame}
 use Rattle.model.specs.MachineLaws.{never}
 use Rattle.image.specs.declared.Meta.{Meta}
-use Rattle.image.specs.Layout.{noLink, paged, metaFront, padded, metaOf, isFree, mapBit, encodeBlock}
+use Rattle.image.specs.Layout.{paged, metaFront, padded, metaOf, isFree, mapBit, encodeBlock}
+use Rattle.store.specs.Flags.{noLink}
 use Rattle.image.specs.BoundLaws.{top-small}
 use Rattle.image.specs.FreeLaws.{first-zero}
 use Rattle.frame.specs.Frame.{freesAt}

@@ -21,7 +21,8 @@ use Rattle.model.specs.ChainLaws.{bits-page}
 use Rattle.model.specs.LaidLaws.{bits-set}
 use Rattle.model.specs.StandLaws.{chain-here}
 use Rattle.model.specs.MachineLaws.{never}
-use Rattle.image.specs.Layout.{noLink, paged, isFree, mapBit, flagsOf, encodeBlock}
+use Rattle.image.specs.Layout.{paged, isFree, mapBit, flagsOf, encodeBlock}
+use Rattle.store.specs.Flags.{noLink}
 use Rattle.frame.specs.Frame.{blockOfBit, blocksAfter, chainBlocks, placeBlock, pageBlock, entriesAfter}
 use Rattle.frame.specs.Frame.{placeEntries, pageEntries, pageWith, placeImage, prevIn, flagsFor, firstPlace}
 use Rattle.frame.specs.Frame.{roomPlace, lastPlace}

@@ -15,7 +15,8 @@ use Rattle.model.specs.Index.{Page, Chain, Index, chain, setChain}
 use Rattle.model.specs.Pages.{hasRoom, pageRoom, enterEntry, addMore, addEntry, addPage}
 use Rattle.model.specs.WellFormed.{Laid}
 use Rattle.model.specs.ChainLaws.{bits-add}
-use Rattle.image.specs.Layout.{noLink, isFree, LinkedPage, nextOf, linkedOf, encodeBlock}
+use Rattle.image.specs.Layout.{isFree, LinkedPage, nextOf, linkedOf, encodeBlock}
+use Rattle.store.specs.Flags.{noLink}
 use Rattle.frame.specs.Frame.{Apart, blockOfBit, mapBlock, blocksAfter, pageBlock, firstPlace, roomPlace}
 use Rattle.frame.specs.Frame.{lastPlace, putAlters}
 use Rattle.frame.specs.ListsLaws.{find-pass, find-cons, find-skip}

@@ -14,7 +14,7 @@ use Rattle.store.specs.Flags.{populatedFlags, cleanupFlags}
 use Rattle.store.specs.Store.{nextAt, flagsAt}
 use Rattle.model.specs.Index.{Page, Chain, Job, idle, copying, clearing, Index}
 use Rattle.image.specs.declared.Meta.{Meta}
-use Rattle.image.specs.Layout.{noLink}
+use Rattle.store.specs.Flags.{noLink}
 
 -- bit n of the bytes l, "lowest bit of a byte first"
 abbrev pub bitOf : List ℕ → ℕ → ℕ

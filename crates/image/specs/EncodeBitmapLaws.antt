@@ -23,7 +23,8 @@ use Rattle.store.specs.Store.{trailer}
 use Rattle.model.specs.Index.{Index, topBit}
 use Rattle.model.specs.WellFormed.{uses, Laid, WF}
 use Rattle.image.specs.declared.Meta.{Meta}
-use Rattle.image.specs.Layout.{noLink, metaOf, mapFront, isFree, mapBit, image, encode}
+use Rattle.image.specs.Layout.{metaOf, mapFront, isFree, mapBit, image, encode}
+use Rattle.store.specs.Flags.{noLink}
 use Rattle.image.specs.Decode.{bitOf, bitFrom, pointAt, sparesAt}
 use Rattle.image.specs.Rules.{isOverflow, mapAt, bitAt, topAt, freeAt, rule6}
 use Rattle.image.specs.PagedLaws.{paged-parts}

@@ -18,7 +18,8 @@ use Rattle.page.specs.Entries.{entriesOf}
 use Rattle.store.specs.Store.{nextAt, flagsAt}
 use Rattle.model.specs.Index.{Page, noChain, Job, idle, copying, clearing, Index, chain}
 use Rattle.model.specs.WellFormed.{Laid, WF}
-use Rattle.image.specs.Layout.{noLink, metaOf, flagsIn, flagsOf, nextOf, linkedOf, encode}
+use Rattle.image.specs.Layout.{metaOf, flagsIn, flagsOf, nextOf, linkedOf, encode}
+use Rattle.store.specs.Flags.{noLink}
 use Rattle.image.specs.Decode.{
   follow,
   bitFrom,

@@ -21,7 +21,6 @@ use Rattle.store.specs.Store.{prevAt, nextAt, bucketAt, flagsAt, idAt}
 use Rattle.model.specs.Index.{Job, idle, copying, clearing, Index, topBit}
 use Rattle.model.specs.WellFormed.{uses, Laid, WF}
 use Rattle.image.specs.Layout.{
-  noLink,
   paged,
   blank,
   metaFront,
@@ -37,6 +36,7 @@ use Rattle.image.specs.Layout.{
   image,
   encode,
 }
+use Rattle.store.specs.Flags.{noLink}
 use Rattle.image.specs.Decode.{maxAt, roleAt}
 use Rattle.image.specs.Rules.{unused, unlinked, bucketFlagsOk, fits, rule3}
 use Rattle.lists.specs.TestLaws.{cond-put}

@@ -29,7 +29,6 @@ use Rattle.model.specs.WellFormed.{PageOk, MoreOk, ChainOk, Laid}
 use Rattle.model.specs.TallyLaws.{b2n-le}
 use Rattle.model.specs.BoundLaws.{laid-size}
 use Rattle.image.specs.Layout.{
-  noLink,
   paged,
   blank,
   metaFront,
@@ -48,6 +47,7 @@ use Rattle.image.specs.Layout.{
   encodeBlock,
   encode,
 }
+use Rattle.store.specs.Flags.{noLink}
 use Rattle.image.specs.Rules.{lengthOk}
 use Rattle.image.specs.PagedLaws.{
   length-paged,

@@ -27,7 +27,6 @@ use Rattle.model.specs.WellFormed.{PageOk, Laid, WF}
 use Rattle.model.specs.BoundLaws.{laid-room, laid-size, bits-le}
 use Rattle.image.specs.declared.Meta.{Meta}
 use Rattle.image.specs.Layout.{
-  noLink,
   paged,
   blank,
   metaFront,
@@ -44,6 +43,7 @@ use Rattle.image.specs.Layout.{
   encodeBlock,
   encode,
 }
+use Rattle.store.specs.Flags.{noLink}
 use Rattle.image.specs.Decode.{readMeta, metaAt, maxAt, pointAt, sparesAt, roleAt, blockOf}
 use Rattle.image.specs.PagedLaws.{paged-parts, prev-paged, next-paged, bucket-paged, flags-paged, id-paged}
 use Rattle.image.specs.MetaLaws.{readMeta-metaFront}

@@ -22,7 +22,8 @@ use Rattle.model.specs.Index.{Index, entriesAt, bucket, newBucket, oldBucket}
 use Rattle.model.specs.Held.{count}
 use Rattle.model.specs.WellFormed.{Laid, WF}
 use Rattle.image.specs.declared.Meta.{Meta}
-use Rattle.image.specs.Layout.{noLink, metaFront, padded, metaOf, encode}
+use Rattle.image.specs.Layout.{metaFront, padded, metaOf, encode}
+use Rattle.store.specs.Flags.{noLink}
 use Rattle.image.specs.Decode.{maxAt, blockOf}
 use Rattle.image.specs.Rules.{
   frontOk,

@@ -12,16 +12,12 @@ use Rattle.address.specs.Role.{Role, meta, bucketPage, bitPage, unmade, roleOf}
 use Rattle.page.specs.declared.Entry.{Entry}
 use Rattle.page.specs.Entries.{encodePage}
 use Rattle.store.specs.Flags.{overflowFlags, bucketFlags, bitmapFlags, metaFlags}
-use Rattle.store.specs.Flags.{populatedFlags, splitFlags, cleanupFlags}
+use Rattle.store.specs.Flags.{populatedFlags, splitFlags, cleanupFlags, noLink}
 use Rattle.store.specs.Store.{trailer, sealed}
 use Rattle.model.specs.Index.{Page, Chain, Job, idle, copying, clearing, Index, chain, topBit}
 use Rattle.model.specs.Pages.{bitsUsed, firstFree}
 use Rattle.model.specs.Held.{count}
 use Rattle.image.specs.declared.Meta.{Meta}
-
--- "None" is 0xFFFFFFFF
-abbrev pub noLink : ℕ
-noLink = 4294967295
 
 -- a block of bytes 0..491 and its trailer, with its check
 unfoldable pub paged : List ℕ → (prev next bucket flags : ℕ) → List ℕ

@@ -22,7 +22,7 @@ use Rattle.model.specs.Index.{Job, idle, copying, clearing, Index, entriesAt, b
 use Rattle.model.specs.Held.{count}
 use Rattle.model.specs.Calls.{sizeOk, fillOk}
 use Rattle.image.specs.declared.Meta.{Meta}
-use Rattle.image.specs.Layout.{noLink}
+use Rattle.store.specs.Flags.{noLink}
 use Rattle.image.specs.Decode.{bitOf, metaAt, maxAt, pointAt, sparesAt, roleAt, blockOf, trail, newFlags, oldFlags, decode}
 
 -- "store not a multiple of 512 bytes, or N outside 4..128"

@@ -19,7 +19,8 @@ use Rattle.page.specs.Entries.{encodePage, entriesOf}
 use Rattle.page.specs.Rule.{pageOk}
 use Rattle.store.specs.Store.{prevAt, nextAt, bucketAt}
 use Rattle.model.specs.Index.{noChain, chain}
-use Rattle.image.specs.Layout.{noLink, paged, LinkedPage, nextOf, linkedOf, linkedFrom, overflowImage}
+use Rattle.image.specs.Layout.{paged, LinkedPage, nextOf, linkedOf, linkedFrom, overflowImage}
+use Rattle.store.specs.Flags.{noLink}
 use Rattle.image.specs.Decode.{
   bitFrom,
   maxAt,

@@ -21,7 +21,6 @@ use Rattle.model.specs.Held.{count}
 use Rattle.model.specs.WellFormed.{uses}
 use Rattle.model.specs.TallyLaws.{b2n-eq}
 use Rattle.image.specs.Layout.{
-  noLink,
   paged,
   blank,
   metaFront,
@@ -36,6 +35,7 @@ use Rattle.image.specs.Layout.{
   image,
   encodeBlock,
 }
+use Rattle.store.specs.Flags.{noLink}
 use Rattle.image.specs.Decode.{readMeta, metaAt, maxAt, pointAt, sparesAt, roleAt, blockOf, trail, decode}
 use Rattle.image.specs.Rules.{unused, unlinked, fits, overflowAs, buckets, isOverflow, rule1, rule8}
 use Rattle.image.specs.PagedLaws.{paged-read, blank-read}

@@ -13,7 +13,7 @@ use Rattle.endian.specs.Endian.{le16, le32}
 use Rattle.store.specs.Store.{sealed, copies, seals, commits, Fits}
 use Rattle.store.specs.ChangeLaws.{block-seals}
 use Rattle.store.specs.Finish.{finished}
-use Rattle.image.specs.Layout.{noLink}
+use Rattle.store.specs.Flags.{noLink}
 use Rattle.outcomes.specs.Format.{formatMeta, formatBlock}
 use Rattle.image.specs.PagedLaws.{length-paged, length-blank}
 

@@ -1,5 +1,4 @@
 // Format: a store made new, with no entries.
-use chain::NO_LINK;
 use endian::raw::copy_over;
 use image::Meta;
 use meta::put_meta;
@@ -10,6 +9,7 @@ use store::finish;
 use store::flags::BITMAP;
 use store::flags::BUCKET;
 use store::flags::META;
+use store::flags::NO_LINK;
 use store::put_block;
 use store::put_trailer;
 use verify::check_length;
@@ -22,7 +22,8 @@ ghost use Rattle.lists.specs.Block.{blocks, setBlock};
 ghost use Rattle.store.specs.Flags.{bucketFlags, bitmapFlags, metaFlags};
 ghost use Rattle.store.specs.Store.{sealed};
 ghost use Rattle.model.specs.Calls.{fillOk};
-ghost use Rattle.image.specs.Layout.{noLink, paged};
+ghost use Rattle.image.specs.Layout.{paged};
+ghost use Rattle.store.specs.Flags.{noLink};
 ghost use Rattle.outcomes.specs.Format.{formatMeta, formatBlock};
 ghost use Rattle.outcomes.specs.Outcomes.{formatOutcome};
 ghost use Rattle.chain.specs.Walk.{Sized};

@@ -18,7 +18,8 @@ use Rattle.model.specs.Index.{Index, chain, topBit}
 use Rattle.model.specs.Pages.{addPage, firstFree}
 use Rattle.model.specs.WellFormed.{Laid}
 use Rattle.image.specs.declared.Meta.{Meta}
-use Rattle.image.specs.Layout.{noLink, metaFront, mapFront, mapBit, encodeBlock}
+use Rattle.image.specs.Layout.{metaFront, mapFront, mapBit, encodeBlock}
+use Rattle.store.specs.Flags.{noLink}
 use Rattle.image.specs.Decode.{decode}
 use Rattle.image.specs.BitmapLaws.{length-mapFront}
 use Rattle.image.specs.BoundLaws.{top-small}

@@ -18,7 +18,8 @@ use Rattle.store.specs.Store.{trailer, sealed}
 use Rattle.model.specs.Index.{Index, chain}
 use Rattle.model.specs.WellFormed.{Laid}
 use Rattle.image.specs.declared.Meta.{Meta}
-use Rattle.image.specs.Layout.{noLink, encodeBlock}
+use Rattle.image.specs.Layout.{encodeBlock}
+use Rattle.store.specs.Flags.{noLink}
 use Rattle.image.specs.Decode.{decode}
 use Rattle.image.specs.PageOkLaws.{length-pageFront}
 use Rattle.frame.specs.Frame.{blockOfBit, chainBlocks, pageBlock, pageEntries, pageWith, lastPlace}

@@ -14,7 +14,8 @@ use Rattle.model.specs.Index.{Index}
 use Rattle.model.specs.WellFormed.{Laid}
 use Rattle.model.specs.BoundLaws.{laid-size}
 use Rattle.image.specs.declared.Meta.{Meta}
-use Rattle.image.specs.Layout.{noLink, paged, metaFront, metaOf, encodeBlock}
+use Rattle.image.specs.Layout.{paged, metaFront, metaOf, encodeBlock}
+use Rattle.store.specs.Flags.{noLink}
 use Rattle.image.specs.Decode.{decode}
 use Rattle.image.specs.BoundLaws.{length-meta}
 use Rattle.frame.specs.Frame.{Apart}

@@ -16,7 +16,7 @@ use Rattle.model.specs.Pages.{chainRoom, addEntry, addPage}
 use Rattle.model.specs.Held.{count}
 use Rattle.model.specs.WellFormed.{WF}
 use Rattle.image.specs.declared.Meta.{Meta}
-use Rattle.image.specs.Layout.{noLink}
+use Rattle.store.specs.Flags.{noLink}
 use Rattle.image.specs.Decode.{decode}
 use Rattle.frame.specs.Frame.{pageBlock, roomPlace, lastPlace}
 use Rattle.view.specs.Reads.{Reads}

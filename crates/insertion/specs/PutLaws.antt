@@ -24,7 +24,8 @@ use Rattle.store.specs.Store.{trailer, sealed}
 use Rattle.model.specs.Index.{Page, Index, chain, topBit}
 use Rattle.model.specs.Pages.{chainRoom, addEntry, freeBit, firstFree, Taken, takeFrom, takePage, putIn, put}
 use Rattle.image.specs.declared.Meta.{Meta}
-use Rattle.image.specs.Layout.{noLink, paged, metaFront, flagsOf, encodeBlock}
+use Rattle.image.specs.Layout.{paged, metaFront, flagsOf, encodeBlock}
+use Rattle.store.specs.Flags.{noLink}
 use Rattle.image.specs.Decode.{decode}
 use Rattle.image.specs.PageOkLaws.{length-pageFront}
 use Rattle.frame.specs.Frame.{blockOfBit, mapBlock, chainBlocks, pageBlock, pageEntries, prevIn, flagsFor, pageWith}

@@ -2,7 +2,6 @@
 use address::bit_block;
 use address::made_blocks;
 use chain::Free;
-use chain::NO_LINK;
 use chain::Room;
 use chain::bitmap::lowest_free;
 use draft::edit::put_bit;
@@ -19,6 +18,7 @@ use page::search::find_place;
 use plan::PutPlan;
 use store::Change;
 use store::block_at;
+use store::flags::NO_LINK;
 use store::flags::OVERFLOW;
 use view::chains::room_in;
 ghost use mathlib.Core.Path.{_≡_};

@@ -5,7 +5,8 @@ use Prim.Native.Nat.{ℕ, zero, suc}
 use lib.ListN.{replicate}
 use Rattle.endian.specs.Endian.{le16, le32}
 use Rattle.store.specs.Flags.{bucketFlags, bitmapFlags, metaFlags}
-use Rattle.image.specs.Layout.{noLink, paged, blank}
+use Rattle.image.specs.Layout.{paged, blank}
+use Rattle.store.specs.Flags.{noLink}
 
 -- magic and edition, count 0, fill, max bucket 1, masks 3 and 1, overflow point 1, first free 1, N, spares[0] = 0,
 -- spares[1] = 1

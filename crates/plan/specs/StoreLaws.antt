@@ -15,7 +15,8 @@ use Rattle.store.specs.FinishLaws.{sealed-checked}
 use Rattle.model.specs.Index.{Page, Chain, Index, chain}
 use Rattle.model.specs.WellFormed.{MoreOk, ChainOk}
 use Rattle.image.specs.declared.Meta.{Meta}
-use Rattle.image.specs.Layout.{noLink, metaFront, metaOf, mapFront, mapBit, flagsOf, encodeBlock}
+use Rattle.image.specs.Layout.{metaFront, metaOf, mapFront, mapBit, flagsOf, encodeBlock}
+use Rattle.store.specs.Flags.{noLink}
 use Rattle.image.specs.Decode.{decode}
 use Rattle.image.specs.BitmapLaws.{length-mapFront}
 use Rattle.image.specs.PageOkLaws.{length-pageFront}

@@ -11,7 +11,8 @@ use lib.ListN.{length}
 use Rattle.lists.specs.Block.{block, setBlock}
 use Rattle.lists.specs.BlockLaws.{length-block}
 use Rattle.store.specs.declared.Change.{Change}
-use Rattle.image.specs.Layout.{noLink, mapFront}
+use Rattle.image.specs.Layout.{mapFront}
+use Rattle.store.specs.Flags.{noLink}
 use Rattle.draft.specs.Draft.{Ready, Listed, Edited}
 use Rattle.draft.specs.DraftLaws.{length-draft}
 use Rattle.draft.specs.Bits.{putBit}

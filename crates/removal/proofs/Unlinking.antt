@@ -11,7 +11,7 @@ use Rattle.lists.specs.BlockLaws.{length-block}
 use Rattle.endian.specs.Endian.{le32}
 use Rattle.store.specs.declared.Change.{Change}
 use Rattle.store.specs.Store.{prevAt, nextAt}
-use Rattle.image.specs.Layout.{noLink}
+use Rattle.store.specs.Flags.{noLink}
 use Rattle.draft.specs.Draft.{Ready, Edited}
 use Rattle.draft.specs.DraftLaws.{length-draft}
 use Rattle.plan.specs.Sketch.{Sketch}

@@ -8,7 +8,8 @@ use Rattle.store.specs.declared.Change.{Change}
 use Rattle.model.specs.Index.{Index}
 use Rattle.model.specs.WellFormed.{Laid}
 use Rattle.image.specs.declared.Meta.{Meta}
-use Rattle.image.specs.Layout.{noLink, metaOf, mapFront, mapBit, encodeBlock}
+use Rattle.image.specs.Layout.{metaOf, mapFront, mapBit, encodeBlock}
+use Rattle.store.specs.Flags.{noLink}
 use Rattle.image.specs.Decode.{decode}
 use Rattle.frame.specs.Frame.{Apart, mapBlock}
 use Rattle.draft.specs.Draft.{Listed}

@@ -16,7 +16,8 @@ use Rattle.store.specs.Store.{prevAt, nextAt, sealed}
 use Rattle.model.specs.Index.{Index, chain}
 use Rattle.model.specs.Pages.{cut}
 use Rattle.image.specs.declared.Meta.{Meta}
-use Rattle.image.specs.Layout.{noLink, encodeBlock}
+use Rattle.image.specs.Layout.{encodeBlock}
+use Rattle.store.specs.Flags.{noLink}
 use Rattle.image.specs.PagedLaws.{prev-paged, next-paged}
 use Rattle.image.specs.PageOkLaws.{length-pageFront}
 use Rattle.frame.specs.Frame.{mapBlock, pageBlock, pageEntries, pageWith, morePlace, freesAt}

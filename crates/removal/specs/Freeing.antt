@@ -14,7 +14,7 @@ use Rattle.page.specs.declared.Pair.{Pair}
 use Rattle.store.specs.declared.Change.{Change}
 use Rattle.store.specs.Store.{prevAt, nextAt}
 use Rattle.model.specs.Index.{Page, Index, chain}
-use Rattle.image.specs.Layout.{noLink}
+use Rattle.store.specs.Flags.{noLink}
 use Rattle.frame.specs.Frame.{morePlace, freesAt}
 use Rattle.frame.specs.ImagesLaws.{noPage}
 use Rattle.plan.specs.Sketch.{Sketch}

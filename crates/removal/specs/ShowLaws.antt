@@ -23,7 +23,8 @@ use Rattle.store.specs.CheckLaws.{covered-sealed}
 use Rattle.model.specs.Index.{Page, Chain, idle, Index, entriesIn, chain}
 use Rattle.model.specs.Pages.{cut}
 use Rattle.image.specs.declared.Meta.{Meta}
-use Rattle.image.specs.Layout.{noLink, paged, flagsOf, encodeBlock}
+use Rattle.image.specs.Layout.{paged, flagsOf, encodeBlock}
+use Rattle.store.specs.Flags.{noLink}
 use Rattle.image.specs.Decode.{decode}
 use Rattle.image.specs.PagedLaws.{paged-parts}
 use Rattle.image.specs.PageOkLaws.{length-pageFront}

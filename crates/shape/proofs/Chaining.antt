@@ -16,7 +16,7 @@ use Rattle.endian.specs.Endian.{u16At}
 use Rattle.address.specs.Limits.{maxBlocks}
 use Rattle.store.specs.Store.{prevAt, nextAt, bucketAt}
 use Rattle.image.specs.declared.Meta.{Meta}
-use Rattle.image.specs.Layout.{noLink}
+use Rattle.store.specs.Flags.{noLink}
 use Rattle.image.specs.Decode.{maxAt, blockOf, trail}
 use Rattle.image.specs.Rules.{buckets, isOverflow, linked, rule4}
 use Rattle.chain.specs.declared.Walk.{Walk}

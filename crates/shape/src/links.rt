@@ -8,6 +8,7 @@ use image::Meta;
 use page::slots::count_entries;
 use store::block_at;
 use store::bucket_at;
+use store::flags::NO_LINK;
 use store::prev_at;
 ghost use mathlib.Core.Path.{_≡_};
 ghost use Prim.Native.Nat.{_≤_};
@@ -60,7 +61,7 @@ fn check_chain(store: &[u8], m: Meta, b: u32, walk: Walk) -> bool
         }
         i += 1;
     }
-    next_block(store, blocks[i]) == 0xFFFF_FFFF
+    next_block(store, blocks[i]) == NO_LINK
 }
 
 // The number of overflow pages.

@@ -12,6 +12,7 @@ use store::flags::BITMAP;
 use store::flags::BUCKET;
 use store::flags::CLEANUP;
 use store::flags::META;
+use store::flags::NO_LINK;
 use store::flags::OVERFLOW;
 use store::flags::PAGE_ID;
 use store::flags::POPULATED;
@@ -108,13 +109,13 @@ fn is_unlinked(part: &[u8], flags: u16) -> bool
     if id_at(part) != PAGE_ID {
         return false;
     }
-    if prev_at(part) != 0xFFFF_FFFF {
+    if prev_at(part) != NO_LINK {
         return false;
     }
-    if next_at(part) != 0xFFFF_FFFF {
+    if next_at(part) != NO_LINK {
         return false;
     }
-    bucket_at(part) == 0xFFFF_FFFF
+    bucket_at(part) == NO_LINK
 }
 
 // Whether the page of bucket `b` may have these flags.

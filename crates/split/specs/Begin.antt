@@ -10,7 +10,7 @@ use Rattle.page.specs.Entries.{encodePage}
 use Rattle.store.specs.declared.Change.{Change}
 use Rattle.store.specs.Store.{trailer}
 use Rattle.model.specs.Index.{chain}
-use Rattle.image.specs.Layout.{noLink}
+use Rattle.store.specs.Flags.{noLink}
 use Rattle.image.specs.Decode.{decode}
 use Rattle.frame.specs.Frame.{pageBlock}
 use Rattle.plan.specs.Shape.{Shaped}

@@ -25,7 +25,8 @@ use Rattle.model.specs.BoundLaws.{laid-size}
 use Rattle.model.specs.ViewLaws.{Beginning, begin-view}
 use Rattle.model.specs.MachineLaws.{never}
 use Rattle.image.specs.declared.Meta.{Meta}
-use Rattle.image.specs.Layout.{noLink, paged, metaFront, padded, metaOf}
+use Rattle.image.specs.Layout.{paged, metaFront, padded, metaOf}
+use Rattle.store.specs.Flags.{noLink}
 use Rattle.image.specs.Decode.{decode}
 use Rattle.image.specs.BoundLaws.{length-meta}
 use Rattle.image.specs.PageOkLaws.{length-pageFront}

@@ -26,3 +26,7 @@ cleanupFlags = 2 + 64
 -- "page id 0xFF80"
 abbrev pub pageId : ℕ
 pageId = 0xFF80
+
+-- "None" is 0xFFFFFFFF
+abbrev pub noLink : ℕ
+noLink = 4294967295

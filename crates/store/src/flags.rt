@@ -15,3 +15,6 @@ pub const CLEANUP: u16 = 2 + 64;
 
 // The id of every page.
 pub const PAGE_ID: u16 = 0xFF80;
+
+// A link field's "none".
+pub const NO_LINK: u32 = 0xFFFF_FFFF;

@@ -1,6 +1,6 @@
 // Blocks of a store: their trailers and checks, and a change of some of them.
 
-pub mod flags; // flags.rt: the flags and the page id by name
+pub mod flags; // flags.rt: the flags, the page id and "none" by name
 
 use crate::flags::PAGE_ID;
 use crc32c::crc32c;

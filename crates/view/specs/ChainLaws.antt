@@ -13,7 +13,8 @@ use Rattle.page.specs.declared.Entry.{Entry}
 use Rattle.page.specs.Rule.{pageOk}
 use Rattle.model.specs.Index.{Page, Chain, Index, chain, entriesAt}
 use Rattle.image.specs.declared.Meta.{Meta}
-use Rattle.image.specs.Layout.{noLink, encode}
+use Rattle.image.specs.Layout.{encode}
+use Rattle.store.specs.Flags.{noLink}
 use Rattle.image.specs.Decode.{maxAt, blockOf, trail, readPage, readChain, decode}
 use Rattle.frame.specs.Frame.{blockOfBit, blocksAfter, chainBlocks, pageBlock, placeEntries, pageEntries}
 use Rattle.lists.specs.TestLaws.{each-all}

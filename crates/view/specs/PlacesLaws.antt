@@ -14,7 +14,7 @@ use Rattle.page.specs.Entries.{placeOf}
 use Rattle.model.specs.Index.{Page, Chain, Index, chain, entriesAt}
 use Rattle.model.specs.Pages.{pageRoom, chainRoom}
 use Rattle.image.specs.declared.Meta.{Meta}
-use Rattle.image.specs.Layout.{noLink}
+use Rattle.store.specs.Flags.{noLink}
 use Rattle.image.specs.Decode.{blockOf, trail, readPage, readChain, decode}
 use Rattle.frame.specs.Frame.{blockOfBit, chainBlocks, pageBlock, pageEntries, firstPlace, roomPlace, lastPlace, onPage, pairPlace}
 use Rattle.chain.specs.declared.Found.{Found}

@@ -4,7 +4,7 @@ use Prim.Native.Nat.{ℕ}
 use lib.ListN.{replicate}
 use lib.Seq.{sets}
 use Rattle.store.specs.Store.{trailer, sealed}
-use Rattle.image.specs.Layout.{noLink}
+use Rattle.store.specs.Flags.{noLink}
 use Rattle.index.proofs.Bodies.{sealed-trailer}
 use borrow.Author.Needs.{needs}
 use Rattle.index.proofs.format.build_bitmap.Statement.{statement}

@@ -1,7 +1,7 @@
 use mathlib.Core.Path.{refl, ap, _∙_}
 use lib.ListN.{replicate}
 use Rattle.store.specs.Store.{sealed}
-use Rattle.image.specs.Layout.{noLink}
+use Rattle.store.specs.Flags.{noLink}
 use Rattle.index.proofs.Bodies.{sealed-trailer}
 use borrow.Author.Needs.{needs}
 use Rattle.index.proofs.format.build_bucket.Statement.{statement}

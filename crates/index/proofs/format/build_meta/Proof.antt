@@ -5,7 +5,8 @@ use lib.ListN.{replicate}
 use lib.Seq.{sets}
 use Rattle.endian.specs.Endian.{le16, le32}
 use Rattle.store.specs.Store.{trailer, sealed}
-use Rattle.image.specs.Layout.{noLink, metaFront}
+use Rattle.image.specs.Layout.{metaFront}
+use Rattle.store.specs.Flags.{noLink}
 use Rattle.outcomes.specs.Format.{formatMeta}
 use Rattle.index.proofs.Bodies.{sealed-trailer}
 use borrow.Author.Needs.{needs}

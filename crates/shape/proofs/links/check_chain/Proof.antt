@@ -5,7 +5,7 @@ use borrow.Author.Tests.{not-true, not-false}
 use lib.Dec.{eqb}
 use lib.ListN.{getD, drop}
 use Rattle.address.specs.Limits.{maxBlocks}
-use Rattle.image.specs.Layout.{noLink}
+use Rattle.store.specs.Flags.{noLink}
 use Rattle.image.specs.Decode.{blockOf}
 use Rattle.image.specs.Rules.{linked}
 use Rattle.chain.specs.Walk.{walk}

@@ -3,7 +3,7 @@ use Prim.Native.Nat.{ℕ}
 use borrow.Author.Tests.{eq-eqb, ne-eqb}
 use lib.Dec.{eqb}
 use Rattle.store.specs.Store.{prevAt, nextAt, bucketAt, flagsAt, idAt}
-use Rattle.image.specs.Layout.{noLink}
+use Rattle.store.specs.Flags.{noLink}
 use Rattle.meta.specs.TurnLaws.{and-false}
 use borrow.Author.Needs.{needs}
 use Rattle.shape.proofs.roles.is_unlinked.Statement.{statement}
