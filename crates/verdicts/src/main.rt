@@ -1,6 +1,7 @@
 // Reads stores from standard input, one on a line in hexadecimal, and writes the verdict on each (README.md).
 mod parse;
 
+use address::limits::MAX_BLOCKS;
 use image::Verdict;
 use parse::line_end;
 use parse::read_bytes;
@@ -23,9 +24,9 @@ fn show_verdict(verdict: Verdict) {
     }
 }
 
-// A line is cut after 129 blocks, which are too many already.
+// A line is cut one block past the largest N, which is too many already.
 fn show_store(line: &[u8]) {
-    let mut store = [0u8; 66048];
+    let mut store = [0u8; 512 * (MAX_BLOCKS + 1)];
     let n = read_bytes(line, &mut store);
     show_verdict(verify(&store[..n]));
 }
