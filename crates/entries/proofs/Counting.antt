@@ -1,8 +1,8 @@
 -- The count of held pairs, entry by entry, page by page and chain by chain.
 use mathlib.Core.Path.{_≡_, refl, sym, ap, ap₂, _∙_}
-use mathlib.Core.Bool.{Bool, not, _&&_}
-use mathlib.Core.List.{List, [], _∷_, _++_, map}
-use Prim.Native.Nat.{ℕ, suc, _+_, _-_, _*_, _≤_, _<_}
+use mathlib.Core.Bool.{Bool}
+use mathlib.Core.List.{List, map}
+use Prim.Native.Nat.{ℕ, suc, _+_, _-_, _≤_, _<_}
 use native.Mathlib.Omega.{arith}
 use lib.ListN.{length, getD, drop, length-append, length-map}
 use Rattle.lists.specs.Lists.{tally, keep, bind, upFrom}
@@ -10,7 +10,7 @@ use Rattle.lists.specs.ListsLaws.{tally-append, tally-cong, length-keep}
 use Rattle.lists.specs.RunLaws.{length-run}
 use Rattle.page.specs.declared.Entry.{Entry}
 use Rattle.model.specs.declared.Phase.{Phase}
-use Rattle.model.specs.Index.{Job, idle, copying, clearing, Index, entriesAt, oldBucket, newBucket}
+use Rattle.model.specs.Index.{Job, idle, copying, clearing, entriesAt, oldBucket, newBucket}
 use Rattle.model.specs.Calls.{phaseIn}
 use Rattle.model.specs.Held.{livesIn, count}
 use Rattle.image.specs.Decode.{maxAt, readChain, blockOf, decode}
@@ -18,7 +18,7 @@ use Rattle.chain.specs.declared.Walk.{Walk}
 use Rattle.chain.specs.Walk.{blocksOf, Walked}
 use Rattle.chain.specs.Within.{entriesOn, Within}
 use Rattle.chain.specs.WithinLaws.{walk-turn, walk-done}
-use Rattle.shape.specs.Roles.{phaseAt}
+use Rattle.reader.specs.Job.{phaseAt}
 use Rattle.entries.specs.Counts.{liveIn}
 use Rattle.shape.specs.LoopLaws.{run-turn, run-done}
 use Rattle.entries.specs.WalkedLaws.{walk-entries}

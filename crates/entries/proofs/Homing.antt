@@ -17,8 +17,8 @@ use Rattle.image.specs.Rules.{placed, copied, buckets, rule7}
 use Rattle.chain.specs.declared.Walk.{Walk}
 use Rattle.chain.specs.Walk.{blocksOf, Walked}
 use Rattle.chain.specs.Within.{entriesOn}
-use Rattle.shape.specs.Known.{Known2}
-use Rattle.shape.specs.KnownLaws.{max-pos}
+use Rattle.reader.specs.Known.{Known2}
+use Rattle.reader.specs.KnownLaws.{max-pos}
 use Rattle.entries.specs.Tests.{standsIn, markedBy, marksIn}
 use Rattle.entries.specs.WalkedLaws.{walk-entries}
 

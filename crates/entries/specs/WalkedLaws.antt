@@ -2,13 +2,12 @@
 use mathlib.Core.Path.{_≡_, sym, ap, _∙_}
 use mathlib.Core.Bool.{Bool, true}
 use mathlib.Core.List.{List, _∷_}
-use Prim.Native.Nat.{ℕ, suc, _≤_, _<_}
+use Prim.Native.Nat.{ℕ, suc, _≤_}
 use native.Mathlib.Omega.{arith}
-use Rattle.lists.specs.Lists.{all, bind, Each}
+use Rattle.lists.specs.Lists.{all, bind}
 use Rattle.lists.specs.ListsLaws.{and-left}
 use Rattle.lists.specs.RunLaws.{all-get}
 use Rattle.lists.specs.Block.{blocks, block}
-use Rattle.page.specs.declared.Entry.{Entry}
 use Rattle.page.specs.Rule.{pageOk}
 use Rattle.model.specs.Index.{entriesAt}
 use Rattle.image.specs.declared.Meta.{Meta}
@@ -21,7 +20,7 @@ use Rattle.chain.specs.WalkLaws.{walk-trail}
 use Rattle.chain.specs.WithinLaws.{walked-within}
 use Rattle.chain.specs.DecodeLaws.{entries-walk}
 use Rattle.shape.specs.Known.{Known4, Known5}
-use Rattle.shape.specs.KnownLaws.{sized, bucket-inside}
+use Rattle.reader.specs.KnownLaws.{sized, bucket-inside}
 use Rattle.shape.specs.ChainedLaws.{chained, trail-inside}
 
 module _ {s : List ℕ} (b : ℕ) (made : b ≤ maxAt s) where

@@ -7,9 +7,9 @@ use model::Phase;
 use page::Entry;
 use page::slots::count_entries;
 use page::slots::get_entry;
-use shape::links::walk_bucket;
-use shape::roles::page_of;
-use shape::roles::phase_of;
+use reader::buckets::bucket_page;
+use reader::buckets::walk_bucket;
+use reader::job::read_job;
 use store::block_at;
 use store::prev_at;
 ghost use mathlib.Core.Path.{_≡_};
@@ -23,7 +23,8 @@ ghost use Rattle.image.specs.Decode.{decode};
 ghost use Rattle.image.specs.Rules.{buckets, rule8};
 ghost use Rattle.chain.specs.Walk.{blocksOf};
 ghost use Rattle.chain.specs.Within.{entriesOn, PagesOk, Within};
-ghost use Rattle.shape.specs.Known.{Known2, Known5};
+ghost use Rattle.reader.specs.Known.{Known2};
+ghost use Rattle.shape.specs.Known.{Known5};
 ghost use Rattle.entries.specs.Counts.{prevOk, liveIn};
 
 // Whether the previous field of every bucket page names the last bucket that split off.
@@ -34,7 +35,7 @@ fn check_prevs(store: &[u8], m: Meta) -> bool
     let max = m.max;
     let mut b = 0;
     while b <= max {
-        if prev_at(page_of(store, m, b)) != last_split(max, b) {
+        if prev_at(bucket_page(store, m, b)) != last_split(max, b) {
             return false;
         }
         b += 1;
@@ -93,7 +94,7 @@ fn count_live(store: &[u8], m: Meta) -> u32
     ensures { λ r. ⌜ r ≡ count (decode (now (store .entry))) ⌝ }
 {
     let max = m.max;
-    let phase = phase_of(store, m);
+    let phase = read_job(store, m);
     let mut live = 0;
     let mut b = 0;
     while b <= max {

@@ -6,7 +6,7 @@ use page::order::is_same;
 use page::rule::check_page;
 use page::slots::count_entries;
 use page::slots::get_entry;
-use shape::links::walk_bucket;
+use reader::buckets::walk_bucket;
 use store::block_at;
 ghost use mathlib.Core.Path.{_≡_};
 ghost use Prim.Native.Nat.{_+_, _<_};

@@ -8,8 +8,8 @@ use model::Phase;
 use page::Entry;
 use page::slots::count_entries;
 use page::slots::get_entry;
-use shape::links::walk_bucket;
-use shape::roles::phase_of;
+use reader::buckets::walk_bucket;
+use reader::job::read_job;
 use store::block_at;
 ghost use mathlib.Core.Path.{_≡_};
 ghost use Rattle.lists.specs.Lists.{all, bind};
@@ -166,7 +166,7 @@ pub fn check_places(store: &[u8], m: Meta) -> bool
     requires { ⌜ Known5 (now store) m ⌝ }
     ensures { λ r. ⌜ r ≡ rule7 (now (store .entry)) ⌝ }
 {
-    let phase = phase_of(store, m);
+    let phase = read_job(store, m);
     if !check_chains(store, m, phase) {
         return false;
     }

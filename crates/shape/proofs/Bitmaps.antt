@@ -1,20 +1,19 @@
 -- Rule 6, bit by bit and part by part.
-use mathlib.Core.Path.{_≡_, refl, sym, ap, _∙_}
+use mathlib.Core.Path.{_≡_, refl, ap, _∙_}
 use mathlib.Core.Bool.{Bool, true, false, not, _&&_, Bool·beq}
 use mathlib.Core.List.{List}
 use Prim.Native.Nat.{ℕ, zero, suc, _≤_, _<_}
 use native.Mathlib.Omega.{arith}
-use borrow.Author.Tests.{eq-eqb, lt-ltb, le-ltb}
+use borrow.Author.Tests.{lt-ltb, le-ltb}
 use lib.Dec.{eqb, ltb}
 use lib.ListN.{length}
 use Rattle.lists.specs.Lists.{b2n}
-use Rattle.lists.specs.Block.{block}
 use Rattle.address.specs.Address.{bitBlock}
 use Rattle.image.specs.declared.Meta.{Meta}
-use Rattle.image.specs.Decode.{bitOf, pointAt, sparesAt}
+use Rattle.image.specs.Decode.{pointAt, sparesAt}
 use Rattle.image.specs.Rules.{isOverflow, mapAt, bitAt, topAt, freeAt}
-use Rattle.shape.specs.Known.{Known2}
-use Rattle.shape.specs.KnownLaws.{top-some, bit-inside, block-full}
+use Rattle.reader.specs.Known.{Known2}
+use Rattle.reader.specs.KnownLaws.{top-some, bit-inside, block-full}
 use Rattle.shape.specs.Bits.{bitOk}
 
 -- a bit is 0 exactly if it is free

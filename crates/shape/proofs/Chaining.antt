@@ -1,8 +1,8 @@
 -- Rule 4 as its loops go: along the links of one chain, and from bucket to bucket.
 use mathlib.Core.Path.{_≡_, refl, sym, ap, ap₂, _∙_}
 use mathlib.Core.Bool.{Bool, true, false, _&&_}
-use mathlib.Core.List.{List, [], _∷_, _++_}
-use Prim.Native.Nat.{ℕ, zero, suc, _+_, _-_, _*_, _≤_, _<_}
+use mathlib.Core.List.{List, _∷_}
+use Prim.Native.Nat.{ℕ, suc, _+_, _-_, _*_, _≤_, _<_}
 use native.Mathlib.Numerals.{add-one}
 use native.Mathlib.Omega.{arith}
 use borrow.Author.Tests.{eq-eqb}
@@ -21,9 +21,9 @@ use Rattle.image.specs.Decode.{maxAt, blockOf, trail}
 use Rattle.image.specs.Rules.{buckets, isOverflow, linked, rule4}
 use Rattle.chain.specs.declared.Walk.{Walk}
 use Rattle.chain.specs.Walk.{Sized, walk, Walked}
-use Rattle.chain.specs.WalkLaws.{walk-some, walk-few, walk-next}
+use Rattle.chain.specs.WalkLaws.{walk-few, walk-next}
 use Rattle.chain.specs.WithinLaws.{walked-some, walked-getD}
-use Rattle.shape.specs.Known.{Known2}
+use Rattle.reader.specs.Known.{Known2}
 use Rattle.shape.specs.Tests.{linkOk}
 use Rattle.shape.specs.LoopLaws.{passed, failed, run-turn, run-done, left, left-start, left-turn, left-done}
 use Rattle.shape.specs.ChainedLaws.{chained, pages-linked}

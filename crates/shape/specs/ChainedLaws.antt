@@ -1,8 +1,8 @@
 -- What linked chains are: blocks of the store, each an overflow page in one place of its own bucket's chain.
 use mathlib.Core.Path.{_≡_, refl, sym, ap, ap₂, subst, _∙_}
 use mathlib.Core.Logic.{_≢_}
-use mathlib.Core.Bool.{Bool, true, false, _&&_}
-use mathlib.Core.List.{List, [], _∷_, _++_}
+use mathlib.Core.Bool.{Bool, true, false}
+use mathlib.Core.List.{List, [], _∷_}
 use Prim.Native.Nat.{ℕ, zero, suc, _+_, _≤_, _<_}
 use native.Mathlib.Omega.{arith}
 use borrow.Author.Tests.{eqb-true}
@@ -10,7 +10,6 @@ use lib.Dec.{ltb, eqb}
 use lib.ListN.{length, getD}
 use Rattle.lists.specs.Lists.{b2n, all, tally, bind, Each, upFrom}
 use Rattle.lists.specs.ListsLaws.{and-left, and-right, each-append}
-use Rattle.lists.specs.RunLaws.{all-get}
 use Rattle.lists.specs.Block.{blocks, block}
 use Rattle.endian.specs.Endian.{u16At}
 use Rattle.address.specs.Role.{Role, meta, bucketPage, bitPage, unmade, RoleIs}
@@ -20,10 +19,10 @@ use Rattle.page.specs.PairLaws.{no-way}
 use Rattle.store.specs.Store.{prevAt, nextAt, bucketAt}
 use Rattle.image.specs.declared.Meta.{Meta}
 use Rattle.image.specs.Decode.{maxAt, pointAt, sparesAt, roleAt, blockOf, trail}
-use Rattle.image.specs.Rules.{overflowAs, buckets, isOverflow, linked, rule4}
-use Rattle.shape.specs.Known.{Known2}
-use Rattle.shape.specs.KnownLaws.{spares-ok, max-under, bit-inside, bucket-inside, role-at}
-use Rattle.shape.specs.SumLaws.{tally-absent, tally-different, run-absent, run-once, sum, sums-equal, sum-tally, sum-length}
+use Rattle.image.specs.Rules.{overflowAs, buckets, isOverflow, linked}
+use Rattle.reader.specs.Known.{Known2}
+use Rattle.reader.specs.KnownLaws.{spares-ok, max-under, bit-inside, role-at}
+use Rattle.shape.specs.SumLaws.{tally-absent, tally-different, run-absent, run-once, sums-equal, sum-tally, sum-length}
 
 -- ---- overflow pages
 

@@ -1,16 +1,11 @@
--- What the test of a rule may take for granted: a store of legal length, its meta fields m, and the rules before it.
+-- What the test of a rule may take for granted beyond rule 2: the rules before it.
 use mathlib.Core.Path.{_≡_}
 use mathlib.Core.Bool.{true}
 use mathlib.Core.List.{List}
 use Prim.Native.Nat.{ℕ}
 use Rattle.image.specs.declared.Meta.{Meta}
-use Rattle.image.specs.Decode.{metaAt}
-use Rattle.image.specs.Rules.{rule2, rule3, rule4, rule5, lengthOk}
-
-pub record Known2 (s : List ℕ) (m : Meta) : Type 0 where
-  pub whole : lengthOk s ≡ true
-  pub meta : m ≡ metaAt s
-  pub holds : rule2 s ≡ true
+use Rattle.image.specs.Rules.{rule3, rule4, rule5}
+use Rattle.reader.specs.Known.{Known2}
 
 pub record Known3 (s : List ℕ) (m : Meta) : Type 0 where
   pub known : Known2 s m

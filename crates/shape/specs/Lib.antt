@@ -1,8 +1,6 @@
 pub mod Known
 pub mod Tests
 pub mod LoopLaws
-pub mod KnownLaws
-pub mod Roles
 pub mod SumLaws
 pub mod ChainedLaws
 pub mod Bits

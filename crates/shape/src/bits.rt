@@ -1,51 +1,21 @@
 // Rule 6: the bits and zero bytes of the bitmap, and first free.
-use crate::roles::is_overflow;
-use address::bit_block;
 use chain::Free;
 use chain::bitmap::bit_of;
 use chain::bitmap::lowest_free;
 use endian::raw::is_zero;
 use image::Meta;
-use store::block_at;
+use reader::bits::home_of_bit;
+use reader::bits::map_of;
+use reader::bits::top_of;
+use reader::roles::is_overflow;
 ghost use mathlib.Core.Path.{_≡_};
 ghost use Prim.Native.Nat.{_<_};
 ghost use lib.Dec.{eqb};
-ghost use lib.ListN.{getD};
 ghost use Rattle.lists.specs.Lists.{all, upFrom};
-ghost use Rattle.address.specs.Address.{bitBlock};
-ghost use Rattle.address.specs.Limits.{maxBlocks};
 ghost use Rattle.image.specs.Decode.{metaAt};
-ghost use Rattle.image.specs.Rules.{mapAt, freeAt, rule6};
-ghost use Rattle.meta.specs.Addressed.{Addressed};
-ghost use Rattle.shape.specs.Known.{Known2};
+ghost use Rattle.image.specs.Rules.{freeAt, rule6};
+ghost use Rattle.reader.specs.Known.{Known2};
 ghost use Rattle.shape.specs.Bits.{bitOk, lowestClear};
-
-// The number of overflow bits that are made: spares[s].
-fn top_of(m: Meta) -> u32
-    requires { ⌜ Addressed maxBlocks m ⌝ }
-    ensures { λ r. ⌜ r ≡ getD (m .spares) (m .point) 0 ⌝ }
-{
-    let spares = m.spares;
-    let point = m.point;
-    spares[point as usize]
-}
-
-// The block of overflow bit `n`.
-fn home_of_bit(m: Meta, n: u32) -> u32
-    requires { ⌜ (Addressed maxBlocks m) × (n < getD (m .spares) (m .point) 0) ⌝ }
-    ensures { λ r. ⌜ r ≡ bitBlock (m .spares) (m .point) n ⌝ }
-{
-    let spares = m.spares;
-    bit_block(spares, m.point, n)
-}
-
-// The bitmap's page.
-pub fn map_of(store: &[u8], m: Meta) -> &[u8]
-    requires { ⌜ Known2 (now store) m ⌝ }
-    ensures { λ r. ⌜ now r ≡ mapAt (now (store .entry)) ⌝ }
-{
-    block_at(store, home_of_bit(m, 0) as usize)
-}
 
 // Whether overflow bit `n` is made, not the bitmap's, and no overflow page's.
 fn is_free(store: &[u8], m: Meta, n: u32) -> bool

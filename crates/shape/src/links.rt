@@ -1,33 +1,23 @@
 // Rule 4: chains link by link, and each overflow page in one of them.
-use crate::roles::home_of;
-use crate::roles::is_overflow;
 use chain::Walk;
 use chain::links::next_block;
-use chain::links::walk_chain;
 use image::Meta;
 use page::slots::count_entries;
+use reader::buckets::walk_bucket;
+use reader::roles::is_overflow;
 use store::block_at;
 use store::bucket_at;
 use store::flags::NO_LINK;
 use store::prev_at;
 ghost use mathlib.Core.Path.{_≡_};
-ghost use Prim.Native.Nat.{_≤_};
 ghost use Rattle.lists.specs.Lists.{tally, upFrom};
 ghost use Rattle.lists.specs.Block.{blocks};
 ghost use Rattle.image.specs.Decode.{blockOf};
 ghost use Rattle.image.specs.Rules.{isOverflow, rule4};
 ghost use Rattle.chain.specs.Walk.{Walked};
-ghost use Rattle.shape.specs.Known.{Known2};
+ghost use Rattle.reader.specs.Known.{Known2};
 ghost use Rattle.shape.specs.Tests.{linkOk};
 ghost use Rattle.shape.specs.ChainedLaws.{chained};
-
-// The chain of bucket `b`.
-pub fn walk_bucket(store: &[u8], m: Meta, b: u32) -> Walk
-    requires { ⌜ (Known2 (now store) m) × (b ≤ m .max) ⌝ }
-    ensures { λ r. ⌜ Walked (now (store .entry)) (blockOf (now (store .entry)) b) r ⌝ }
-{
-    walk_chain(store, home_of(m, b))
-}
 
 // Whether the chain of bucket `b` may go on from block `k` to block `j`.
 fn check_link(store: &[u8], m: Meta, b: u32, k: u32, j: u32) -> bool

@@ -13,7 +13,7 @@ use Rattle.model.specs.Index.{Job, idle, copying, clearing, Index, entriesAt, n
 use Rattle.model.specs.Held.{wanted}
 use Rattle.model.specs.Steps.{Step, stopped, orFull, begin, moves, toCopy, copyIn, clearIn, stepIn, step}
 use Rattle.model.specs.Calls.{phaseIn}
-use Rattle.view.specs.Reads.{phaseOf}
+use Rattle.reader.specs.Job.{phaseOf}
 use Rattle.plan.specs.declared.Advance.{Advance}
 use Rattle.plan.specs.Plan.{Advances, advanced, halted, Places, placed, full}
 use Rattle.split.specs.Step.{jobIn, advanceOf}

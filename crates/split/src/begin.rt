@@ -13,8 +13,8 @@ use draft::pages::write_empty;
 use draft::trim::drop_unchanged;
 use image::Meta;
 use plan::PutPlan;
+use reader::roles::home_of;
 use store::Change;
-use store::flags::NO_LINK;
 use store::flags::POPULATED;
 use store::flags::SPLIT;
 ghost use mathlib.Core.Path.{_≡_};
@@ -75,7 +75,7 @@ fn begin_pages(store: &[u8], m: Meta, images: &mut [u8]) -> Change
     let new = m.max + 1;
     let old = parent_of(new);
     let to = bucket_block(spares, new);
-    let from = bucket_block(spares, old);
+    let from = home_of(m, old);
     let made = write_empty(store, new_draft(), images, to, new, NO_LINK, new, POPULATED);
     let linked = put_prev(store, made, images, from, new);
     mark_bucket(store, m, linked, images, old, SPLIT)

@@ -1,10 +1,10 @@
 // The ends of copying and clearing: flags of the job's two bucket pages.
-use address::bucket_block;
 use address::parent_of;
 use draft::edit::put_flags;
 use draft::new_draft;
 use draft::trim::drop_unchanged;
 use image::Meta;
+use reader::roles::home_of;
 use store::Change;
 use store::flags::BUCKET;
 use store::flags::CLEANUP;
@@ -39,8 +39,7 @@ pub fn mark_bucket(
     ensures { λ r. ⌜ Edited (now (store .entry)) change (now (images .entry))
         (bucketBlock (decode (now (store .entry)) .spares) b) (λ l. sets l 504 (le16 flags)) r (now (images .exit)) ⌝ }
 {
-    let spares = m.spares;
-    put_flags(store, change, images, bucket_block(spares, b), flags)
+    put_flags(store, change, images, home_of(m, b), flags)
 }
 
 // Nothing is left to copy: the new page is no longer populated, and the old one needs split cleanup.

@@ -19,7 +19,7 @@ ghost use mathlib.Core.Bool.{true};
 ghost use Rattle.image.specs.Rules.{rule1, lowestBroken, verdict};
 ghost use Rattle.outcomes.specs.Outcomes.{verdictOf, verifyOutcome};
 ghost use Rattle.image.specs.Rules.{lengthOk};
-ghost use Rattle.shape.specs.Known.{Known2};
+ghost use Rattle.reader.specs.Known.{Known2};
 ghost use Rattle.verify.specs.Tests.{brokenAs};
 
 // Whether a store has a legal length: refusal 1.

@@ -2,9 +2,6 @@
 use mathlib.Core.Path.{_≡_}
 use mathlib.Core.List.{List}
 use Prim.Native.Nat.{ℕ}
-use Rattle.model.specs.declared.Phase.{Phase}
-use Rattle.model.specs.Index.{Index, newBucket, oldBucket}
-use Rattle.model.specs.Calls.{phaseIn}
 use Rattle.model.specs.WellFormed.{WF}
 use Rattle.image.specs.declared.Meta.{Meta}
 use Rattle.image.specs.Layout.{encode}
@@ -14,7 +11,3 @@ pub record Reads (s : List ℕ) (m : Meta) : Type 0 where
   pub wf : WF (decode s)
   pub bytes : s ≡ encode (decode s)
   pub meta : m ≡ metaAt s
-
--- "the job's phase with its two bucket numbers"
-abbrev pub phaseOf : Index → Phase
-phaseOf x = phaseIn (x .job) (oldBucket x) (newBucket x)

@@ -1,6 +1,5 @@
 // How many pairs of a hash code are held.
 use crate::Sources;
-use crate::chains::walk_bucket;
 use crate::held::sources_of;
 use chain::Walk;
 use image::Meta;
@@ -8,6 +7,7 @@ use page::Entry;
 use page::search::run_length;
 use page::search::run_start;
 use page::slots::get_entry;
+use reader::buckets::walk_bucket;
 use store::block_at;
 ghost use mathlib.Core.Path.{_≡_};
 ghost use mathlib.Core.Bool.{true, not};

@@ -1,12 +1,12 @@
 // Where pairs are held.
 use crate::Sources;
-use crate::chains::bucket_flags;
 use crate::chains::find_in;
 use address::bucket_of;
 use address::parent_of;
 use chain::Found;
 use image::Meta;
 use page::Pair;
+use reader::buckets::bucket_flags;
 use store::flags::POPULATED;
 ghost use mathlib.Core.Path.{_≡_};
 ghost use Rattle.image.specs.Decode.{decode};

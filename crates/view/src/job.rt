@@ -1,30 +1,11 @@
-// The pending job, by the flags of its two buckets' pages, and what standing answers.
-use crate::chains::bucket_flags;
-use address::parent_of;
+// What standing answers.
 use image::Meta;
-use model::Phase;
 use model::Standing;
-use store::flags::CLEANUP;
-use store::flags::POPULATED;
+use reader::job::read_job;
 ghost use mathlib.Core.Path.{_≡_};
 ghost use Rattle.image.specs.Decode.{decode};
 ghost use Rattle.model.specs.Calls.{standing};
-ghost use Rattle.view.specs.Reads.{Reads, phaseOf};
-
-pub fn read_job(store: &[u8], m: Meta) -> Phase
-    requires { ⌜ Reads (now store) m ⌝ }
-    ensures { λ r. ⌜ r ≡ phaseOf (decode (now (store .entry))) ⌝ }
-{
-    let new = m.max;
-    let old = parent_of(new);
-    if bucket_flags(store, m, new) == POPULATED {
-        return Phase::Copying { old, new };
-    }
-    if bucket_flags(store, m, old) == CLEANUP {
-        return Phase::Clearing { old, new };
-    }
-    Phase::None
-}
+ghost use Rattle.view.specs.Reads.{Reads};
 
 pub fn standing_of(store: &[u8], m: Meta) -> Standing
     requires { ⌜ Reads (now store) m ⌝ }

@@ -1,7 +1,6 @@
 // The next match after a place: the least held pair of its hash code that stands after it.
 use crate::Next;
 use crate::Sources;
-use crate::chains::walk_bucket;
 use crate::held::sources_of;
 use chain::Walk;
 use image::Meta;
@@ -11,6 +10,7 @@ use page::order::is_before;
 use page::search::find_place;
 use page::slots::count_entries;
 use page::slots::get_entry;
+use reader::buckets::walk_bucket;
 use store::block_at;
 ghost use mathlib.Core.Path.{_≡_};
 ghost use mathlib.Core.Bool.{false, _&&_};

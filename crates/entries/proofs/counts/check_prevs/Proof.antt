@@ -1,19 +1,17 @@
-use mathlib.Core.Path.{_≡_, sym, ap, ap₂, _∙_}
-use mathlib.Core.Bool.{true, false}
+use mathlib.Core.Path.{_≡_, sym, ap, _∙_}
 use Prim.Native.Nat.{ℕ, suc, _+_, _-_, _≤_, _<_}
 use native.Mathlib.Omega.{arith}
 use borrow.Author.Tests.{eq-eqb, ne-eqb}
-use lib.Dec.{eqb}
+use lib.ListN.{length}
 use Rattle.lists.specs.Lists.{all}
 use Rattle.lists.specs.Block.{block}
 use Rattle.address.specs.Address.{lastSplit}
 use Rattle.store.specs.Store.{prevAt}
 use Rattle.image.specs.Decode.{maxAt, blockOf}
 use Rattle.image.specs.Rules.{buckets}
-use Rattle.shape.specs.KnownLaws.{max-is, max-small}
+use Rattle.reader.specs.KnownLaws.{max-is, max-small, bucket-full}
 use Rattle.entries.specs.Counts.{prevOk}
 use Rattle.shape.specs.LoopLaws.{passed, failed, left, left-start, left-turn, left-done}
-use Rattle.shape.proofs.Fitting.{page-full}
 use Rattle.entries.proofs.counts.check_prevs.Statement.{statement}
 use Rattle.entries.proofs.counts.check_prevs.Tie as tie
 
@@ -25,7 +23,7 @@ abbrev μ-loop : tie.MeasureT-loop
 
 prev : (c : tie.After-last-split Inv-loop μ-loop) → c .before .prev-at .result
     ≡ prevAt (block (c .before .before .before .before .before .before .args .store .now) (blockOf (c .before .before .before .before .before .before .args .store .now) (c .before .before .before .before .loop .b)))
-prev c = c .before .prev-at .ensures ∙ ap prevAt (c .before .before .page-of .ensures)
+prev c = c .before .prev-at .ensures ∙ ap prevAt (c .before .before .bucket-page .ensures)
 
 last : (c : tie.After-last-split Inv-loop μ-loop)
     → c .last-split .result ≡ lastSplit (maxAt (c .before .before .before .before .before .before .args .store .now)) (c .before .before .before .before .loop .b)
@@ -39,13 +37,13 @@ more c = omega (arith, max-is (c .before .before .before .before .before .before
 loop-holds : tie.Need-loop-holds Inv-loop μ-loop
 loop-holds c = let s = c .before .args .store .now in (omega arith, left-start (prevOk s) (suc (maxAt s)))
 
-page-of-requires : tie.Need-page-of-requires Inv-loop μ-loop
-page-of-requires c κs = (c .before .before .before .pre, c .loop-test .taken)
+bucket-page-requires : tie.Need-bucket-page-requires Inv-loop μ-loop
+bucket-page-requires c κs = (c .before .before .before .pre, c .loop-test .taken)
 
 prev-at-requires : tie.Need-prev-at-requires Inv-loop μ-loop
 prev-at-requires c κs =
     let l = c .before .before in
-    page-full (l .before .before .pre) (c .page-of .result .now) (l .loop .b) (c .page-of .ensures) (c .before .loop-test .taken)
+    ap length (c .bucket-page .ensures) ∙ bucket-full (l .before .before .pre) (l .loop .b) (c .before .loop-test .taken)
 
 last-split-requires : tie.Need-last-split-requires Inv-loop μ-loop
 last-split-requires c κs = omega arith
@@ -89,7 +87,7 @@ check-prevs-spec =
     Inv-loop
     μ-loop
     loop-holds
-    page-of-requires
+    bucket-page-requires
     prev-at-requires
     last-split-requires
     returns

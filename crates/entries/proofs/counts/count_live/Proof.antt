@@ -1,10 +1,10 @@
-use mathlib.Core.Path.{_≡_, sym, _∙_}
-use Prim.Native.Nat.{ℕ, suc, _+_, _*_, _-_, _≤_}
+use mathlib.Core.Path.{_≡_, _∙_}
+use Prim.Native.Nat.{suc, _+_, _*_, _-_, _≤_}
 use native.Mathlib.Omega.{arith}
 use Rattle.address.specs.Limits.{maxBlocks}
 use Rattle.model.specs.Held.{count}
 use Rattle.image.specs.Decode.{maxAt, decode}
-use Rattle.shape.specs.KnownLaws.{max-is, max-small}
+use Rattle.reader.specs.KnownLaws.{max-is, max-small}
 use Rattle.entries.specs.WalkedLaws.{walk-within, walk-pages}
 use Rattle.entries.proofs.Counting.{liveFrom, live-start, live-turn, live-done, live-walk}
 use Rattle.entries.proofs.counts.count_live.Statement.{statement}
@@ -19,8 +19,8 @@ abbrev μ-loop : tie.MeasureT-loop
 made : (c : tie.In-loop Inv-loop μ-loop) → c .before .loop .b ≤ maxAt (c .before .before .before .before .args .store .now)
 made c = omega (arith, c .loop-test .taken, max-is (c .before .before .before .before .pre .known .known .known))
 
-phase-of-requires : tie.Need-phase-of-requires Inv-loop μ-loop
-phase-of-requires c κs = c .before .pre .known .known .known
+read-job-requires : tie.Need-read-job-requires Inv-loop μ-loop
+read-job-requires c κs = c .before .pre .known .known .known
 
 loop-holds : tie.Need-loop-holds Inv-loop μ-loop
 loop-holds c = (omega arith, omega arith, omega (arith, live-start (c .before .before .args .store .now)))
@@ -58,7 +58,7 @@ loop-again c =
     let t = s .args .store .now in
     let b = l .loop .b in
     let k = s .pre .known .known .known in
-    let p = l .before .phase-of in
+    let p = l .before .read-job in
     let w = c .before .walk-bucket in
     let here = c .count-walk .ensures .0 ∙ live-walk t (p .result) (p .ensures) b (made i) (w .result) (w .ensures) (s .args .m .max) (max-is k) in (
       omega (arith, made i),
@@ -79,7 +79,7 @@ count-live-spec =
     (tie.spec
     Inv-loop
     μ-loop
-    phase-of-requires
+    read-job-requires
     loop-holds
     walk-bucket-requires
     count-walk-requires

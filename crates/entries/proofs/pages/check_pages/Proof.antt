@@ -1,10 +1,10 @@
 use mathlib.Core.Path.{_≡_, sym, _∙_}
-use Prim.Native.Nat.{suc, _+_, _-_, _≤_, _<_}
+use Prim.Native.Nat.{suc, _+_, _-_, _≤_}
 use native.Mathlib.Omega.{arith}
 use borrow.Author.Tests.{not-true, not-false}
 use Rattle.image.specs.Decode.{maxAt}
 use Rattle.image.specs.Rules.{rule5}
-use Rattle.shape.specs.KnownLaws.{max-is, max-small}
+use Rattle.reader.specs.KnownLaws.{max-is, max-small}
 use Rattle.shape.specs.LoopLaws.{passed, failed, left, left-turn, left-done}
 use Rattle.entries.specs.WalkedLaws.{walk-within}
 use Rattle.entries.proofs.Paging.{paged, paging-start, no-page, pair-twice, all-paged}

@@ -1,11 +1,11 @@
 use mathlib.Core.Path.{_≡_, sym, _∙_}
-use Prim.Native.Nat.{suc, _+_, _-_, _≤_, _<_}
+use Prim.Native.Nat.{suc, _+_, _-_, _≤_}
 use native.Mathlib.Omega.{arith}
 use borrow.Author.Tests.{not-true, not-false}
 use Rattle.lists.specs.Lists.{all}
 use Rattle.image.specs.Decode.{maxAt}
 use Rattle.image.specs.Rules.{buckets}
-use Rattle.shape.specs.KnownLaws.{max-is, max-small}
+use Rattle.reader.specs.KnownLaws.{max-is, max-small}
 use Rattle.shape.specs.LoopLaws.{passed, failed, left, left-start, left-turn, left-done}
 use Rattle.entries.specs.WalkedLaws.{walk-within, walk-pages}
 use Rattle.entries.proofs.Homing.{homed, walk-homed}

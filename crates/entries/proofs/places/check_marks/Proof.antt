@@ -1,7 +1,7 @@
-use mathlib.Core.Path.{_≡_, sym, _∙_}
+use mathlib.Core.Path.{_∙_}
 use native.Mathlib.Omega.{arith}
 use borrow.Author.Needs.{needs}
-use Rattle.shape.specs.KnownLaws.{max-is}
+use Rattle.reader.specs.KnownLaws.{max-is}
 use Rattle.entries.specs.WalkedLaws.{walk-within, walk-pages}
 use Rattle.entries.proofs.Homing.{copying-made, walks-marked}
 use Rattle.entries.proofs.places.check_marks.Statement.{statement}

@@ -1,16 +1,13 @@
-use mathlib.Core.Path.{_≡_, sym, ap, _∙_}
-use mathlib.Core.Bool.{true, false}
+use mathlib.Core.Path.{sym, _∙_}
 use borrow.Author.Needs.{needs}
 use borrow.Author.Tests.{not-true, not-false}
-use Rattle.lists.specs.Lists.{all}
-use Rattle.image.specs.Rules.{buckets}
 use Rattle.shape.specs.LoopLaws.{passed, failed}
 use Rattle.entries.proofs.Homing.{places-parts}
 use Rattle.entries.proofs.places.check_places.Statement.{statement}
 use Rattle.entries.proofs.places.check_places.Tie as tie
 
-phase-of-requires : tie.Need-phase-of-requires
-phase-of-requires c κs = search needs
+read-job-requires : tie.Need-read-job-requires
+read-job-requires c κs = search needs
 
 check-chains-requires : tie.Need-check-chains-requires
 check-chains-requires c κs = search needs
@@ -20,7 +17,7 @@ returns c =
     let h = c .before in
     let p = h .before in
     let a = p .before .before .args in
-    let parts = places-parts (a .store .now) (p .phase-of .result) (p .phase-of .ensures) in
+    let parts = places-parts (a .store .now) (p .read-job .result) (p .read-job .ensures) in
     sym (failed _ _ _ parts (sym (h .check-chains .ensures) ∙ not-true (h .check-chains .result) (c .if1 .taken)))
 
 check-marks-requires : tie.Need-check-marks-requires
@@ -32,11 +29,11 @@ returns-2 c =
     let h = e .before in
     let p = h .before in
     let a = p .before .before .args in
-    let parts = places-parts (a .store .now) (p .phase-of .result) (p .phase-of .ensures) in
+    let parts = places-parts (a .store .now) (p .read-job .result) (p .read-job .ensures) in
     c .check-marks .ensures
     ∙ passed _ _ _ parts (sym (h .check-chains .ensures) ∙ not-false (h .check-chains .result) (e .if1 .left))
 
 pub check-places-spec : {M : Type 1} → statement M
 check-places-spec =
     tie.close
-    (tie.spec phase-of-requires check-chains-requires returns check-marks-requires returns-2)
+    (tie.spec read-job-requires check-chains-requires returns check-marks-requires returns-2)

@@ -1,13 +1,10 @@
 use mathlib.Core.Path.{_≡_, sym, ap, ap₂, _∙_}
-use mathlib.Core.List.{List}
-use Prim.Native.Nat.{ℕ}
 use lib.Dec.{eqb}
 use Rattle.image.specs.declared.Meta.{Meta}
-use Rattle.image.specs.Rules.{mapAt, topAt}
-use Rattle.chain.specs.declared.Free.{Free}
+use Rattle.image.specs.Rules.{topAt}
 use Rattle.chain.specs.Bitmap.{freeOr, lowestFree}
 use Rattle.chain.specs.BitmapLaws.{freeOr-rule}
-use Rattle.shape.specs.KnownLaws.{known-addressed, top-is}
+use Rattle.reader.specs.KnownLaws.{known-addressed, top-is}
 use Rattle.shape.specs.Bits.{lowestClear}
 use Rattle.shape.proofs.Bitmaps.{map-full}
 use borrow.Author.Needs.{needs}

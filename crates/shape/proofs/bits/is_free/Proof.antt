@@ -1,9 +1,9 @@
-use mathlib.Core.Path.{_≡_, sym, ap, _∙_}
-use mathlib.Core.Bool.{Bool, not}
-use Prim.Native.Nat.{ℕ, _<_}
+use mathlib.Core.Path.{sym, ap, _∙_}
+use mathlib.Core.Bool.{not}
+use Prim.Native.Nat.{_<_}
 use native.Mathlib.Omega.{arith}
 use Rattle.image.specs.Rules.{isOverflow, topAt}
-use Rattle.shape.specs.KnownLaws.{known-addressed, top-is, bit-is}
+use Rattle.reader.specs.KnownLaws.{known-addressed, top-is, bit-is}
 use Rattle.shape.proofs.Bitmaps.{free-first, free-past, free-made}
 use borrow.Author.Needs.{needs}
 use Rattle.shape.proofs.bits.is_free.Statement.{statement}

@@ -10,7 +10,7 @@ use Rattle.image.specs.Decode.{blockOf}
 use Rattle.image.specs.Rules.{linked}
 use Rattle.chain.specs.Walk.{walk}
 use Rattle.chain.specs.WithinLaws.{walked-some}
-use Rattle.shape.specs.KnownLaws.{sized}
+use Rattle.reader.specs.KnownLaws.{sized}
 use Rattle.shape.specs.LoopLaws.{passed, failed}
 use Rattle.shape.specs.ChainedLaws.{chained}
 use Rattle.shape.proofs.Chaining.{chain-start, chain-turn, chain-end, trail-few}

@@ -1,9 +1,8 @@
 use mathlib.Core.Path.{_≡_, sym, ap, _∙_}
 use mathlib.Core.Bool.{true, false}
-use Prim.Native.Nat.{ℕ, _+_, _*_, _≤_}
+use Prim.Native.Nat.{ℕ}
 use mathlib.Core.List.{List}
 use native.Mathlib.Omega.{arith}
-use borrow.Author.Needs.{needs}
 use borrow.Author.Tests.{not-true, not-false, eq-eqb, ne-eqb}
 use lib.Dec.{ltb, eqb}
 use lib.ListN.{length}
@@ -11,7 +10,7 @@ use Rattle.lists.specs.Block.{block}
 use Rattle.endian.specs.Endian.{u16At}
 use Rattle.store.specs.Store.{prevAt, bucketAt}
 use Rattle.image.specs.Rules.{isOverflow}
-use Rattle.shape.specs.KnownLaws.{block-whole, block-full}
+use Rattle.reader.specs.KnownLaws.{block-whole, block-full}
 use Rattle.shape.specs.ChainedLaws.{overflow-inside}
 use Rattle.shape.proofs.links.check_link.Statement.{statement}
 use Rattle.shape.proofs.links.check_link.Tie as tie

@@ -1,11 +1,10 @@
-use mathlib.Core.Path.{_≡_, sym, ap, _∙_}
-use Prim.Native.Nat.{ℕ, _+_, _-_, _≤_, _<_}
+use mathlib.Core.Path.{sym, ap, _∙_}
+use Prim.Native.Nat.{_+_, _-_}
 use native.Mathlib.Omega.{arith}
 use borrow.Author.Tests.{not-true, not-false}
 use lib.Dec.{eqb}
 use Rattle.chain.specs.WithinLaws.{walked-some}
-use Rattle.image.specs.Decode.{maxAt}
-use Rattle.shape.specs.KnownLaws.{sized, max-is, max-small}
+use Rattle.reader.specs.KnownLaws.{sized, max-is, max-small}
 use Rattle.shape.proofs.Chaining.{Linking, linking-start, linking-turn, linking-broken, linking-end, trail-few}
 use Rattle.shape.proofs.links.check_links.Statement.{statement}
 use Rattle.shape.proofs.links.check_links.Tie as tie

@@ -1,12 +1,12 @@
 use mathlib.Core.Path.{_≡_, sym, ap, _∙_}
 use mathlib.Core.Logic.{⊎-elim}
-use Prim.Native.Nat.{ℕ, _+_, _-_, _/_, _≤_, _<_}
+use Prim.Native.Nat.{ℕ, _+_, _-_, _/_, _≤_}
 use native.Mathlib.Omega.{arith}
 use lib.ListN.{length}
 use Rattle.lists.specs.Lists.{b2n, tally, upFrom}
 use Rattle.lists.specs.Block.{blocks}
 use Rattle.image.specs.Rules.{isOverflow}
-use Rattle.shape.specs.KnownLaws.{sized}
+use Rattle.reader.specs.KnownLaws.{sized}
 use Rattle.shape.specs.LoopLaws.{run-turn, run-done}
 use Rattle.shape.proofs.links.count_overflow.Statement.{statement}
 use Rattle.shape.proofs.links.count_overflow.Tie as tie

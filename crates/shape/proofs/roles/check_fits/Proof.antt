@@ -1,13 +1,12 @@
 use mathlib.Core.Path.{_≡_, sym, ap, _∙_}
-use mathlib.Core.Bool.{true, false}
-use Prim.Native.Nat.{ℕ, _-_, _<_}
+use Prim.Native.Nat.{_-_, _<_}
 use native.Mathlib.Omega.{arith}
 use borrow.Author.Tests.{not-true, not-false}
 use lib.ListN.{length}
 use Rattle.lists.specs.Lists.{all, upFrom}
 use Rattle.lists.specs.Block.{blocks}
 use Rattle.shape.specs.LoopLaws.{passed, failed, left, left-start, left-turn, left-done}
-use Rattle.shape.specs.KnownLaws.{known-addressed, sized, block-whole, block-full}
+use Rattle.reader.specs.KnownLaws.{known-addressed, sized, block-whole, block-full}
 use Rattle.shape.proofs.Fitting.{fitsAt, fits-found}
 use Rattle.shape.proofs.roles.check_fits.Statement.{statement}
 use Rattle.shape.proofs.roles.check_fits.Tie as tie

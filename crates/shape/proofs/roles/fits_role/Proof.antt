@@ -1,7 +1,7 @@
-use mathlib.Core.Path.{_≡_, sym, ap, _∙_}
+use mathlib.Core.Path.{sym, ap, _∙_}
 use Rattle.address.specs.declared.BlockRole.{BlockRole}
 use Rattle.image.specs.Rules.{fits}
-use Rattle.shape.specs.Roles.{asRole}
+use Rattle.reader.specs.Roles.{asRole}
 use borrow.Author.Needs.{needs}
 use Rattle.shape.proofs.roles.fits_role.Statement.{statement}
 use Rattle.shape.proofs.roles.fits_role.Tie as tie

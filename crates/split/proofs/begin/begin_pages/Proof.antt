@@ -6,7 +6,8 @@ use borrow.Author.Needs.{needs}
 use Rattle.lists.specs.Block.{blocks}
 use Rattle.address.specs.Address.{splitFrom}
 use Rattle.image.specs.Decode.{decode}
-use Rattle.view.specs.ReadsLaws.{reads-sized, reads-low, bucket-low, block-read, block-small}
+use Rattle.reader.specs.KnownLaws.{known-addressed, max-is, bucket-is}
+use Rattle.view.specs.ReadsLaws.{reads-known, reads-sized, reads-low}
 use Rattle.plan.specs.Sketch.{Sketch}
 use Rattle.plan.specs.SketchLaws.{sketch-none, ready}
 use Rattle.split.specs.Job.{bucketAt}
@@ -39,14 +40,11 @@ bucket-block-requires c κs =
     let s = c .before .before .before .before .before in
     new-fits (s .pre .0 .0) (s .pre .1 .0) (s .pre .1 .1)
 
-bucket-block-requires-2 : tie.Need-bucket-block-requires-2
-bucket-block-requires-2 c κs =
+home-of-requires : tie.Need-home-of-requires
+home-of-requires c κs =
     let p = c .before in
-    let s = p .before .before .before .before .before in (
-      bucket-low (s .pre .0 .0) (p .parent-of .result) (old p),
-      block-small (s .pre .0 .0) (p .parent-of .result)
-          (old p),
-    )
+    let s = p .before .before .before .before .before in
+    (known-addressed (reads-known (s .pre .0 .0)), old p)
 
 to-is : (c : tie.After-bucket-block)
     → let s = c .before .before .before .before .before .before .args .store .now in c .bucket-block .result
@@ -55,14 +53,15 @@ to-is c =
     let s = c .before .before .before .before .before .before in
     c .bucket-block .ensures ∙ new-block (s .pre .0 .0) (s .pre .1 .0) (s .pre .1 .1)
 
-from-is : (c : tie.After-bucket-block2)
-    → let s = c .before .before .before .before .before .before .before .args .store .now in c .bucket-block2 .result
+from-is : (c : tie.After-home-of)
+    → let s = c .before .before .before .before .before .before .before .args .store .now in c .home-of .result
     ≡ bucketAt s (parentBucket s)
 unfolding decode
 from-is c =
     let p = c .before .before in
     let s = p .before .before .before .before .before in
-    c .bucket-block2 .ensures ∙ block-read (s .pre .0 .0) (p .parent-of .result) (old p)
+    let k = reads-known (s .pre .0 .0) in
+    c .home-of .ensures ∙ bucket-is k (p .parent-of .result) (omega (arith, max-is k, old p))
     ∙ ap (bucketAt (s .args .store .now)) (is-old p)
 
 new-draft-requires : tie.Need-new-draft-requires
@@ -100,11 +99,11 @@ put-prev-requires : tie.Need-put-prev-requires
 put-prev-requires c κs =
     let b = c .before .before .before .before .before .before in
     let s = b .before .before .before .before .before .before .before in
-    let inside : b .bucket-block2 .result < blocks (s .args .store .now) =
+    let inside : b .home-of .result < blocks (s .args .store .now) =
     subst (λ (k : ℕ). k < blocks (s .args .store .now)) (sym (from-is b))
     (old-at (s .pre .0 .0) (s .pre .1 .0) (s .pre .1 .1)) in (
       madeDraft (s .args .store .now),
-      ready (sketch-1 (c .before .before .before)) (b .bucket-block2 .result) inside
+      ready (sketch-1 (c .before .before .before)) (b .home-of .result) inside
           (omega arith),
     )
 
@@ -116,7 +115,7 @@ sketch-2 : (c : tie.After-put-prev)
 sketch-2 c =
     let b = c .before .before .before .before .before .before .before in
     let s = b .before .before .before .before .before .before .before in
-    begun-linked (s .pre .0 .0) (s .pre .1 .0) (s .pre .1 .1) (b .bucket-block2 .result) _ (from-is b)
+    begun-linked (s .pre .0 .0) (s .pre .1 .0) (s .pre .1 .1) (b .home-of .result) _ (from-is b)
     (new-read (s .pre .0 .0) (s .pre .1 .0) (s .pre .1 .1)) (sketch-1 (c .before .before .before .before))
     (c .put-prev .ensures)
 
@@ -152,7 +151,7 @@ begin-pages-spec =
     add-new
     parent-of-requires
     bucket-block-requires
-    bucket-block-requires-2
+    home-of-requires
     new-draft-requires
     write-empty-requires
     put-prev-requires

@@ -1,31 +1,34 @@
 use mathlib.Core.Path.{_≡_, sym, _∙_, subst}
 use Prim.Native.Nat.{ℕ}
+use native.Mathlib.Omega.{arith}
 use borrow.Author.Needs.{needs}
 use lib.Seq.{sets}
 use Rattle.endian.specs.Endian.{le16}
 use Rattle.draft.specs.Draft.{Ready, Edited}
 use Rattle.image.specs.Decode.{decode}
-use Rattle.view.specs.ReadsLaws.{bucket-low, block-read, block-small}
+use Rattle.reader.specs.KnownLaws.{known-addressed, max-is, bucket-is}
+use Rattle.view.specs.ReadsLaws.{reads-known}
 use Rattle.split.specs.Job.{bucketAt}
 use Rattle.split.proofs.job.mark_bucket.Statement.{statement}
 use Rattle.split.proofs.job.mark_bucket.Tie as tie
 
-bucket-block-requires : tie.Need-bucket-block-requires
-bucket-block-requires c κs =
-    let s = c .before .before .before .before in
-    (bucket-low (s .pre .0 .0) (s .args .b) (s .pre .0 .1), block-small (s .pre .0 .0) (s .args .b) (s .pre .0 .1))
+home-of-requires : tie.Need-home-of-requires
+home-of-requires c κs =
+    let s = c .before .before .before in
+    (known-addressed (reads-known (s .pre .0 .0)), s .pre .0 .1)
 
-block-is : (c : tie.After-bucket-block)
-    → let a = c .before .before .before .before .before .args in
-    c .bucket-block .result ≡ bucketAt (a .store .now) (a .b)
+block-is : (c : tie.After-home-of)
+    → let a = c .before .before .before .before .args in
+    c .home-of .result ≡ bucketAt (a .store .now) (a .b)
 unfolding decode
 block-is c =
-    let s = c .before .before .before .before .before in
-    c .bucket-block .ensures ∙ block-read (s .pre .0 .0) (s .args .b) (s .pre .0 .1)
+    let s = c .before .before .before .before in
+    let k = reads-known (s .pre .0 .0) in
+    c .home-of .ensures ∙ bucket-is k (s .args .b) (omega (arith, max-is k, s .pre .0 .1))
 
 put-flags-requires : tie.Need-put-flags-requires
 put-flags-requires c κs =
-    let s = c .before .before .before .before .before in (
+    let s = c .before .before .before .before in (
       s .pre .1 .0,
       subst (λ (k : ℕ). Ready (s .args .store .now) (s .args .change) (s .args .images .now) (s .pre .1 .0) k)
           (sym (block-is c)) (s .pre .1 .1),
@@ -37,7 +40,7 @@ same-length c = search needs
 returns : tie.Need-returns
 returns c =
     let f = c .before .before in
-    let a = f .before .before .before .before .before .before .args in
+    let a = f .before .before .before .before .before .args in
     subst
     (λ (k : ℕ). Edited (a .store .now) (a .change) (a .images .now) k (λ l. sets l 504 (le16 (a .flags)))
     (f .put-flags .result) (f .put-flags .last .1 .1 .0))
@@ -45,4 +48,4 @@ returns c =
 
 pub mark-bucket-spec : {M : Type 1} → statement M
 mark-bucket-spec =
-    tie.close (tie.spec bucket-block-requires put-flags-requires same-length returns)
+    tie.close (tie.spec home-of-requires put-flags-requires same-length returns)

@@ -1,10 +1,11 @@
-use mathlib.Core.Path.{sym, ap, _∙_, subst}
+use mathlib.Core.Path.{ap, _∙_}
 use mathlib.Core.List.{[], _∷_}
 use Prim.Native.Nat.{ℕ, _≤_}
 use native.Mathlib.Omega.{arith}
 use borrow.Author.Needs.{needs}
 use Rattle.address.specs.Address.{splitFrom}
-use Rattle.view.specs.ReadsLaws.{reads-sized, reads-max, old-made}
+use Rattle.reader.specs.JobLaws.{old-low}
+use Rattle.view.specs.ReadsLaws.{reads-sized, reads-max, reads-known}
 use Rattle.plan.specs.Sketch.{Sketch}
 use Rattle.plan.specs.SketchLaws.{sketch-none, ready}
 use Rattle.split.specs.Job.{bucketAt, clearedDraft}
@@ -21,7 +22,7 @@ parent-of-requires c κs = search needs
 old : (c : tie.After-parent-of) → c .parent-of .result ≤ c .before .before .before .before .before .args .m .max
 old c =
     let s = c .before .before .before .before .before in
-    subst (λ (k : ℕ). k ≤ s .args .m .max) (sym (c .parent-of .ensures)) (old-made (s .pre .0 .0))
+    old-low (reads-known (s .pre .0 .0)) (c .parent-of .result) (c .parent-of .ensures)
 
 sketch-0 : (c : tie.After-parent-of)
     → let a = c .before .before .before .before .before .args in

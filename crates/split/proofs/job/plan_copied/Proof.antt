@@ -1,4 +1,4 @@
-use mathlib.Core.Path.{_≡_, sym, ap, _∙_, subst}
+use mathlib.Core.Path.{_≡_, sym, ap, _∙_}
 use mathlib.Core.Logic.{_≢_}
 use mathlib.Core.List.{[], _∷_}
 use Prim.Native.Nat.{ℕ, _≤_}
@@ -8,7 +8,8 @@ use Rattle.lists.specs.Block.{setBlock}
 use Rattle.address.specs.Address.{splitFrom}
 use Rattle.model.specs.Index.{oldBucket}
 use Rattle.image.specs.Decode.{decode}
-use Rattle.view.specs.ReadsLaws.{reads-sized, reads-max, old-made}
+use Rattle.reader.specs.JobLaws.{old-low}
+use Rattle.view.specs.ReadsLaws.{reads-sized, reads-max, reads-known}
 use Rattle.plan.specs.Sketch.{Sketch}
 use Rattle.plan.specs.SketchLaws.{sketch-none, ready}
 use Rattle.split.specs.Job.{bucketAt, flagged, copiedDraft}
@@ -57,7 +58,7 @@ old : (c : tie.After-parent-of)
     → c .parent-of .result ≤ c .before .before .before .before .before .before .before .before .before .args .m .max
 old c =
     let s = c .before .before .before .before .before .before .before .before .before in
-    subst (λ (k : ℕ). k ≤ s .args .m .max) (sym (c .parent-of .ensures)) (old-made (s .pre .0 .0))
+    old-low (reads-known (s .pre .0 .0)) (c .parent-of .result) (c .parent-of .ensures)
 
 is-old : (c : tie.After-parent-of)
     → let a = c .before .before .before .before .before .before .before .before .before .args in

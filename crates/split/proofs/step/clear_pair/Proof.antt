@@ -11,7 +11,8 @@ use Rattle.model.specs.Held.{count}
 use Rattle.model.specs.WellFormed.{WF}
 use Rattle.model.specs.MachineLaws.{never}
 use Rattle.image.specs.Decode.{decode}
-use Rattle.view.specs.ReadsLaws.{reads-max, old-made}
+use Rattle.reader.specs.JobLaws.{old-low}
+use Rattle.view.specs.ReadsLaws.{reads-max, reads-known}
 use Rattle.view.specs.HeldLaws.{findAt-none}
 use Rattle.plan.specs.Plan.{Plans}
 use Rattle.split.proofs.step.clear_pair.Statement.{statement}
@@ -27,7 +28,7 @@ is-old c = c .parent-of .ensures ∙ ap splitFrom (reads-max (c .before .before 
 old : (c : tie.After-parent-of) → c .parent-of .result ≤ c .before .before .before .args .m .max
 old c =
     let s = c .before .before .before in
-    subst (λ (k : ℕ). k ≤ s .args .m .max) (sym (c .parent-of .ensures)) (old-made (s .pre .0 .0))
+    old-low (reads-known (s .pre .0 .0)) (c .parent-of .result) (c .parent-of .ensures)
 
 find-in-requires : tie.Need-find-in-requires
 find-in-requires c κs = (c .before .before .before .pre .0 .0, old c)

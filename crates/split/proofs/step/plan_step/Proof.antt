@@ -1,12 +1,13 @@
 use mathlib.Core.Path.{sym, _∙_}
 use borrow.Author.Needs.{needs}
 use Rattle.image.specs.Decode.{decode}
+use Rattle.view.specs.ReadsLaws.{reads-known}
 use Rattle.split.specs.StepLaws.{job-at}
 use Rattle.split.proofs.step.plan_step.Statement.{statement}
 use Rattle.split.proofs.step.plan_step.Tie as tie
 
 read-job-requires : tie.Need-read-job-requires
-read-job-requires c κs = search needs
+read-job-requires c κs = reads-known (c .before .before .pre .0)
 
 enum-told : tie.Need-enum-told
 enum-told c = search needs

@@ -1,8 +1,8 @@
-use mathlib.Core.Path.{sym, ap, _∙_}
-use Prim.Native.Nat.{ℕ}
+use mathlib.Core.Path.{ap, _∙_}
 use native.Mathlib.Omega.{arith}
 use borrow.Author.Needs.{needs}
 use Rattle.view.specs.declared.Sources.{Sources}
+use Rattle.view.specs.ReadsLaws.{reads-known}
 use Rattle.view.specs.SourcesLaws.{source-other, source-settled, source-populated}
 use Rattle.view.proofs.held.sources_of.Statement.{statement}
 use Rattle.view.proofs.held.sources_of.Tie as tie
@@ -17,7 +17,9 @@ returns c =
     source-other (s .pre) (s .args .hash) (b .bucket-of .result) (b .bucket-of .ensures) (c .if1 .taken)
 
 bucket-flags-requires : tie.Need-bucket-flags-requires
-bucket-flags-requires c κs = search needs
+bucket-flags-requires c κs =
+    let b = c .before .before in
+    (reads-known (b .before .before .pre), omega (arith, c .if1 .left))
 
 returns-2 : tie.Need-returns-2
 returns-2 c =

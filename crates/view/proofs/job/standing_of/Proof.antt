@@ -1,19 +1,16 @@
-use mathlib.Core.Path.{_≡_, sym, ap, ap₂, _∙_}
-use Prim.Native.Nat.{ℕ, suc, _+_, _*_, _^_, _≤_, _<_}
+use mathlib.Core.Path.{_≡_, ap, ap₂, _∙_}
+use Prim.Native.Nat.{suc, _+_, _*_, _^_, _≤_, _<_}
 use native.Mathlib.Nat.{mul-le-mul}
 use native.Mathlib.Numerals.{add-one}
 use native.Mathlib.Omega.{arith}
 use borrow.Author.Needs.{needs}
 use lib.IntN.{subℕ}
 use mir.Syntax.{w64}
-use mir.Val.{SFits}
 use mir.ValLaws.{toZ-ofZ}
 use Rattle.address.specs.Limits.{maxBlocks}
 use Rattle.model.specs.Held.{slack}
 use Rattle.model.specs.Calls.{standing}
-use Rattle.image.specs.declared.Meta.{Meta}
-use Rattle.view.specs.Reads.{Reads}
-use Rattle.view.specs.ReadsLaws.{reads-laid, reads-max, reads-count, reads-fill, reads-low}
+use Rattle.view.specs.ReadsLaws.{reads-known, reads-laid, reads-max, reads-count, reads-fill, reads-low}
 use Rattle.view.proofs.Slack.{sub-is, sub-fits}
 use Rattle.view.proofs.job.standing_of.Statement.{statement}
 use Rattle.view.proofs.job.standing_of.Tie as tie
@@ -34,7 +31,7 @@ mul-wide : tie.Need-mul-wide
 mul-wide c = omega (arith, product (c .before .before .before))
 
 read-job-requires : tie.Need-read-job-requires
-read-job-requires c κs = search needs
+read-job-requires c κs = reads-known (c .before .before .before .pre)
 
 cast-t7 : tie.Need-cast-t7
 cast-t7 c = record { sfits = omega (arith, product (c .before .before .before .before)) }
