@@ -6,7 +6,7 @@ use mathlib.Core.Option.{Option, none, some, Option·getD}
 use Prim.Native.Nat.{ℕ, _≤_, _<_}
 use native.Mathlib.Omega.{arith}
 use borrow.Author.Tests.{eqb-true, ltb-true}
-use lib.Dec.{eqb, ltb}
+use lib.Dec.{ltb}
 use Rattle.lists.specs.Lists.{b2n, all, Each, upFrom}
 use Rattle.lists.specs.ListsLaws.{and-left, and-right}
 use Rattle.lists.specs.RunLaws.{all-get}
@@ -18,7 +18,7 @@ use Rattle.model.specs.Index.{topBit}
 use Rattle.model.specs.Pages.{freeBit, firstFree}
 use Rattle.model.specs.LaidLaws.{free-bit}
 use Rattle.image.specs.Decode.{metaAt, maxAt, blockOf, decode}
-use Rattle.image.specs.Rules.{mapAt, bitAt, topAt, freeAt, rule6}
+use Rattle.image.specs.Rules.{mapAt, bitAt, topAt, freeAt, bitOk, rule6}
 use Rattle.image.specs.SoundFieldsLaws.{SoundBytes}
 use Rattle.image.specs.SoundChainsLaws.{PageRead, chain-read}
 use Rattle.image.specs.SoundBitsLaws.{free-read}
@@ -59,15 +59,12 @@ module _ (s : List ℕ) (g : SoundBytes s) where
 
   -- ---- the lowest 0 bit
 
-  abbrev bitRule : ℕ → Bool
-  bitRule n = eqb (bitAt s n) (b2n (not (freeAt s n)))
-
   -- a 0 bit is below spares[s]
   zero-made : (n : ℕ) → n < 2048 → bitAt s n ≡ 0 → n < topAt s
   unfolding rule6
   zero-made n h z =
-      let bits = and-left (all bitRule (upFrom 0 2048)) _ (g .passes .six) in
-      let bit = eqb-true (bitAt s n) _ (all-get bitRule 0 2048 bits n (omega arith) h) in
+      let bits = and-left (all (bitOk s) (upFrom 0 2048)) _ (g .passes .six) in
+      let bit = eqb-true (bitAt s n) _ (all-get (bitOk s) 0 2048 bits n (omega arith) h) in
       let free = zero-not (freeAt s n) (sym bit ∙ z) in
       ltb-true n (topAt s) (and-left (ltb n (topAt s)) _ (and-right (ltb 0 n) _ free))
     where
@@ -79,7 +76,7 @@ module _ (s : List ℕ) (g : SoundBytes s) where
   first-same : freeOr (topAt s) (lowestFree (mapAt s)) ≡ firstFree (decode s)
   unfolding rule6
   first-same =
-      let rest = and-right (all bitRule (upFrom 0 2048)) _ (g .passes .six) in
+      let rest = and-right (all (bitOk s) (upFrom 0 2048)) _ (g .passes .six) in
       let first = eqb-true (metaAt s .free) _ (and-right (allZero (part 256 492 (mapAt s))) _ rest) in
       sym (freeOr-rule s (topAt s)) ∙ sym first ∙ free-read s g
 

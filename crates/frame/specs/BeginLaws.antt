@@ -23,16 +23,15 @@ use Rattle.address.specs.SparesLaws.{point-next, bucket-append, bit-append}
 use Rattle.address.specs.RoleLaws.{role-is, role-only}
 use Rattle.page.specs.Entries.{encodePage}
 use Rattle.model.specs.Index.{Page, Chain, Job, idle, copying, Index, noChain, chain, topBit}
-use Rattle.model.specs.Pages.{bitsOf}
+use Rattle.model.specs.Pages.{bitsOf, isFree}
 use Rattle.model.specs.Steps.{widen}
 use Rattle.model.specs.WellFormed.{uses, Laid}
 use Rattle.model.specs.ViewLaws.{Beginning, samePoint, newPoint}
 use Rattle.model.specs.LaidLaws.{chain-wider, begin-laid}
 use Rattle.model.specs.MachineLaws.{never}
-use Rattle.image.specs.Layout.{paged, blank, mapFront, isFree, flagsIn, flagsOf, LinkedPage, nextOf}
+use Rattle.image.specs.Layout.{paged, blank, mapFront, flagsIn, flagsOf, LinkedPage, nextOf}
 use Rattle.store.specs.Flags.{noLink}
-use Rattle.image.specs.Layout.{linkedOf, linkedFrom, linkedPages, bucketImage, overflowImage, image}
-use Rattle.image.specs.Layout.{encodeBlock}
+use Rattle.image.specs.Layout.{linkedOf, linkedFrom, linkedPages, bucketImage, overflowImage, image, encodeBlock}
 use Rattle.frame.specs.Frame.{Apart, blockOfBit, beginBlocks}
 use Rattle.image.specs.LinkedLaws.{hasBit}
 use Rattle.image.specs.BoundLaws.{max-under}

@@ -19,11 +19,11 @@ use Rattle.address.specs.RoleLaws.{role-is}
 use Rattle.page.specs.declared.Entry.{Entry}
 use Rattle.page.specs.Entries.{encodePage}
 use Rattle.model.specs.Index.{Page, Chain, Index, noChain, chain, topBit, setChain}
-use Rattle.model.specs.Pages.{bitsOf, bitsUsed}
+use Rattle.model.specs.Pages.{bitsOf, bitsUsed, isFree}
 use Rattle.model.specs.WellFormed.{uses, Laid}
 use Rattle.model.specs.StandLaws.{chain-here, chain-there}
 use Rattle.model.specs.LaidLaws.{bits-set}
-use Rattle.image.specs.Layout.{paged, blank, mapFront, isFree, flagsOf, LinkedPage, nextOf, linkedOf}
+use Rattle.image.specs.Layout.{paged, blank, mapFront, flagsOf, LinkedPage, nextOf, linkedOf}
 use Rattle.store.specs.Flags.{noLink}
 use Rattle.image.specs.Layout.{linkedFrom, bucketImage, overflowImage, image, encodeBlock}
 use Rattle.frame.specs.Frame.{blockOfBit, mapBlock}
@@ -109,6 +109,7 @@ module _ (x : Index) (l : Laid x) (b : ℕ) (fits : b < length (x .chains)) (c :
 
 -- ---- the bitmap
 
+-- isFree as facts
 abbrev pub Free : Index → ℕ → Type 0
 Free x n = (1 ≤ n) × (n < topBit x) × (uses n x ≡ 0)
 

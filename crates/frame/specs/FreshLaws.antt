@@ -20,11 +20,11 @@ use Rattle.address.specs.RoleLaws.{role-is, role-only}
 use Rattle.page.specs.declared.Entry.{Entry}
 use Rattle.page.specs.Entries.{encodePage}
 use Rattle.model.specs.Index.{Page, Chain, Index, chain, topBit, setChain}
-use Rattle.model.specs.Pages.{addPage}
+use Rattle.model.specs.Pages.{addPage, isFree}
 use Rattle.model.specs.WellFormed.{uses, Laid}
 use Rattle.model.specs.ChainLaws.{bits-page}
 use Rattle.model.specs.LaidLaws.{bits-set}
-use Rattle.image.specs.Layout.{paged, blank, mapFront, isFree, flagsOf, LinkedPage, nextOf, linkedOf}
+use Rattle.image.specs.Layout.{paged, blank, mapFront, flagsOf, LinkedPage, nextOf, linkedOf}
 use Rattle.store.specs.Flags.{noLink}
 use Rattle.image.specs.Layout.{linkedFrom, bucketImage, overflowImage, image, encodeBlock}
 use Rattle.frame.specs.Frame.{Apart, blockOfBit, blocksAfter, chainBlocks, putAlters}

@@ -16,7 +16,7 @@ use Rattle.page.specs.declared.Entry.{Entry}
 use Rattle.page.specs.Pair.{same, is, enter}
 use Rattle.page.specs.AscendingLaws.{ascending-once, length-enter}
 use Rattle.model.specs.Index.{idle, Index, onPages, chain, entriesAt, topBit, setChain}
-use Rattle.model.specs.Pages.{addEntry, firstFree, without, cut}
+use Rattle.model.specs.Pages.{addEntry, firstFree, without, cut, isFree}
 use Rattle.model.specs.Held.{held, self, count}
 use Rattle.model.specs.Steps.{next, step}
 use Rattle.model.specs.Calls.{Result, done, insert, remove}
@@ -34,7 +34,7 @@ use Rattle.model.specs.StepLaws.{step-wf, step-held}
 use Rattle.model.specs.FrameLaws.{Framed, job-frame}
 use Rattle.model.specs.MachineLaws.{never}
 use Rattle.image.specs.declared.Meta.{Meta}
-use Rattle.image.specs.Layout.{paged, metaFront, padded, metaOf, isFree, mapBit, encodeBlock}
+use Rattle.image.specs.Layout.{paged, metaFront, padded, metaOf, mapBit, encodeBlock}
 use Rattle.store.specs.Flags.{noLink}
 use Rattle.image.specs.BoundLaws.{top-small}
 use Rattle.image.specs.FreeLaws.{first-zero}

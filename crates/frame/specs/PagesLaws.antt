@@ -15,13 +15,13 @@ use Rattle.address.specs.Address.{lastSplit, bucketBlock}
 use Rattle.page.specs.declared.Entry.{Entry}
 use Rattle.page.specs.Entries.{encodePage}
 use Rattle.model.specs.Index.{Page, Chain, Index, chain, setChain}
-use Rattle.model.specs.Pages.{hasRoom, pageRoom, chainRoom, enterEntry, addMore, addEntry, addPage}
+use Rattle.model.specs.Pages.{hasRoom, pageRoom, chainRoom, enterEntry, addMore, addEntry, addPage, isFree}
 use Rattle.model.specs.WellFormed.{uses, Laid}
 use Rattle.model.specs.ChainLaws.{bits-page}
 use Rattle.model.specs.LaidLaws.{bits-set}
 use Rattle.model.specs.StandLaws.{chain-here}
 use Rattle.model.specs.MachineLaws.{never}
-use Rattle.image.specs.Layout.{paged, isFree, mapBit, flagsOf, encodeBlock}
+use Rattle.image.specs.Layout.{paged, mapBit, flagsOf, encodeBlock}
 use Rattle.store.specs.Flags.{noLink}
 use Rattle.frame.specs.Frame.{blockOfBit, blocksAfter, chainBlocks, placeBlock, pageBlock, entriesAfter}
 use Rattle.frame.specs.Frame.{placeEntries, pageEntries, pageWith, placeImage, prevIn, flagsFor, firstPlace}

@@ -12,10 +12,10 @@ use Rattle.lists.specs.Lists.{find}
 use Rattle.address.specs.Address.{point, bucketBlock}
 use Rattle.page.specs.declared.Entry.{Entry}
 use Rattle.model.specs.Index.{Page, Chain, Index, chain, setChain}
-use Rattle.model.specs.Pages.{hasRoom, pageRoom, enterEntry, addMore, addEntry, addPage}
+use Rattle.model.specs.Pages.{hasRoom, pageRoom, enterEntry, addMore, addEntry, addPage, isFree}
 use Rattle.model.specs.WellFormed.{Laid}
 use Rattle.model.specs.ChainLaws.{bits-add}
-use Rattle.image.specs.Layout.{isFree, LinkedPage, nextOf, linkedOf, encodeBlock}
+use Rattle.image.specs.Layout.{LinkedPage, nextOf, linkedOf, encodeBlock}
 use Rattle.store.specs.Flags.{noLink}
 use Rattle.frame.specs.Frame.{Apart, blockOfBit, mapBlock, blocksAfter, pageBlock, firstPlace, roomPlace}
 use Rattle.frame.specs.Frame.{lastPlace, putAlters}

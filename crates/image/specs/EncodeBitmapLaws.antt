@@ -1,11 +1,11 @@
 -- The bitmap of a well-formed index passes rule 6.
 use mathlib.Core.Path.{_≡_, sym, ap, ap₂, _∙_}
-use mathlib.Core.Bool.{Bool, true, not, _&&_}
+use mathlib.Core.Bool.{Bool, true, not}
 use mathlib.Core.List.{List, _++_}
 use mathlib.Core.Option.{Option·getD}
 use Prim.Native.Nat.{ℕ, _<_}
 use native.Mathlib.Omega.{arith}
-use lib.Dec.{ltb, eqb}
+use lib.Dec.{eqb}
 use lib.ListN.{getD}
 use borrow.Author.Tests.{eq-eqb}
 use Rattle.lists.specs.Lists.{b2n, find, upFrom}
@@ -23,10 +23,11 @@ use Rattle.store.specs.Store.{trailer}
 use Rattle.model.specs.Index.{Index, topBit}
 use Rattle.model.specs.WellFormed.{uses, Laid, WF}
 use Rattle.image.specs.declared.Meta.{Meta}
-use Rattle.image.specs.Layout.{metaOf, mapFront, isFree, mapBit, image, encode}
+use Rattle.image.specs.Layout.{metaOf, mapFront, mapBit, image, encode}
 use Rattle.store.specs.Flags.{noLink}
+use Rattle.model.specs.Pages.{freeOf, isFree}
 use Rattle.image.specs.Decode.{bitOf, bitFrom, pointAt, sparesAt}
-use Rattle.image.specs.Rules.{isOverflow, mapAt, bitAt, topAt, freeAt, rule6}
+use Rattle.image.specs.Rules.{isOverflow, mapAt, bitAt, topAt, freeAt, bitOk, rule6}
 use Rattle.image.specs.PagedLaws.{paged-parts}
 use Rattle.image.specs.BitmapLaws.{length-mapFront, zeros-mapFront, bitOf-mapFront}
 use Rattle.image.specs.BoundLaws.{top-small}
@@ -71,7 +72,7 @@ module _ (x : Index) (w : WF x) where
   free-encode n =
       let at : bitBlock (sparesAt e) (pointAt e) n ≡ bitBlock sp s n =
       ap₂ (λ (q : List ℕ) (m : ℕ). bitBlock q m n) (spares-encode x w) (point-encode x w) in
-      ap₂ (λ (t k : ℕ). ltb 0 n && (ltb n t && not (isOverflow e k))) top-encode at
+      ap₂ (λ (t k : ℕ). freeOf t (isOverflow e k) n) top-encode at
       ∙ free-same x n (isOverflow e (bitBlock sp s n))
       (λ h.
       overflow-uses x w (bitBlock sp s n) (bit-inside x l n h)
@@ -83,7 +84,7 @@ module _ (x : Index) (w : WF x) where
       let first = first-zero x (bitAt e) (omega (arith, top-small x l)) bit-encode in
       let top = ap (Option·getD (find (λ n. eqb (bitAt e n) 0) (upFrom 0 2048))) top-encode in
       and-both _ _
-      (all-put (λ n. eqb (bitAt e n) (b2n (not (freeAt e n)))) 0 2048 (λ n a h.
+      (all-put (bitOk e) 0 2048 (λ n a h.
       eq-eqb _ _ (bit-encode n h ∙ ap (λ (c : Bool). b2n (not c)) (sym (free-encode n)))))
       (and-both _ _
       (ap (λ (t : List ℕ). allZero (part 256 492 t)) map-encode ∙ zeros-mapFront (mapBit x) tail)

@@ -5,7 +5,7 @@ use mathlib.Core.List.{List, [], _∷_, map}
 use Prim.Native.Nat.{ℕ, zero, suc, _+_, _≤_, _<_}
 use native.Mathlib.Decide.{ℕ-discrete, decLe}
 use native.Mathlib.Omega.{arith}
-use lib.Dec.{ltb, eqb}
+use lib.Dec.{eqb}
 use lib.ListN.{length, getD}
 use borrow.Author.Tests.{eq-eqb, ne-eqb, lt-ltb}
 use Rattle.lists.specs.Lists.{b2n, all, tally, bind, upFrom, Each}
@@ -24,7 +24,7 @@ use Rattle.model.specs.Pages.{bitsOf}
 use Rattle.model.specs.WellFormed.{uses, Laid, WF}
 use Rattle.image.specs.Layout.{nextOf, linkedOf, encode}
 use Rattle.image.specs.Decode.{bitFrom, maxAt, blockOf, trail}
-use Rattle.image.specs.Rules.{overflowAs, buckets, isOverflow, linked, rule4}
+use Rattle.image.specs.Rules.{overflowAs, buckets, isOverflow, linkOk, linked, rule4}
 use Rattle.image.specs.EncodeLaws.{blocks-encode}
 use Rattle.image.specs.EncodePagesLaws.{max-encode, role-encode, blockOf-encode, role-of-bit, LinkedIs, chain-is}
 use Rattle.image.specs.EncodeDecodeLaws.{pageBlock, trail-encode}
@@ -66,12 +66,12 @@ module _ (x : Index) (w : WF x) where
       ∙ overflow-bit (g .bit) (block e j) (r .0 .ok .low)
       ∙ eq-eqb _ _ (p .flags) in
       and-both (eqb (nextAt (block e k)) j) _ (eq-eqb _ _ q)
+      (and-both (linkOk e b k j) _
       (and-both (isOverflow e j) _ o
       (and-both (eqb (prevAt (block e j)) k) _ (eq-eqb _ _ (p .prev))
       (and-both (eqb (bucketAt (block e j)) b) _ (eq-eqb _ _ (p .bucket))
-      (and-both (ltb 0 (u16At (block e j) 0)) _
-      (lt-ltb 0 (u16At (block e j) 0) (omega (arith, p .number, r .0 .ok .used)))
-      (linked-encode b j gs (p .next) (r .1))))))
+      (lt-ltb 0 (u16At (block e j) 0) (omega (arith, p .number, r .0 .ok .used))))))
+      (linked-encode b j gs (p .next) (r .1)))
 
   -- ---- each overflow page stands in one chain
 

@@ -24,7 +24,7 @@ use Rattle.page.specs.Entries.{encodePage}
 use Rattle.page.specs.PageLaws.{Bytes-encodePage}
 use Rattle.store.specs.Store.{checked}
 use Rattle.model.specs.Index.{Page, Chain, noChain, Index, chain, topBit}
-use Rattle.model.specs.Pages.{bitsOf}
+use Rattle.model.specs.Pages.{bitsOf, isFree}
 use Rattle.model.specs.WellFormed.{PageOk, MoreOk, ChainOk, Laid}
 use Rattle.model.specs.TallyLaws.{b2n-le}
 use Rattle.model.specs.BoundLaws.{laid-size}
@@ -34,7 +34,6 @@ use Rattle.image.specs.Layout.{
   metaFront,
   metaOf,
   mapFront,
-  isFree,
   mapBit,
   LinkedPage,
   nextOf,

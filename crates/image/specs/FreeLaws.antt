@@ -1,22 +1,22 @@
 -- Free overflow bits: how the bits that stand in chains give the bitmap's bits and the first free one.
-use mathlib.Core.Path.{_≡_, refl, sym, ap, ap₂, _∙_}
+use mathlib.Core.Path.{_≡_, refl, sym, ap, _∙_}
 use mathlib.Core.Bool.{Bool, true, false, not, _&&_}
-use mathlib.Core.Option.{Option, some, Option·getD}
-use Prim.Native.Nat.{ℕ, zero, suc, pred, _+_, _≤_, _<_}
+use mathlib.Core.Option.{Option, Option·getD}
+use Prim.Native.Nat.{ℕ, _≤_, _<_}
 use native.Mathlib.Omega.{arith}
 use lib.Dec.{ltb, eqb}
-use borrow.Author.Tests.{lt-ltb, le-ltb, ltb-true}
+use borrow.Author.Tests.{le-ltb, ltb-true}
 use Rattle.lists.specs.Lists.{b2n, any, find, upFrom}
 use Rattle.lists.specs.RunLaws.{find-same}
 use Rattle.model.specs.Index.{Index, topBit}
-use Rattle.model.specs.Pages.{bitsUsed, freeBit, firstFree}
+use Rattle.model.specs.Pages.{bitsUsed, freeOf, isFree, freeBit, firstFree}
 use Rattle.model.specs.WellFormed.{uses}
 use Rattle.model.specs.TallyLaws.{tally-any}
-use Rattle.image.specs.Layout.{isFree, mapBit}
+use Rattle.image.specs.Layout.{mapBit}
 
 -- the test of a free bit, where o says if the bit's block is an overflow page
 pub free-same : (x : Index) (n : ℕ) (o : Bool) → (n < topBit x → b2n o ≡ uses n x)
-    → ltb 0 n && (ltb n (topBit x) && not o) ≡ isFree x n
+    → freeOf (topBit x) o n ≡ isFree x n
 free-same x n o h = go (ltb 0 n) (ltb n (topBit x)) refl
   where
     used : n < topBit x → o ≡ any (eqb n) (bitsUsed x)
@@ -41,21 +41,15 @@ pub first-zero : (x : Index) (bit : ℕ → ℕ) → topBit x ≤ 2048 → ((n :
 unfolding firstFree freeBit
 first-zero x bit h same =
     ap (λ (o : Option ℕ). Option·getD o (topBit x))
-    (skip (eqb (bit 0) 0) (at 0 (omega arith))
-    ∙ find-same (λ n. eqb (bit n) 0) (λ n. not (any (eqb n) (bitsUsed x))) 1 (pred (topBit x)) 2047 (omega arith)
-    (λ k l g.
-    let lo : ltb 0 k ≡ true = lt-ltb 0 k l in
-    let hi : ltb k (topBit x) ≡ true = lt-ltb k (topBit x) (omega arith) in
-    at k (omega arith) ∙ ap₂ (λ (a b : Bool). a && (b && not (any (eqb k) (bitsUsed x)))) lo hi)
-    (λ k l g.
-    let lo : ltb 0 k ≡ true = lt-ltb 0 k (omega arith) in
-    let hi : ltb k (topBit x) ≡ false = le-ltb k (topBit x) (omega arith) in
-    at k (omega arith) ∙ ap₂ (λ (a b : Bool). a && (b && not (any (eqb k) (bitsUsed x)))) lo hi))
+    (find-same (λ n. eqb (bit n) 0) (isFree x) 0 (topBit x) 2048 h (λ k l g. at k (omega arith))
+    (λ k l g. at k (omega arith) ∙ past k (omega arith)))
   where
     at : (n : ℕ) → n < 2048 → eqb (bit n) 0 ≡ isFree x n
     at n h = ap (λ (b : ℕ). eqb b 0) (same n h) ∙ zero-free x n
 
-    skip : (b : Bool) → b ≡ false
-        → Path (Option ℕ) (elim b [ true ↦ some 0 | false ↦ find (λ n. eqb (bit n) 0) (upFrom 1 2047) ])
-        (find (λ n. eqb (bit n) 0) (upFrom 1 2047))
-    skip b e = rw e
+    past : (n : ℕ) → topBit x ≤ n → isFree x n ≡ false
+    past n l = go (ltb 0 n)
+      where
+        go : (b : Bool) → b && (ltb n (topBit x) && not (any (eqb n) (bitsUsed x))) ≡ false
+        go true = rw (le-ltb n (topBit x) l)
+        go false = refl

@@ -1,11 +1,11 @@
 -- The bytes of an index: docs/RULES.md 3, "Blocks", and 4, "Where things stand".
-use mathlib.Core.Bool.{Bool, true, false, cond, not, _&&_}
+use mathlib.Core.Bool.{cond, not}
 use mathlib.Core.List.{List, [], _∷_, _++_, map}
 use mathlib.Core.Option.{Option, none, some}
 use Prim.Native.Nat.{ℕ, zero, suc, _+_, _-_, _*_}
-use lib.Dec.{leb, ltb, eqb}
+use lib.Dec.{leb, eqb}
 use lib.ListN.{length, replicate}
-use Rattle.lists.specs.Lists.{b2n, any, find, bind, upFrom}
+use Rattle.lists.specs.Lists.{b2n, find, bind, upFrom}
 use Rattle.endian.specs.Endian.{le16, le32}
 use Rattle.address.specs.Address.{highMask, lowMask, splitFrom, lastSplit, point, bucketBlock, bitBlock}
 use Rattle.address.specs.Role.{Role, meta, bucketPage, bitPage, unmade, roleOf}
@@ -14,8 +14,8 @@ use Rattle.page.specs.Entries.{encodePage}
 use Rattle.store.specs.Flags.{overflowFlags, bucketFlags, bitmapFlags, metaFlags}
 use Rattle.store.specs.Flags.{populatedFlags, splitFlags, cleanupFlags, noLink}
 use Rattle.store.specs.Store.{trailer, sealed}
-use Rattle.model.specs.Index.{Page, Chain, Job, idle, copying, clearing, Index, chain, topBit}
-use Rattle.model.specs.Pages.{bitsUsed, firstFree}
+use Rattle.model.specs.Index.{Page, Chain, Job, idle, copying, clearing, Index, chain}
+use Rattle.model.specs.Pages.{isFree, firstFree}
 use Rattle.model.specs.Held.{count}
 use Rattle.image.specs.declared.Meta.{Meta}
 
@@ -66,10 +66,6 @@ fromBits (b ∷ bs) = b + 2 * fromBits bs
 -- "2,048 bits in bytes 0..255, lowest bit of a byte first; the rest zero"
 unfoldable pub mapFront : (ℕ → ℕ) → List ℕ
 mapFront bit = map (λ (i : ℕ). fromBits (map bit (upFrom (8 * i) 8))) (upFrom 0 256) ++ replicate 236 0
-
--- an overflow bit that is made, stands in no chain, and is not the bitmap's
-abbrev pub isFree : Index → ℕ → Bool
-isFree x n = ltb 0 n && (ltb n (topBit x) && not (any (eqb n) (bitsUsed x)))
 
 -- "Bit 1 means in use or not yet made, 0 means free to use again."
 abbrev pub mapBit : Index → ℕ → ℕ

@@ -19,6 +19,7 @@ use Rattle.store.specs.Flags.{overflowFlags, bucketFlags, bitmapFlags, metaFlag
 use Rattle.store.specs.Flags.{populatedFlags, splitFlags, cleanupFlags, pageId}
 use Rattle.store.specs.Store.{prevAt, nextAt, bucketAt, flagsAt, idAt, checked}
 use Rattle.model.specs.Index.{Job, idle, copying, clearing, Index, entriesAt, bucket, newBucket, oldBucket}
+use Rattle.model.specs.Pages.{freeOf}
 use Rattle.model.specs.Held.{count}
 use Rattle.model.specs.Calls.{sizeOk, fillOk}
 use Rattle.image.specs.declared.Meta.{Meta}
@@ -124,13 +125,16 @@ module _ (s : List ℕ) where
       all (λ k. fits (maxAt s) (roleAt s k) (block s k)) (upFrom 0 (blocks s))
       && Bool·beq (eqb (newFlags s) populatedFlags) (eqb (oldFlags s) splitFlags)
 
-  -- the chain of bucket b goes on from block k to the blocks js: "every next is none or an overflow page whose previous names the page it
-  -- came from", of the chain's own bucket, and "none is empty"
+  -- the chain of bucket b may go on from block k to block j: "an overflow page whose previous names the page it came
+  -- from", of the chain's own bucket, and "none is empty"
+  abbrev pub linkOk : (b k j : ℕ) → Bool
+  linkOk b k j =
+      isOverflow j && (eqb (prevAt (block s j)) k && (eqb (bucketAt (block s j)) b && ltb 0 (u16At (block s j) 0)))
+
+  -- it goes on from block k to the blocks js: "every next is none or .."
   unfoldable pub linked : (b k : ℕ) → List ℕ → Bool
   linked b k [] = eqb (nextAt (block s k)) noLink
-  linked b k (j ∷ js) =
-      eqb (nextAt (block s k)) j && (isOverflow j && (eqb (prevAt (block s j)) k && (eqb (bucketAt (block s j)) b
-      && (ltb 0 (u16At (block s j) 0) && linked b j js))))
+  linked b k (j ∷ js) = eqb (nextAt (block s k)) j && (linkOk b k j && linked b j js)
 
   -- (4) "each overflow page stands in one chain"
   unfoldable pub rule4 : Bool
@@ -154,16 +158,21 @@ module _ (s : List ℕ) where
   abbrev pub topAt : ℕ
   topAt = getD (sparesAt s) (pointAt s) 0
 
-  -- made, not the bitmap's, and no overflow page: "free to use again"
+  -- "free to use again", where blocks with the flags of an overflow page are used
   abbrev pub freeAt : ℕ → Bool
-  freeAt n = ltb 0 n && (ltb n topAt && not (isOverflow (bitBlock (sparesAt s) (pointAt s) n)))
+  freeAt n = freeOf topAt (isOverflow (bitBlock (sparesAt s) (pointAt s) n)) n
 
-  -- (6) "bitmap bits and zero bytes, and first free is the lowest 0 bit or, without one, spares[s]"
+  -- "Bit 1 means in use or not yet made, 0 means free to use again.": no 0 bit past the made ones
+  abbrev pub bitOk : ℕ → Bool
+  bitOk n = eqb (bitAt n) (b2n (not (freeAt n)))
+
+  -- "first free is the lowest 0 bit or, without one, spares[s]"
+  abbrev pub firstFreeOk : Bool
+  firstFreeOk = eqb (metaAt s .free) (Option·getD (find (λ n. eqb (bitAt n) 0) (upFrom 0 2048)) topAt)
+
+  -- (6) "bitmap bits and zero bytes, and first free"
   unfoldable pub rule6 : Bool
-  rule6 =
-      all (λ n. eqb (bitAt n) (b2n (not (freeAt n)))) (upFrom 0 2048)
-      && (allZero (part 256 492 mapAt)
-      && eqb (metaAt s .free) (Option·getD (find (λ n. eqb (bitAt n) 0) (upFrom 0 2048)) topAt))
+  rule6 = all bitOk (upFrom 0 2048) && (allZero (part 256 492 mapAt) && firstFreeOk)
 
   unfoldable pub rule7 : Bool
   rule7 =

@@ -19,12 +19,12 @@ use Rattle.address.specs.Role.{Role}
 use Rattle.address.specs.BlockLaws.{point-pos, bit-apart}
 use Rattle.address.specs.SparesLaws.{top-pos}
 use Rattle.model.specs.Index.{Page, topBit}
-use Rattle.model.specs.Pages.{bitsOf, firstFree}
+use Rattle.model.specs.Pages.{bitsOf, firstFree, isFree}
 use Rattle.model.specs.WellFormed.{uses}
 use Rattle.model.specs.TallyLaws.{b2n-le}
-use Rattle.image.specs.Layout.{isFree, mapBit, mapFront}
+use Rattle.image.specs.Layout.{mapBit, mapFront}
 use Rattle.image.specs.Decode.{bitFrom, metaAt, maxAt, pointAt, sparesAt, roleAt, blockOf, trail, readPage, readChain, decode}
-use Rattle.image.specs.Rules.{buckets, isOverflow, linked, rule4, mapAt, bitAt, topAt, freeAt, rule6}
+use Rattle.image.specs.Rules.{buckets, isOverflow, linked, rule4, mapAt, bitAt, topAt, freeAt, bitOk, rule6}
 use Rattle.image.specs.BitmapLaws.{mapFront-bitOf}
 use Rattle.image.specs.FreeLaws.{free-same, first-zero}
 use Rattle.image.specs.SoundFieldsLaws.{SoundBytes, fields}
@@ -142,14 +142,11 @@ module _ (s : List ℕ) (g : SoundBytes s) where
   free-decode n =
       free-same (decode s) n (isOverflow s (bitBlock sp t n)) (λ h. sym (uses-overflow n h))
 
-  abbrev bitRule : ℕ → Bool
-  bitRule n = eqb (bitAt s n) (b2n (not (freeAt s n)))
-
   bit-decode : (n : ℕ) → n < 2048 → bitAt s n ≡ mapBit (decode s) n
   unfolding rule6
   bit-decode n h =
-      let r = and-left (all bitRule (upFrom 0 2048)) _ (g .passes .six) in
-      eqb-true _ _ (all-get bitRule 0 2048 r n (omega arith) h)
+      let r = and-left (all (bitOk s) (upFrom 0 2048)) _ (g .passes .six) in
+      eqb-true _ _ (all-get (bitOk s) 0 2048 r n (omega arith) h)
       ∙ ap (λ (c : Bool). b2n (not c)) (free-decode n)
 
   pub map-read : take 492 (block s (bitBlock (sparesAt s) (pointAt s) 0)) ≡ mapFront (mapBit (decode s))
@@ -157,13 +154,13 @@ module _ (s : List ℕ) (g : SoundBytes s) where
   map-read =
       let one : 0 < topAt s = top-pos sp t (blocks s) (fields s g .spares) (point-pos (maxAt s)) in
       let w = block-ok s g (bitBlock sp t 0) (bit-inside s g 0 one) in
-      let r = and-right (all bitRule (upFrom 0 2048)) _ (g .passes .six) in
+      let r = and-right (all (bitOk s) (upFrom 0 2048)) _ (g .passes .six) in
       mapFront-bitOf (mapAt s) (mapBit (decode s)) (w .bytes) (w .full) bit-decode
       (and-left (allZero (part 256 492 (mapAt s))) _ r)
 
   pub free-read : metaAt s .free ≡ firstFree (decode s)
   unfolding rule6 decode made
   free-read =
-      let r = and-right (all bitRule (upFrom 0 2048)) _ (g .passes .six) in
+      let r = and-right (all (bitOk s) (upFrom 0 2048)) _ (g .passes .six) in
       eqb-true _ _ (and-right (allZero (part 256 492 (mapAt s))) _ r)
       ∙ first-zero (decode s) (bitAt s) (omega (arith, fields s g .spares .room, g .small)) bit-decode

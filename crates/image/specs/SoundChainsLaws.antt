@@ -5,7 +5,7 @@ use mathlib.Core.List.{List, [], _∷_, map}
 use mathlib.Core.Option.{some}
 use Prim.Native.Nat.{ℕ, zero, suc, _+_, _≤_}
 use native.Mathlib.Omega.{arith}
-use lib.Dec.{ltb, eqb}
+use lib.Dec.{eqb}
 use lib.ListN.{take}
 use borrow.Author.Tests.{ltb-true, eqb-true}
 use Rattle.lists.specs.Lists.{all, upFrom, Each}
@@ -33,7 +33,7 @@ use Rattle.image.specs.Decode.{
   readChain,
   decode,
 }
-use Rattle.image.specs.Rules.{buckets, isOverflow, linked, rule4, rule5}
+use Rattle.image.specs.Rules.{buckets, isOverflow, linkOk, linked, rule4, rule5}
 use Rattle.image.specs.PagedLaws.{paged-read}
 use Rattle.image.specs.PageOkLaws.{front-page}
 use Rattle.image.specs.SoundFieldsLaws.{SoundBytes}
@@ -65,17 +65,17 @@ module _ (s : List ℕ) (g : SoundBytes s) where
   links-of b k [] h = eqb-true _ _ h
   links-of b k (j ∷ js) h =
       let h₁ = and-right (eqb (nextAt (block s k)) j) _ h in
-      let h₂ = and-right (isOverflow s j) _ h₁ in
-      let h₃ = and-right (eqb (prevAt (block s j)) k) _ h₂ in
-      let h₄ = and-right (eqb (bucketAt (block s j)) b) _ h₃ in (
+      let o = and-left (linkOk s b k j) _ h₁ in
+      let o₁ = and-right (isOverflow s j) _ o in
+      let o₂ = and-right (eqb (prevAt (block s j)) k) _ o₁ in (
         record {
           next = eqb-true _ _ (and-left (eqb (nextAt (block s k)) j) _ h);
-          over = overflow-is s g j (and-left (isOverflow s j) _ h₁);
-          back = eqb-true _ _ (and-left (eqb (prevAt (block s j)) k) _ h₂);
-          bucket = eqb-true _ _ (and-left (eqb (bucketAt (block s j)) b) _ h₃);
-          filled = ltb-true _ _ (and-left (ltb 0 (u16At (block s j) 0)) _ h₄);
+          over = overflow-is s g j (and-left (isOverflow s j) _ o);
+          back = eqb-true _ _ (and-left (eqb (prevAt (block s j)) k) _ o₁);
+          bucket = eqb-true _ _ (and-left (eqb (bucketAt (block s j)) b) _ o₂);
+          filled = ltb-true _ _ (and-right (eqb (bucketAt (block s j)) b) _ o₂);
         },
-        links-of b j js (and-right (ltb 0 (u16At (block s j) 0)) _ h₄),
+        links-of b j js (and-right (linkOk s b k j) _ h₁),
       )
 
   -- the overflow bit of a page gives its block

@@ -12,10 +12,10 @@ use lib.ListN.{length, getD, set}
 use Rattle.lists.specs.Lists.{b2n, find, upFrom}
 use Rattle.lists.specs.ListsLaws.{eqb-yes, eqb-no}
 use Rattle.model.specs.Index.{Index, topBit}
-use Rattle.model.specs.Pages.{freeBit, firstFree}
+use Rattle.model.specs.Pages.{freeBit, firstFree, isFree}
 use Rattle.model.specs.WellFormed.{Laid}
 use Rattle.model.specs.LaidLaws.{free-bit}
-use Rattle.image.specs.Layout.{mapFront, isFree, mapBit}
+use Rattle.image.specs.Layout.{mapFront, mapBit}
 use Rattle.image.specs.Decode.{bitOf}
 use Rattle.image.specs.BitmapLaws.{bitOf-mapFront}
 use Rattle.image.specs.BoundLaws.{top-small}

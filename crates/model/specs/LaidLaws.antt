@@ -1,9 +1,9 @@
 -- The layout is kept by an entry that is put, a pair that is cut, a begin, and another job.
 use mathlib.Core.Path.{_≡_, refl, sym, ap, _∙_, subst}
-use mathlib.Core.Bool.{Bool, true, false, not}
+use mathlib.Core.Bool.{Bool, true, false}
 use mathlib.Core.List.{List, [], _∷_, _++_}
 use mathlib.Core.Option.{Option, none, some}
-use Prim.Native.Nat.{ℕ, zero, suc, pred, _+_, _≤_, _<_}
+use Prim.Native.Nat.{ℕ, zero, suc, _+_, _≤_, _<_}
 use native.Mathlib.Omega.{arith}
 use native.Mathlib.Decide.{ℕ-discrete}
 use borrow.Author.Tests.{ltb-true, ltb-false}
@@ -11,7 +11,7 @@ use lib.Dec.{eqb, ltb}
 use lib.ListN.{length, getD, set, length-set, length-append}
 use lib.Seq.{getD-set-same, getD-append-seam}
 use Rattle.lists.specs.Lists.{b2n, any, tally, bind}
-use Rattle.lists.specs.ListsLaws.{not-yes, eqb-yes, eqb-no, tally-append, any-no}
+use Rattle.lists.specs.ListsLaws.{and-left, and-right, not-yes, eqb-yes, eqb-no, tally-append, any-no}
 use Rattle.lists.specs.RunLaws.{find-run}
 use Rattle.address.specs.Address.{point, made}
 use Rattle.address.specs.Role.{SparesOk}
@@ -21,7 +21,7 @@ use Rattle.page.specs.declared.Pair.{Pair}
 use Rattle.page.specs.declared.Entry.{Entry}
 use Rattle.page.specs.Pair.{is}
 use Rattle.model.specs.Index.{Chain, Job, Index, noChain, chain, entriesAt, topBit, setChain, setJob}
-use Rattle.model.specs.Pages.{addEntry, addPage, bitsOf, bitsUsed, freeBit, Taken, takeFrom, takePage, without, cut}
+use Rattle.model.specs.Pages.{addEntry, addPage, bitsOf, bitsUsed, isFree, freeBit, Taken, takeFrom, takePage, without, cut}
 use Rattle.model.specs.Steps.{widen}
 use Rattle.model.specs.WellFormed.{EntryOk, ChainOk, uses, Laid}
 use Rattle.model.specs.ChainLaws.{bits-add, bits-page, bits-without}
@@ -114,9 +114,12 @@ pub data TakenAs (x : Index) : Option Taken → Type 0 where
 pub free-bit : (x : Index) (n : ℕ) → freeBit x ≡ some n → (uses n x ≡ 0) × (1 ≤ n) × (n < topBit x)
 unfolding freeBit
 free-bit x n e =
-    let f = find-run (λ k. not (any (eqb k) (bitsUsed x))) 1 (pred (topBit x)) n e in
-    let z = any-no (eqb n) (bitsUsed x) (not-yes (any (eqb n) (bitsUsed x)) (f .passes)) in
-    (z, f .from, omega (arith, f .from, f .upto))
+    let f = find-run (isFree x) 0 (topBit x) n e .passes in
+    let made = and-right (ltb 0 n) _ f in (
+      any-no (eqb n) (bitsUsed x) (not-yes (any (eqb n) (bitsUsed x)) (and-right (ltb n (topBit x)) _ made)),
+      ltb-true 0 n (and-left (ltb 0 n) _ f),
+      ltb-true n (topBit x) (and-left (ltb n (topBit x)) _ made),
+    )
 
 pub take-view : (x : Index) → TakenAs x (takePage x)
 unfolding takePage

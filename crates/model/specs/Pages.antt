@@ -1,8 +1,8 @@
 -- An entry into a chain and out of it; the page that an insert takes (docs/RULES.md 6.3 and 6.4).
-use mathlib.Core.Bool.{Bool, true, false, cond, not, _||_}
+use mathlib.Core.Bool.{Bool, true, false, cond, not, _&&_, _||_}
 use mathlib.Core.List.{List, [], _∷_, _++_, map}
 use mathlib.Core.Option.{Option, none, some, Option·getD}
-use Prim.Native.Nat.{ℕ, suc, pred}
+use Prim.Native.Nat.{ℕ, suc}
 use lib.Dec.{ltb, eqb}
 use lib.ListN.{length, getD, set}
 use Rattle.lists.specs.Lists.{any, keep, find, bind, upFrom}
@@ -51,9 +51,17 @@ bitsOf c = map (λ (g : Page). g .bit) (c .more)
 abbrev pub bitsUsed : Index → List ℕ
 bitsUsed x = bind (x .chains) bitsOf
 
--- "the lowest 0 bit": made, in no chain, and not the bitmap's own bit 0
+-- "free to use again": overflow bit n of `top` that are made, but the bitmap's own bit 0, and not used
+abbrev pub freeOf : (top : ℕ) → (used : Bool) → ℕ → Bool
+freeOf top used n = ltb 0 n && (ltb n top && not used)
+
+-- in an index, where those are used that stand in chains
+abbrev pub isFree : Index → ℕ → Bool
+isFree x n = freeOf (topBit x) (any (eqb n) (bitsUsed x)) n
+
+-- "the lowest 0 bit"
 unfoldable pub freeBit : Index → Option ℕ
-freeBit x = let used = bitsUsed x in find (λ n. not (any (eqb n) used)) (upFrom 1 (pred (topBit x)))
+freeBit x = find (isFree x) (upFrom 0 (topBit x))
 
 -- "first free is the lowest 0 bit or, without one, spares[s]"
 unfoldable pub firstFree : Index → ℕ

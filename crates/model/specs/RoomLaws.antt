@@ -1,12 +1,12 @@
 -- No room (docs/RULES.md 6.3): exactly when neither the chain nor the overflow bits nor the blocks past the made ones have any.
 use mathlib.Core.Path.{_≡_, refl, sym, ap, subst}
 use mathlib.Core.Logic.{_↔_}
-use mathlib.Core.Bool.{Bool, true, false, not, _||_}
+use mathlib.Core.Bool.{Bool, true, false, _||_}
 use mathlib.Core.List.{List, [], _∷_}
 use mathlib.Core.Option.{Option, none, some}
-use Prim.Native.Nat.{ℕ, suc, pred, _*_, _≤_, _<_}
+use Prim.Native.Nat.{ℕ, suc, _*_, _≤_, _<_}
 use native.Mathlib.Omega.{arith}
-use borrow.Author.Tests.{ltb-true, ltb-false, le-ltb}
+use borrow.Author.Tests.{ltb-true, ltb-false, lt-ltb, le-ltb}
 use lib.Dec.{eqb}
 use lib.ListN.{length}
 use Rattle.lists.specs.Lists.{b2n, any, find, upFrom, Each}
@@ -19,7 +19,7 @@ use Rattle.model.specs.declared.Refusal.{Refusal}
 use Rattle.model.specs.declared.Stop.{Stop}
 use Rattle.model.specs.Index.{Page, Job, idle, copying, clearing, Index, chain, entriesAt, bucket, oldBucket}
 use Rattle.model.specs.Index.{topBit}
-use Rattle.model.specs.Pages.{hasRoom, pageRoom, bitsUsed, freeBit, Taken, put}
+use Rattle.model.specs.Pages.{hasRoom, pageRoom, bitsUsed, isFree, freeBit, Taken, put}
 use Rattle.model.specs.Held.{held, count, wanted}
 use Rattle.model.specs.Steps.{Step, stopped, toCopy, step}
 use Rattle.model.specs.Calls.{pairOk, Result, refused, insert}
@@ -50,21 +50,21 @@ full-pages (g ∷ gs) h = rw (le-ltb (length (g .entries)) 40 (h .0)) (full-page
 
 -- ---- the overflow bits
 
+free-not : (x : Index) (n : ℕ) → 1 ≤ n → n < topBit x → any (eqb n) (bitsUsed x) ≡ false → isFree x n ≡ true
+free-not x n l g e = rw (lt-ltb 0 n l, lt-ltb n (topBit x) g, e)
+
 bits-used : (x : Index) → freeBit x ≡ none → (n : ℕ) → 1 ≤ n → n < topBit x → 1 ≤ uses n x
 unfolding freeBit
 bits-used x h n l g = go (any (eqb n) (bitsUsed x)) refl
   where
-    free : ℕ → Bool
-    free k = not (any (eqb k) (bitsUsed x))
-
     go : (b : Bool) → any (eqb n) (bitsUsed x) ≡ b → 1 ≤ uses n x
     go true e = any-yes (eqb n) (bitsUsed x) e
     go false e =
         absurd (omega (
           arith,
-          find-no free (upFrom 1 (pred (topBit x))) h,
-          tally-upFrom free n 1 (pred (topBit x)) l (omega arith),
-          ap (λ (c : Bool). b2n (not c)) e,
+          find-no (isFree x) (upFrom 0 (topBit x)) h,
+          tally-upFrom (isFree x) n 0 (topBit x) (omega arith) (omega arith),
+          ap b2n (free-not x n l g e),
         ))
 
 -- ---- put and insert

@@ -16,8 +16,9 @@ use Rattle.store.specs.declared.Change.{Change}
 use Rattle.store.specs.Store.{sealed}
 use Rattle.model.specs.Index.{Index}
 use Rattle.image.specs.declared.Meta.{Meta}
-use Rattle.image.specs.Layout.{paged, metaFront, metaOf, mapFront, isFree, mapBit, encodeBlock}
+use Rattle.image.specs.Layout.{paged, metaFront, metaOf, mapFront, mapBit, encodeBlock}
 use Rattle.store.specs.Flags.{noLink}
+use Rattle.model.specs.Pages.{isFree}
 use Rattle.image.specs.Decode.{decode}
 use Rattle.image.specs.BitmapLaws.{length-mapFront}
 use Rattle.image.specs.BoundLaws.{length-meta}

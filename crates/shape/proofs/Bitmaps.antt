@@ -11,10 +11,9 @@ use Rattle.lists.specs.Lists.{b2n}
 use Rattle.address.specs.Address.{bitBlock}
 use Rattle.image.specs.declared.Meta.{Meta}
 use Rattle.image.specs.Decode.{pointAt, sparesAt}
-use Rattle.image.specs.Rules.{isOverflow, mapAt, bitAt, topAt, freeAt}
+use Rattle.image.specs.Rules.{isOverflow, mapAt, bitAt, topAt, freeAt, bitOk}
 use Rattle.reader.specs.Known.{Known2}
 use Rattle.reader.specs.KnownLaws.{top-some, bit-inside, block-full}
-use Rattle.shape.specs.Bits.{bitOk}
 
 -- a bit is 0 exactly if it is free
 bit-clear : (x : ℕ) (f : Bool) → x < 2 → Bool·beq (eqb x 0) f ≡ eqb x (b2n (not f))

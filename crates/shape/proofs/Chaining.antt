@@ -1,30 +1,28 @@
 -- Rule 4 as its loops go: along the links of one chain, and from bucket to bucket.
-use mathlib.Core.Path.{_≡_, refl, sym, ap, ap₂, _∙_}
-use mathlib.Core.Bool.{Bool, true, false, _&&_}
+use mathlib.Core.Path.{_≡_, sym, ap, ap₂, _∙_}
+use mathlib.Core.Bool.{true, false, _&&_}
 use mathlib.Core.List.{List, _∷_}
 use Prim.Native.Nat.{ℕ, suc, _+_, _-_, _*_, _≤_, _<_}
 use native.Mathlib.Numerals.{add-one}
 use native.Mathlib.Omega.{arith}
 use borrow.Author.Tests.{eq-eqb}
-use lib.Dec.{ltb, eqb}
+use lib.Dec.{eqb}
 use lib.ListN.{length, getD, drop, length-append, drop-of-length-le}
 use lib.Seq.{drop-cons}
 use Rattle.lists.specs.Lists.{all, tally, bind, upFrom}
 use Rattle.lists.specs.RunLaws.{all-get}
 use Rattle.lists.specs.Block.{blocks, block}
-use Rattle.endian.specs.Endian.{u16At}
 use Rattle.address.specs.Limits.{maxBlocks}
-use Rattle.store.specs.Store.{prevAt, nextAt, bucketAt}
+use Rattle.store.specs.Store.{nextAt}
 use Rattle.image.specs.declared.Meta.{Meta}
 use Rattle.store.specs.Flags.{noLink}
 use Rattle.image.specs.Decode.{maxAt, blockOf, trail}
-use Rattle.image.specs.Rules.{buckets, isOverflow, linked, rule4}
+use Rattle.image.specs.Rules.{buckets, isOverflow, linkOk, linked, rule4}
 use Rattle.chain.specs.declared.Walk.{Walk}
 use Rattle.chain.specs.Walk.{Sized, walk, Walked}
 use Rattle.chain.specs.WalkLaws.{walk-few, walk-next}
 use Rattle.chain.specs.WithinLaws.{walked-some, walked-getD}
 use Rattle.reader.specs.Known.{Known2}
-use Rattle.shape.specs.Tests.{linkOk}
 use Rattle.shape.specs.LoopLaws.{passed, failed, run-turn, run-done, left, left-start, left-turn, left-done}
 use Rattle.shape.specs.ChainedLaws.{chained, pages-linked}
 
@@ -33,15 +31,7 @@ use Rattle.shape.specs.ChainedLaws.{chained, pages-linked}
 linked-cons : (s : List ℕ) (b k j : ℕ) (js : List ℕ) → nextAt (block s k) ≡ j
     → linked s b k (j ∷ js) ≡ linkOk s b k j && linked s b j js
 unfolding linked
-linked-cons s b k j js e =
-    rw (eq-eqb (nextAt (block s k)) j e)
-    (group (isOverflow s j) (eqb (prevAt (block s j)) k) (eqb (bucketAt (block s j)) b) (ltb 0 (u16At (block s j) 0)))
-  where
-    group : (x y z u : Bool) → x && (y && (z && (u && linked s b j js))) ≡ (x && (y && (z && u))) && linked s b j js
-    group false y z u = refl
-    group true false z u = refl
-    group true true false u = refl
-    group true true true u = refl
+linked-cons s b k j js e = rw (eq-eqb (nextAt (block s k)) j e)
 
 module _ (s : List ℕ) (b : ℕ) (w : Walk) (held : Walked s (blockOf s b) w) where
   abbrev ks : List ℕ

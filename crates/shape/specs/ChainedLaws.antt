@@ -6,12 +6,11 @@ use mathlib.Core.List.{List, [], _∷_}
 use Prim.Native.Nat.{ℕ, zero, suc, _+_, _≤_, _<_}
 use native.Mathlib.Omega.{arith}
 use borrow.Author.Tests.{eqb-true}
-use lib.Dec.{ltb, eqb}
+use lib.Dec.{eqb}
 use lib.ListN.{length, getD}
 use Rattle.lists.specs.Lists.{b2n, all, tally, bind, Each, upFrom}
 use Rattle.lists.specs.ListsLaws.{and-left, and-right, each-append}
 use Rattle.lists.specs.Block.{blocks, block}
-use Rattle.endian.specs.Endian.{u16At}
 use Rattle.address.specs.Role.{Role, meta, bucketPage, bitPage, unmade, RoleIs}
 use Rattle.address.specs.RoleLaws.{role-bucket}
 use Rattle.address.specs.BlockLaws.{point-pos}
@@ -19,7 +18,7 @@ use Rattle.page.specs.PairLaws.{no-way}
 use Rattle.store.specs.Store.{prevAt, nextAt, bucketAt}
 use Rattle.image.specs.declared.Meta.{Meta}
 use Rattle.image.specs.Decode.{maxAt, pointAt, sparesAt, roleAt, blockOf, trail}
-use Rattle.image.specs.Rules.{overflowAs, buckets, isOverflow, linked}
+use Rattle.image.specs.Rules.{overflowAs, buckets, isOverflow, linkOk, linked}
 use Rattle.reader.specs.Known.{Known2}
 use Rattle.reader.specs.KnownLaws.{spares-ok, max-under, bit-inside, role-at}
 use Rattle.shape.specs.SumLaws.{tally-absent, tally-different, run-absent, run-once, sums-equal, sum-tally, sum-length}
@@ -59,16 +58,16 @@ module _ (s : List ℕ) where
   links-of b k [] h i l = absurd (omega arith)
   links-of b k (j ∷ js) h i l =
       let h₁ = and-right (eqb (nextAt (block s k)) j) _ h in
-      let h₂ = and-right (isOverflow s j) _ h₁ in
-      let h₃ = and-right (eqb (prevAt (block s j)) k) _ h₂ in
-      let h₄ = and-right (eqb (bucketAt (block s j)) b) _ h₃ in
+      let o = and-left (linkOk s b k j) _ h₁ in
+      let o₁ = and-right (isOverflow s j) _ o in
+      let o₂ = and-right (eqb (prevAt (block s j)) k) _ o₁ in
       at i l
       (record {
-        over = and-left (isOverflow s j) _ h₁;
-        back = eqb-true _ _ (and-left (eqb (prevAt (block s j)) k) _ h₂);
-        bucket = eqb-true _ _ (and-left (eqb (bucketAt (block s j)) b) _ h₃);
+        over = and-left (isOverflow s j) _ o;
+        back = eqb-true _ _ (and-left (eqb (prevAt (block s j)) k) _ o₁);
+        bucket = eqb-true _ _ (and-left (eqb (bucketAt (block s j)) b) _ o₂);
       })
-      (links-of b j js (and-right (ltb 0 (u16At (block s j) 0)) _ h₄))
+      (links-of b j js (and-right (linkOk s b k j) _ h₁))
     where
       at : (i : ℕ) → i < suc (length js) → Link b k j
           → ((n : ℕ) → n < length js → Link b (getD (j ∷ js) n 0) (getD js n 0))

@@ -10,14 +10,11 @@ use reader::bits::top_of;
 use reader::roles::is_overflow;
 ghost use mathlib.Core.Path.{_≡_};
 ghost use Prim.Native.Nat.{_<_};
-ghost use lib.Dec.{eqb};
 ghost use Rattle.lists.specs.Lists.{all, upFrom};
-ghost use Rattle.image.specs.Decode.{metaAt};
-ghost use Rattle.image.specs.Rules.{freeAt, rule6};
+ghost use Rattle.image.specs.Rules.{freeAt, bitOk, firstFreeOk, rule6};
 ghost use Rattle.reader.specs.Known.{Known2};
-ghost use Rattle.shape.specs.Bits.{bitOk, lowestClear};
 
-// Whether overflow bit `n` is made, not the bitmap's, and no overflow page's.
+// Whether overflow bit `n` is free: made, not the bitmap's, and no overflow page's.
 fn is_free(store: &[u8], m: Meta, n: u32) -> bool
     requires { ⌜ Known2 (now store) m ⌝ }
     ensures { λ r. ⌜ r ≡ freeAt (now (store .entry)) n ⌝ }
@@ -58,7 +55,7 @@ fn check_map(store: &[u8], m: Meta) -> bool
 // Whether first free is the lowest 0 bit or, without one, the number of bits that are made.
 fn check_first(store: &[u8], m: Meta) -> bool
     requires { ⌜ Known2 (now store) m ⌝ }
-    ensures { λ r. ⌜ r ≡ eqb (metaAt (now (store .entry)) .free) (lowestClear (now (store .entry))) ⌝ }
+    ensures { λ r. ⌜ r ≡ firstFreeOk (now (store .entry)) ⌝ }
 {
     match lowest_free(map_of(store, m)) {
         Free::Bit(n) => m.free == n,

@@ -13,10 +13,9 @@ ghost use mathlib.Core.Path.{_≡_};
 ghost use Rattle.lists.specs.Lists.{tally, upFrom};
 ghost use Rattle.lists.specs.Block.{blocks};
 ghost use Rattle.image.specs.Decode.{blockOf};
-ghost use Rattle.image.specs.Rules.{isOverflow, rule4};
+ghost use Rattle.image.specs.Rules.{isOverflow, linkOk, rule4};
 ghost use Rattle.chain.specs.Walk.{Walked};
 ghost use Rattle.reader.specs.Known.{Known2};
-ghost use Rattle.shape.specs.Tests.{linkOk};
 ghost use Rattle.shape.specs.ChainedLaws.{chained};
 
 // Whether the chain of bucket `b` may go on from block `k` to block `j`.

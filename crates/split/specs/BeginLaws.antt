@@ -1,7 +1,7 @@
 -- The begin of a split: its room, the fields of its meta block, and where its pages stand.
 use mathlib.Core.Path.{_≡_, refl, sym, ap, ap₂, _∙_, fun-ext}
 use mathlib.Core.Logic.{_≢_}
-use mathlib.Core.Bool.{Bool, true, false, not}
+use mathlib.Core.Bool.{Bool, true, false}
 use mathlib.Core.List.{List, [], _∷_, _++_, append-assoc}
 use mathlib.Core.Option.{Option, some, Option·getD}
 use Prim.Native.Nat.{ℕ, suc, pred, _+_, _-_, _≤_, _<_}
@@ -22,7 +22,7 @@ use Rattle.address.specs.PointLaws.{bucketPoint-le}
 use Rattle.address.specs.BlockLaws.{point-is, point-pos, bucket-apart}
 use Rattle.address.specs.SparesLaws.{point-next}
 use Rattle.model.specs.Index.{Index, noChain, topBit}
-use Rattle.model.specs.Pages.{bitsOf, bitsUsed, freeBit, firstFree}
+use Rattle.model.specs.Pages.{bitsOf, bitsUsed, freeOf, isFree, freeBit, firstFree}
 use Rattle.model.specs.Held.{count}
 use Rattle.model.specs.Steps.{widen, begin}
 use Rattle.model.specs.WellFormed.{Laid}
@@ -139,10 +139,9 @@ module _ (x : Index) (l : Laid x) where
       let used : (n : ℕ) → any (eqb n) (bitsUsed (widen x sq)) ≡ any (eqb n) (bitsUsed x) =
       λ n. any-more (eqb n) (bitsUsed x) (bitsUsed (widen x sq)) false
       (omega (arith, tally-bind (eqb n) bitsOf (x .chains) (noChain ∷ []))) in
-      let tests : Path (ℕ → Bool) (λ n. not (any (eqb n) (bitsUsed (widen x sq))))
-      (λ n. not (any (eqb n) (bitsUsed x))) =
-      fun-ext (λ n. ap not (used n)) in
-      λ i. Option·getD (find (tests i) (upFrom 1 (pred (e i)))) (e i)
+      let tests : Path (ℕ → Bool) (isFree (widen x sq)) (isFree x) =
+      fun-ext (λ n. ap₂ (λ (top : ℕ) (u : Bool). freeOf top u n) e (used n)) in
+      λ i. Option·getD (find (tests i) (upFrom 0 (e i))) (e i)
 
   module _ (y : Index) (b : begin x ≡ some y) where
     begins : Beginning x (some y)

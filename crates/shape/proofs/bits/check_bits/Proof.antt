@@ -1,13 +1,12 @@
 use mathlib.Core.Path.{_≡_, sym, ap, _∙_}
-use mathlib.Core.Bool.{Bool, true, false}
+use mathlib.Core.Bool.{true, false}
 use mathlib.Core.List.{List}
 use Prim.Native.Nat.{ℕ}
 use native.Mathlib.Omega.{arith}
 use borrow.Author.Tests.{not-true, not-false}
 use Rattle.lists.specs.Lists.{all, upFrom}
 use Rattle.lists.specs.Bytes.{part, allZero}
-use Rattle.image.specs.Rules.{mapAt, rule6}
-use Rattle.shape.specs.Bits.{bitOk}
+use Rattle.image.specs.Rules.{mapAt, rule6, bitOk}
 use Rattle.shape.proofs.Bitmaps.{map-full}
 use borrow.Author.Needs.{needs}
 use Rattle.shape.proofs.bits.check_bits.Statement.{statement}

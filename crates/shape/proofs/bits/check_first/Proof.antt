@@ -1,18 +1,21 @@
 use mathlib.Core.Path.{_≡_, sym, ap, ap₂, _∙_}
+use mathlib.Core.Option.{Option·getD}
 use lib.Dec.{eqb}
+use Rattle.lists.specs.Lists.{find, upFrom}
 use Rattle.image.specs.declared.Meta.{Meta}
-use Rattle.image.specs.Rules.{topAt}
+use Rattle.image.specs.Rules.{bitAt, topAt}
 use Rattle.chain.specs.Bitmap.{freeOr, lowestFree}
 use Rattle.chain.specs.BitmapLaws.{freeOr-rule}
 use Rattle.reader.specs.KnownLaws.{known-addressed, top-is}
-use Rattle.shape.specs.Bits.{lowestClear}
 use Rattle.shape.proofs.Bitmaps.{map-full}
 use borrow.Author.Needs.{needs}
 use Rattle.shape.proofs.bits.check_first.Statement.{statement}
 use Rattle.shape.proofs.bits.check_first.Tie as tie
 
 -- the lowest 0 bit of the bitmap, as rule 6 has it
-first : (c : tie.After-lowest-free) → lowestClear (c .before .before .before .args .store .now)
+first : (c : tie.After-lowest-free)
+    → Option·getD (find (λ n. eqb (bitAt (c .before .before .before .args .store .now) n) 0) (upFrom 0 2048))
+    (topAt (c .before .before .before .args .store .now))
     ≡ freeOr (topAt (c .before .before .before .args .store .now)) (c .lowest-free .result)
 first c =
     let s = c .before .before .before .args .store .now in

@@ -3,8 +3,8 @@ use Prim.Native.Nat.{_-_, _≤_}
 use native.Mathlib.Omega.{arith}
 use borrow.Author.Tests.{not-true, not-false}
 use Rattle.lists.specs.Lists.{all, upFrom}
+use Rattle.image.specs.Rules.{bitOk}
 use Rattle.shape.specs.LoopLaws.{passed, failed, left, left-start, left-turn, left-done}
-use Rattle.shape.specs.Bits.{bitOk}
 use Rattle.shape.proofs.bits.check_map.Statement.{statement}
 use Rattle.shape.proofs.bits.check_map.Tie as tie
 

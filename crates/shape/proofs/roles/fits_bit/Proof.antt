@@ -1,8 +1,8 @@
-use mathlib.Core.Path.{_≡_, sym, ap, _∙_}
+use mathlib.Core.Path.{sym, ap, _∙_}
 use Prim.Native.Nat.{ℕ}
 use borrow.Author.Tests.{eq-eqb, ne-eqb}
-use lib.Dec.{leb, eqb}
-use Rattle.store.specs.Store.{bucketAt, flagsAt, idAt}
+use lib.Dec.{leb}
+use Rattle.store.specs.Store.{flagsAt, idAt}
 use Rattle.shape.proofs.Fitting.{fits-first, fits-later}
 use borrow.Author.Needs.{needs}
 use Rattle.shape.proofs.roles.fits_bit.Statement.{statement}

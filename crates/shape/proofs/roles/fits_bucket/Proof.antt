@@ -1,9 +1,9 @@
-use mathlib.Core.Path.{_≡_, sym, ap, _∙_}
+use mathlib.Core.Path.{_≡_, ap, _∙_}
 use mathlib.Core.Bool.{true, false}
 use Prim.Native.Nat.{ℕ}
 use borrow.Author.Tests.{eq-eqb, ne-eqb, le-leb, lt-leb, not-true, not-false}
 use lib.Dec.{eqb}
-use Rattle.store.specs.Store.{bucketAt, flagsAt, idAt}
+use Rattle.store.specs.Store.{flagsAt, idAt}
 use Rattle.image.specs.Rules.{bucketFlagsOk, fits}
 use Rattle.meta.specs.TurnLaws.{and-false}
 use borrow.Author.Needs.{needs}

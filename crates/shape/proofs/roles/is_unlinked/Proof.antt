@@ -1,8 +1,8 @@
-use mathlib.Core.Path.{_≡_, ap, _∙_}
+use mathlib.Core.Path.{ap, _∙_}
 use Prim.Native.Nat.{ℕ}
 use borrow.Author.Tests.{eq-eqb, ne-eqb}
 use lib.Dec.{eqb}
-use Rattle.store.specs.Store.{prevAt, nextAt, bucketAt, flagsAt, idAt}
+use Rattle.store.specs.Store.{prevAt, nextAt, flagsAt, idAt}
 use Rattle.store.specs.Flags.{noLink}
 use Rattle.meta.specs.TurnLaws.{and-false}
 use borrow.Author.Needs.{needs}
