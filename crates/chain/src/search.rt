@@ -1,9 +1,9 @@
 // Searches along a walk.
 use crate::Found;
-use crate::MAX_BLOCKS;
 use crate::Room;
 use crate::Slot;
 use crate::links::page_on;
+use address::limits::MAX_BLOCKS;
 use page::Pair;
 use page::order::is_same;
 use page::search::find_place;

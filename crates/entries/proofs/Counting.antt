@@ -1,12 +1,11 @@
--- The count of held pairs, entry by entry, page by page and chain by chain.
+-- The count of held pairs, chain by chain.
 use mathlib.Core.Path.{_≡_, refl, sym, ap, ap₂, _∙_}
-use mathlib.Core.Bool.{Bool}
 use mathlib.Core.List.{List, map}
 use Prim.Native.Nat.{ℕ, suc, _+_, _-_, _≤_, _<_}
 use native.Mathlib.Omega.{arith}
-use lib.ListN.{length, getD, drop, length-append, length-map}
+use lib.ListN.{length, length-append, length-map}
 use Rattle.lists.specs.Lists.{tally, keep, bind, upFrom}
-use Rattle.lists.specs.ListsLaws.{tally-append, tally-cong, length-keep}
+use Rattle.lists.specs.ListsLaws.{tally-cong, length-keep}
 use Rattle.lists.specs.RunLaws.{length-run}
 use Rattle.page.specs.declared.Entry.{Entry}
 use Rattle.model.specs.declared.Phase.{Phase}
@@ -16,28 +15,11 @@ use Rattle.model.specs.Held.{livesIn, count}
 use Rattle.image.specs.Decode.{maxAt, readChain, blockOf, decode}
 use Rattle.chain.specs.declared.Walk.{Walk}
 use Rattle.chain.specs.Walk.{blocksOf, Walked}
-use Rattle.chain.specs.Within.{entriesOn, Within}
-use Rattle.chain.specs.WithinLaws.{walk-turn, walk-done}
+use Rattle.chain.specs.Within.{entriesOn}
 use Rattle.reader.specs.Job.{phaseAt}
 use Rattle.entries.specs.Counts.{liveIn}
 use Rattle.shape.specs.LoopLaws.{run-turn, run-done}
 use Rattle.entries.specs.WalkedLaws.{walk-entries}
-
--- ---- the pages of a Walk
-
-module _ {s : List ℕ} {w : Walk} (ok : Within s (w .blocks) (w .count)) (t : Entry → Bool) (i : ℕ) where
-  -- the entries that pass the test on the pages from index i on
-  abbrev pub onLater : ℕ
-  onLater = tally t (bind (drop i (blocksOf w)) (entriesOn s))
-
-  pub later-turn : i < w .count
-      → onLater ≡ tally t (entriesOn s (getD (w .blocks) i 0)) + tally t (bind (drop (i + 1) (blocksOf w)) (entriesOn s))
-  later-turn h =
-      ap (λ (ks : List ℕ). tally t (bind ks (entriesOn s))) (walk-turn ok i h)
-      ∙ tally-append t (entriesOn s (getD (w .blocks) i 0)) (bind (drop (i + 1) (blocksOf w)) (entriesOn s))
-
-  pub later-done : w .count ≤ i → onLater ≡ 0
-  later-done h = ap (λ (ks : List ℕ). tally t (bind ks (entriesOn s))) (walk-done ok i h)
 
 -- ---- the chains of a store
 

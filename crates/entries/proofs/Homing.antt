@@ -19,19 +19,16 @@ use Rattle.chain.specs.Walk.{blocksOf, Walked}
 use Rattle.chain.specs.Within.{entriesOn}
 use Rattle.reader.specs.Known.{Known2}
 use Rattle.reader.specs.KnownLaws.{max-pos}
+use Rattle.reader.specs.Job.{phaseAt}
 use Rattle.entries.specs.Tests.{standsIn, markedBy, marksIn}
 use Rattle.entries.specs.WalkedLaws.{walk-entries}
 
 module _ (s : List ℕ) where
-  -- the job's phase
-  abbrev pub phaseAt : Phase
-  phaseAt = phaseIn (decode s .job) (oldBucket (decode s)) (newBucket (decode s))
-
   -- each entry of the chain of bucket b may stand there
   abbrev pub homed : Phase → ℕ → Bool
   homed phase b = all (λ e. standsIn phase (bucketOf (maxAt s) (e .pair .hash)) b) (entriesAt (decode s) b)
 
-  pub places-parts : (phase : Phase) → phase ≡ phaseAt → rule7 s ≡ all (homed phase) (buckets s) && marksIn s phase
+  pub places-parts : (phase : Phase) → phase ≡ phaseAt s → rule7 s ≡ all (homed phase) (buckets s) && marksIn s phase
   unfolding rule7 decode
   places-parts phase e =
       go (decode s .job) ∙ ap (λ (p : Phase). all (homed p) (buckets s) && marksIn s p) (sym e)
@@ -63,7 +60,7 @@ module _ (s : List ℕ) where
     pub old-made : old ≤ maxAt s
     pub new-made : new ≤ maxAt s
 
-  pub copying-made : {m : Meta} → Known2 s m → (phase : Phase) → phase ≡ phaseAt → (old new : ℕ)
+  pub copying-made : {m : Meta} → Known2 s m → (phase : Phase) → phase ≡ phaseAt s → (old new : ℕ)
       → phase ≡ Phase.Copying old new → Copies old new
   unfolding decode
   copying-made k phase e old new q = go (decode s .job) (sym e ∙ q)
@@ -77,10 +74,9 @@ module _ (s : List ℕ) where
           record { old-made = omega (arith, o, split-lt (maxAt s) (max-pos k)); new-made = omega (arith, n) }
 
   -- the marks of the new chain's entries, by the two Walks
-  pub walks-marked : (phase : Phase) (old new : ℕ) → Copies old new → phase ≡ Phase.Copying old new
+  pub walks-marked : (old new : ℕ) → old ≤ maxAt s → new ≤ maxAt s
       → (o n : Walk) → Walked s (blockOf s old) o → Walked s (blockOf s new) n
-      → all (markedBy (bind (blocksOf o) (entriesOn s))) (bind (blocksOf n) (entriesOn s)) ≡ marksIn s phase
-  walks-marked phase old new made e o n ho hn =
-      ap₂ (λ (es fs : List Entry). all (markedBy es) fs) (walk-entries old (made .old-made) ho)
-      (walk-entries new (made .new-made) hn)
-      ∙ sym (ap (marksIn s) e)
+      → all (markedBy (bind (blocksOf o) (entriesOn s))) (bind (blocksOf n) (entriesOn s))
+      ≡ all (markedBy (entriesAt (decode s) old)) (entriesAt (decode s) new)
+  walks-marked old new old-made new-made o n ho hn =
+      ap₂ (λ (es fs : List Entry). all (markedBy es) fs) (walk-entries old old-made ho) (walk-entries new new-made hn)

@@ -1,4 +1,5 @@
 pub mod Merging
+pub mod Walking
 pub mod Distinct
 pub mod Placing
 pub mod Paging

@@ -1,7 +1,8 @@
 // Rule 8: the previous fields of bucket pages, and the count of held pairs.
 use address::bucket_of;
 use address::last_split;
-use chain::Walk;
+use address::limits::MAX_BLOCKS;
+use chain::links::page_on;
 use image::Meta;
 use model::Phase;
 use page::Entry;
@@ -10,10 +11,10 @@ use page::slots::get_entry;
 use reader::buckets::bucket_page;
 use reader::buckets::walk_bucket;
 use reader::job::read_job;
-use store::block_at;
 use store::prev_at;
 ghost use mathlib.Core.Path.{_≡_};
 ghost use Prim.Native.Nat.{suc, _*_, _≤_};
+ghost use lib.ListN.{take};
 ghost use Rattle.lists.specs.Lists.{all, tally, bind};
 ghost use Rattle.address.specs.Limits.{maxBlocks};
 ghost use Rattle.page.specs.Entries.{entriesOf};
@@ -21,7 +22,6 @@ ghost use Rattle.page.specs.Rule.{Sorted};
 ghost use Rattle.model.specs.Held.{count};
 ghost use Rattle.image.specs.Decode.{decode};
 ghost use Rattle.image.specs.Rules.{buckets, rule8};
-ghost use Rattle.chain.specs.Walk.{blocksOf};
 ghost use Rattle.chain.specs.Within.{entriesOn, PagesOk, Within};
 ghost use Rattle.reader.specs.Known.{Known2};
 ghost use Rattle.shape.specs.Known.{Known5};
@@ -72,17 +72,22 @@ fn count_page(page: &[u8], phase: Phase, max: u32, b: u32) -> u32
 }
 
 // The number of held entries of a walk, that of bucket `b`.
-fn count_walk(store: &[u8], walk: Walk, phase: Phase, max: u32, b: u32) -> u32
-    requires { ⌜ (Within (now store) (walk .blocks) (walk .count)) × (PagesOk (now store) (blocksOf walk)) ⌝ }
-    ensures { λ r. ⌜ (r ≡ tally (liveIn phase max b) (bind (blocksOf walk) (entriesOn (now (store .entry)))))
-        × (r ≤ 40 * suc maxBlocks) ⌝ }
+fn count_walk(
+    store: &[u8],
+    blocks: &[u32; MAX_BLOCKS + 1],
+    count: usize,
+    phase: Phase,
+    max: u32,
+    b: u32,
+) -> u32
+    requires { ⌜ (Within (now store) (now blocks) count) × (PagesOk (now store) (take count (now blocks))) ⌝ }
+    ensures { λ r. ⌜ (r ≡ tally (liveIn phase max b)
+        (bind (take count (now (blocks .entry))) (entriesOn (now (store .entry))))) × (r ≤ 40 * suc maxBlocks) ⌝ }
 {
-    let blocks = walk.blocks;
-    let count = walk.count;
     let mut live = 0;
     let mut i = 0;
     while i < count {
-        live += count_page(block_at(store, blocks[i] as usize), phase, max, b);
+        live += count_page(page_on(store, blocks, count, i), phase, max, b);
         i += 1;
     }
     live
@@ -98,7 +103,9 @@ fn count_live(store: &[u8], m: Meta) -> u32
     let mut live = 0;
     let mut b = 0;
     while b <= max {
-        live += count_walk(store, walk_bucket(store, m, b), phase, max, b);
+        let walk = walk_bucket(store, m, b);
+        let blocks = walk.blocks;
+        live += count_walk(store, &blocks, walk.count, phase, max, b);
         b += 1;
     }
     live

@@ -1,5 +1,6 @@
 // Rule 5: the pages of each chain, and no pair twice in a chain.
-use chain::Walk;
+use address::limits::MAX_BLOCKS;
+use chain::links::page_on;
 use image::Meta;
 use page::order::is_before;
 use page::order::is_same;
@@ -7,30 +8,26 @@ use page::rule::check_page;
 use page::slots::count_entries;
 use page::slots::get_entry;
 use reader::buckets::walk_bucket;
-use store::block_at;
 ghost use mathlib.Core.Path.{_≡_};
 ghost use Prim.Native.Nat.{_+_, _<_};
-ghost use lib.ListN.{getD, drop};
+ghost use lib.ListN.{getD, take, drop};
 ghost use Rattle.lists.specs.Lists.{any, all, bind};
 ghost use Rattle.lists.specs.Block.{block};
 ghost use Rattle.page.specs.Entries.{entriesOf};
 ghost use Rattle.page.specs.Rule.{pageOk, Sorted};
 ghost use Rattle.image.specs.Rules.{distinct, rule5};
-ghost use Rattle.chain.specs.Walk.{blocksOf};
 ghost use Rattle.chain.specs.Within.{entriesOn, PagesOk, Within};
 ghost use Rattle.shape.specs.Known.{Known4};
 ghost use Rattle.entries.specs.Tests.{common};
 
 // Whether each block of the walk is a page.
-fn check_blocks(store: &[u8], walk: Walk) -> bool
-    requires { ⌜ Within (now store) (walk .blocks) (walk .count) ⌝ }
-    ensures { λ r. ⌜ r ≡ all (λ k. pageOk (block (now (store .entry)) k)) (blocksOf walk) ⌝ }
+fn check_blocks(store: &[u8], blocks: &[u32; MAX_BLOCKS + 1], count: usize) -> bool
+    requires { ⌜ Within (now store) (now blocks) count ⌝ }
+    ensures { λ r. ⌜ r ≡ all (λ k. pageOk (block (now (store .entry)) k)) (take count (now (blocks .entry))) ⌝ }
 {
-    let blocks = walk.blocks;
-    let count = walk.count;
     let mut i = 0;
     while i < count {
-        if !check_page(block_at(store, blocks[i] as usize)) {
+        if !check_page(page_on(store, blocks, count, i)) {
             return false;
         }
         i += 1;
@@ -66,20 +63,16 @@ fn have_common(a: &[u8], b: &[u8]) -> bool
 }
 
 // Whether the page at index `i` of the walk has a pair in common with a later one.
-fn meets_later(store: &[u8], walk: Walk, i: usize) -> bool
-    requires { ⌜ (Within (now store) (walk .blocks) (walk .count)) × (PagesOk (now store) (blocksOf walk)) × (i < walk .count) ⌝ }
-    ensures { λ r. ⌜ r ≡ any
-        (λ k. common (entriesOn (now (store .entry)) (getD (walk .blocks) i 0)) (entriesOn (now (store .entry)) k))
-        (drop (i + 1) (blocksOf walk)) ⌝ }
+fn meets_later(store: &[u8], blocks: &[u32; MAX_BLOCKS + 1], count: usize, i: usize) -> bool
+    requires { ⌜ (Within (now store) (now blocks) count) × (PagesOk (now store) (take count (now blocks))) ⌝ }
+    requires { ⌜ i < count ⌝ }
+    ensures { λ r. ⌜ r ≡ any (λ k. common (entriesOn (now (store .entry)) (getD (now (blocks .entry)) i 0))
+        (entriesOn (now (store .entry)) k)) (drop (i + 1) (take count (now (blocks .entry)))) ⌝ }
 {
-    let blocks = walk.blocks;
-    let count = walk.count;
+    let page = page_on(store, blocks, count, i);
     let mut j = i + 1;
     while j < count {
-        if have_common(
-            block_at(store, blocks[i] as usize),
-            block_at(store, blocks[j] as usize),
-        ) {
+        if have_common(page, page_on(store, blocks, count, j)) {
             return true;
         }
         j += 1;
@@ -88,14 +81,13 @@ fn meets_later(store: &[u8], walk: Walk, i: usize) -> bool
 }
 
 // Whether no pair stands twice in the pages of the walk.
-fn check_distinct(store: &[u8], walk: Walk) -> bool
-    requires { ⌜ (Within (now store) (walk .blocks) (walk .count)) × (PagesOk (now store) (blocksOf walk)) ⌝ }
-    ensures { λ r. ⌜ r ≡ distinct (bind (blocksOf walk) (entriesOn (now (store .entry)))) ⌝ }
+fn check_distinct(store: &[u8], blocks: &[u32; MAX_BLOCKS + 1], count: usize) -> bool
+    requires { ⌜ (Within (now store) (now blocks) count) × (PagesOk (now store) (take count (now blocks))) ⌝ }
+    ensures { λ r. ⌜ r ≡ distinct (bind (take count (now (blocks .entry))) (entriesOn (now (store .entry)))) ⌝ }
 {
-    let count = walk.count;
     let mut i = 0;
     while i < count {
-        if meets_later(store, walk, i) {
+        if meets_later(store, blocks, count, i) {
             return false;
         }
         i += 1;
@@ -112,10 +104,12 @@ pub fn check_pages(store: &[u8], m: Meta) -> bool
     let mut b = 0;
     while b <= max {
         let walk = walk_bucket(store, m, b);
-        if !check_blocks(store, walk) {
+        let blocks = walk.blocks;
+        let count = walk.count;
+        if !check_blocks(store, &blocks, count) {
             return false;
         }
-        if !check_distinct(store, walk) {
+        if !check_distinct(store, &blocks, count) {
             return false;
         }
         b += 1;

@@ -1,7 +1,8 @@
 // Rule 7: each entry in its bucket, and the marks of a job that copies.
 use address::bucket_of;
+use address::limits::MAX_BLOCKS;
 use chain::Found;
-use chain::Walk;
+use chain::links::page_on;
 use chain::search::find_pair;
 use image::Meta;
 use model::Phase;
@@ -10,18 +11,18 @@ use page::slots::count_entries;
 use page::slots::get_entry;
 use reader::buckets::walk_bucket;
 use reader::job::read_job;
-use store::block_at;
 ghost use mathlib.Core.Path.{_≡_};
+ghost use Prim.Native.Nat.{_≤_};
+ghost use lib.ListN.{take};
 ghost use Rattle.lists.specs.Lists.{all, bind};
 ghost use Rattle.address.specs.Address.{bucketOf};
 ghost use Rattle.page.specs.Entries.{entriesOf};
 ghost use Rattle.page.specs.Rule.{Sorted};
-ghost use Rattle.model.specs.Index.{entriesAt, oldBucket, newBucket};
-ghost use Rattle.model.specs.Calls.{phaseIn};
+ghost use Rattle.model.specs.Index.{entriesAt};
 ghost use Rattle.image.specs.Decode.{maxAt, decode};
 ghost use Rattle.image.specs.Rules.{buckets, rule7};
-ghost use Rattle.chain.specs.Walk.{blocksOf};
 ghost use Rattle.chain.specs.Within.{entriesOn, PagesOk, Within};
+ghost use Rattle.reader.specs.Job.{phaseAt};
 ghost use Rattle.shape.specs.Known.{Known5};
 ghost use Rattle.entries.specs.Tests.{standsIn, markedBy, marksIn};
 
@@ -58,16 +59,21 @@ fn check_page_places(page: &[u8], max: u32, phase: Phase, b: u32) -> bool
 }
 
 // Whether each entry of the walk may stand in the chain of bucket `b`.
-fn check_walk_places(store: &[u8], walk: Walk, max: u32, phase: Phase, b: u32) -> bool
-    requires { ⌜ (Within (now store) (walk .blocks) (walk .count)) × (PagesOk (now store) (blocksOf walk)) ⌝ }
+fn check_walk_places(
+    store: &[u8],
+    blocks: &[u32; MAX_BLOCKS + 1],
+    count: usize,
+    max: u32,
+    phase: Phase,
+    b: u32,
+) -> bool
+    requires { ⌜ (Within (now store) (now blocks) count) × (PagesOk (now store) (take count (now blocks))) ⌝ }
     ensures { λ r. ⌜ r ≡ all (λ e. standsIn phase (bucketOf max (e .pair .hash)) b)
-        (bind (blocksOf walk) (entriesOn (now (store .entry)))) ⌝ }
+        (bind (take count (now (blocks .entry))) (entriesOn (now (store .entry)))) ⌝ }
 {
-    let blocks = walk.blocks;
-    let count = walk.count;
     let mut i = 0;
     while i < count {
-        if !check_page_places(block_at(store, blocks[i] as usize), max, phase, b) {
+        if !check_page_places(page_on(store, blocks, count, i), max, phase, b) {
             return false;
         }
         i += 1;
@@ -76,13 +82,11 @@ fn check_walk_places(store: &[u8], walk: Walk, max: u32, phase: Phase, b: u32) -
 }
 
 // Whether the entry is marked moved exactly if the walk has its pair.
-fn is_marked(store: &[u8], walk: Walk, entry: Entry) -> bool
-    requires { ⌜ (Within (now store) (walk .blocks) (walk .count)) × (PagesOk (now store) (blocksOf walk)) ⌝ }
-    ensures { λ r. ⌜ r ≡ markedBy (bind (blocksOf walk) (entriesOn (now (store .entry)))) entry ⌝ }
+fn is_marked(store: &[u8], blocks: &[u32; MAX_BLOCKS + 1], count: usize, entry: Entry) -> bool
+    requires { ⌜ (Within (now store) (now blocks) count) × (PagesOk (now store) (take count (now blocks))) ⌝ }
+    ensures { λ r. ⌜ r ≡ markedBy (bind (take count (now (blocks .entry))) (entriesOn (now (store .entry)))) entry ⌝ }
 {
-    let blocks = walk.blocks;
-    let count = walk.count;
-    let found = find_pair(store, &blocks, count, entry.pair);
+    let found = find_pair(store, blocks, count, entry.pair);
     match found {
         Found::At { block: _, slot: _ } => entry.moved,
         Found::Nothing => !entry.moved,
@@ -90,15 +94,16 @@ fn is_marked(store: &[u8], walk: Walk, entry: Entry) -> bool
 }
 
 // Whether each entry of the page is marked moved exactly if the walk has its pair.
-fn check_page_marks(page: &[u8], store: &[u8], old: Walk) -> bool
-    requires { ⌜ (Sorted (now page)) × (Within (now store) (old .blocks) (old .count)) × (PagesOk (now store) (blocksOf old)) ⌝ }
-    ensures { λ r. ⌜ r ≡ all (markedBy (bind (blocksOf old) (entriesOn (now (store .entry)))))
+fn check_page_marks(page: &[u8], store: &[u8], blocks: &[u32; MAX_BLOCKS + 1], count: usize) -> bool
+    requires { ⌜ Sorted (now page) ⌝ }
+    requires { ⌜ (Within (now store) (now blocks) count) × (PagesOk (now store) (take count (now blocks))) ⌝ }
+    ensures { λ r. ⌜ r ≡ all (markedBy (bind (take count (now (blocks .entry))) (entriesOn (now (store .entry)))))
         (entriesOf (now (page .entry))) ⌝ }
 {
     let n = count_entries(page);
     let mut i = 0;
     while i < n {
-        if !is_marked(store, old, get_entry(page, i)) {
+        if !is_marked(store, blocks, count, get_entry(page, i)) {
             return false;
         }
         i += 1;
@@ -106,18 +111,22 @@ fn check_page_marks(page: &[u8], store: &[u8], old: Walk) -> bool
     true
 }
 
-// Whether each entry of the walk `new` is marked moved exactly if the walk `old` has its pair.
-fn check_walk_marks(store: &[u8], new: Walk, old: Walk) -> bool
-    requires { ⌜ (Within (now store) (new .blocks) (new .count)) × (PagesOk (now store) (blocksOf new)) ⌝ }
-    requires { ⌜ (Within (now store) (old .blocks) (old .count)) × (PagesOk (now store) (blocksOf old)) ⌝ }
-    ensures { λ r. ⌜ r ≡ all (markedBy (bind (blocksOf old) (entriesOn (now (store .entry)))))
-        (bind (blocksOf new) (entriesOn (now (store .entry)))) ⌝ }
+// Whether each entry of the walk `copies` is marked moved exactly if the walk `originals` has its pair.
+fn check_walk_marks(
+    store: &[u8],
+    copies: &[u32; MAX_BLOCKS + 1],
+    originals: &[u32; MAX_BLOCKS + 1],
+    count: usize,
+    total: usize,
+) -> bool
+    requires { ⌜ (Within (now store) (now copies) count) × (PagesOk (now store) (take count (now copies))) ⌝ }
+    requires { ⌜ (Within (now store) (now originals) total) × (PagesOk (now store) (take total (now originals))) ⌝ }
+    ensures { λ r. ⌜ r ≡ all (markedBy (bind (take total (now (originals .entry))) (entriesOn (now (store .entry)))))
+        (bind (take count (now (copies .entry))) (entriesOn (now (store .entry)))) ⌝ }
 {
-    let blocks = new.blocks;
-    let count = new.count;
     let mut i = 0;
     while i < count {
-        if !check_page_marks(block_at(store, blocks[i] as usize), store, old) {
+        if !check_page_marks(page_on(store, copies, count, i), store, originals, total) {
             return false;
         }
         i += 1;
@@ -135,7 +144,8 @@ fn check_chains(store: &[u8], m: Meta, phase: Phase) -> bool
     let mut b = 0;
     while b <= max {
         let walk = walk_bucket(store, m, b);
-        if !check_walk_places(store, walk, max, phase, b) {
+        let blocks = walk.blocks;
+        if !check_walk_places(store, &blocks, walk.count, max, phase, b) {
             return false;
         }
         b += 1;
@@ -143,20 +153,28 @@ fn check_chains(store: &[u8], m: Meta, phase: Phase) -> bool
     true
 }
 
+// Whether each entry of the chain of bucket `new` is marked moved exactly if the chain of bucket `old` has its pair.
+fn check_copies(store: &[u8], m: Meta, new: u32, old: u32) -> bool
+    requires { ⌜ (Known5 (now store) m) × (new ≤ m .max) × (old ≤ m .max) ⌝ }
+    ensures { λ r. ⌜ r ≡ all (markedBy (entriesAt (decode (now (store .entry))) old))
+        (entriesAt (decode (now (store .entry))) new) ⌝ }
+{
+    let to = walk_bucket(store, m, new);
+    let from = walk_bucket(store, m, old);
+    let copies = to.blocks;
+    let originals = from.blocks;
+    check_walk_marks(store, &copies, &originals, to.count, from.count)
+}
+
 // While copying, whether each entry of the new chain is marked moved exactly if the old chain has its pair.
 fn check_marks(store: &[u8], m: Meta, phase: Phase) -> bool
     requires { ⌜ Known5 (now store) m ⌝ }
-    requires { ⌜ phase ≡ phaseIn (decode (now store) .job) (oldBucket (decode (now store)))
-        (newBucket (decode (now store))) ⌝ }
+    requires { ⌜ phase ≡ phaseAt (now store) ⌝ }
     ensures { λ r. ⌜ r ≡ marksIn (now (store .entry)) phase ⌝ }
 {
     match phase {
         Phase::None => true,
-        Phase::Copying { old, new } => check_walk_marks(
-            store,
-            walk_bucket(store, m, new),
-            walk_bucket(store, m, old),
-        ),
+        Phase::Copying { old, new } => check_copies(store, m, new, old),
         Phase::Clearing { old: _, new: _ } => true,
     }
 }

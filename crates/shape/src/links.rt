@@ -1,5 +1,5 @@
 // Rule 4: chains link by link, and each overflow page in one of them.
-use chain::Walk;
+use address::limits::MAX_BLOCKS;
 use chain::links::next_block;
 use image::Meta;
 use page::slots::count_entries;
@@ -37,12 +37,11 @@ fn check_link(store: &[u8], m: Meta, b: u32, k: u32, j: u32) -> bool
 }
 
 // Whether the walk of bucket `b` is linked, and ends.
-fn check_chain(store: &[u8], m: Meta, b: u32, walk: Walk) -> bool
-    requires { ⌜ (Known2 (now store) m) × (Walked (now store) (blockOf (now store) b) walk) ⌝ }
+fn check_chain(store: &[u8], blocks: &[u32; MAX_BLOCKS + 1], count: usize, m: Meta, b: u32) -> bool
+    requires { ⌜ Known2 (now store) m ⌝ }
+    requires { ⌜ Walked (now store) (blockOf (now store) b) (record { count = count; blocks = now blocks }) ⌝ }
     ensures { λ r. ⌜ r ≡ chained (now (store .entry)) b ⌝ }
 {
-    let blocks = walk.blocks;
-    let count = walk.count;
     let mut i = 0;
     while i + 1 < count {
         if !check_link(store, m, b, blocks[i], blocks[i + 1]) {
@@ -81,10 +80,12 @@ pub fn check_links(store: &[u8], m: Meta) -> bool
     let mut b = 0;
     while b <= max {
         let walk = walk_bucket(store, m, b);
-        if !check_chain(store, m, b, walk) {
+        let blocks = walk.blocks;
+        let count = walk.count;
+        if !check_chain(store, &blocks, count, m, b) {
             return false;
         }
-        links += walk.count - 1;
+        links += count - 1;
         b += 1;
     }
     links == count_overflow(store, m)

@@ -30,37 +30,39 @@ walk-bucket-requires c κs = (c .before .before .before .before .pre .known .kno
 
 count-walk-requires : tie.Need-count-walk-requires Inv-loop μ-loop
 count-walk-requires c κs =
-    let s = c .before .before .before .before .before in
-    let b = c .before .before .loop .b in (
-      walk-within b (made (c .before)) (c .walk-bucket .ensures) (s .pre .known),
-      walk-pages b (made (c .before)) (c .walk-bucket .ensures) (s .pre),
+    let w = c .before .before in
+    let l = w .before .before in
+    let k = l .before .before .before .pre in (
+      walk-within (l .loop .b) (made (w .before)) (w .walk-bucket .ensures) (k .known),
+      walk-pages (l .loop .b) (made (w .before)) (w .walk-bucket .ensures) k,
     )
 
 add-live : tie.Need-add-live Inv-loop μ-loop
 add-live c =
-    let l = c .before .before .before in
+    let i = c .before .before .before .before in
+    let l = i .before in
     let k = l .before .before .before .pre .known .known .known in
-    omega (arith, l .loop .inv .1, c .count-walk .ensures .1, made (c .before .before), max-small k)
+    omega (arith, l .loop .inv .1, c .count-walk .ensures .1, made i, max-small k)
 
 add-b : tie.Need-add-b Inv-loop μ-loop
 add-b c =
-    let k = c .before .before .before .before .before .before .pre .known .known .known in
-    omega (arith, made (c .before .before), max-small k)
+    let i = c .before .before .before .before in
+    omega (arith, made i, max-small (i .before .before .before .before .pre .known .known .known))
 
 loop-less : tie.Need-loop-less Inv-loop μ-loop
-loop-less c = omega (arith, c .before .before .loop-test .taken)
+loop-less c = omega (arith, c .before .before .before .before .loop-test .taken)
 
 loop-again : tie.Need-loop-again Inv-loop μ-loop
 loop-again c =
-    let i = c .before .before in
+    let w = c .before .before .before in
+    let i = w .before in
     let l = i .before in
     let s = l .before .before .before in
     let t = s .args .store .now in
     let b = l .loop .b in
     let k = s .pre .known .known .known in
     let p = l .before .read-job in
-    let w = c .before .walk-bucket in
-    let here = c .count-walk .ensures .0 ∙ live-walk t (p .result) (p .ensures) b (made i) (w .result) (w .ensures) (s .args .m .max) (max-is k) in (
+    let here = c .count-walk .ensures .0 ∙ live-walk t (p .result) (p .ensures) b (made i) (w .walk-bucket .result) (w .walk-bucket .ensures) (s .args .m .max) (max-is k) in (
       omega (arith, made i),
       omega (arith, l .loop .inv .1, c .count-walk .ensures .1),
       omega (arith, l .loop .inv .2, here, live-turn t b (made i)),

@@ -2,10 +2,9 @@ use mathlib.Core.Path.{_≡_, refl, sym, ap, _∙_}
 use mathlib.Core.Bool.{not}
 use Prim.Native.Nat.{_-_}
 use native.Mathlib.Omega.{arith}
-use lib.ListN.{drop}
+use lib.ListN.{take, drop}
 use Rattle.lists.specs.Lists.{bind}
 use Rattle.image.specs.Rules.{distinct}
-use Rattle.chain.specs.Walk.{blocksOf}
 use Rattle.chain.specs.Within.{entriesOn}
 use Rattle.shape.specs.LoopLaws.{passed, failed}
 use Rattle.entries.proofs.Distinct.{distinct-turn, distinct-done}
@@ -13,26 +12,25 @@ use Rattle.entries.proofs.pages.check_distinct.Statement.{statement}
 use Rattle.entries.proofs.pages.check_distinct.Tie as tie
 
 abbrev Inv-loop : tie.InvT-loop
-Inv-loop store walk count i₀ i =
-    distinct (bind (drop i (blocksOf walk)) (entriesOn store)) ≡ distinct (bind (blocksOf walk) (entriesOn store))
+Inv-loop store blocks count i₀ i =
+    distinct (bind (drop i (take count blocks)) (entriesOn store)) ≡ distinct (bind (take count blocks) (entriesOn store))
 
 abbrev μ-loop : tie.MeasureT-loop
-μ-loop store walk count i₀ i = count - i
+μ-loop store blocks count i₀ i = count - i
 
 loop-holds : tie.Need-loop-holds Inv-loop μ-loop
 loop-holds c = refl
 
 meets-later-requires : tie.Need-meets-later-requires Inv-loop μ-loop
 meets-later-requires c κs =
-    let s = c .before .before .before in
-    (s .pre .0, s .pre .1, c .loop-test .taken)
+    (c .before .before .before .pre, c .loop-test .taken)
 
 returns : tie.Need-returns Inv-loop μ-loop
 returns c =
     let h = c .before in
     let l = h .before .before in
     let s = l .before .before in
-    let turn = distinct-turn (s .args .store .now) (s .args .walk) (s .pre .0) (l .loop .i) (s .pre .1) (h .before .loop-test .taken) in
+    let turn = distinct-turn (s .pre .0) (l .loop .i) (s .pre .1) (h .before .loop-test .taken) in
     let test = ap not (sym (h .meets-later .ensures)) in
     sym (sym (l .loop .inv) ∙ failed _ _ _ turn (test ∙ ap not (c .if1 .taken)))
 
@@ -47,7 +45,7 @@ loop-again c =
     let h = c .before in
     let l = h .before .before in
     let s = l .before .before in
-    let turn = distinct-turn (s .args .store .now) (s .args .walk) (s .pre .0) (l .loop .i) (s .pre .1) (h .before .loop-test .taken) in
+    let turn = distinct-turn (s .pre .0) (l .loop .i) (s .pre .1) (h .before .loop-test .taken) in
     let test = ap not (sym (h .meets-later .ensures)) in
     passed _ _ _ turn (test ∙ ap not (c .if1 .left)) ∙ l .loop .inv
 
@@ -57,7 +55,7 @@ returns-2 c =
     let s = l .before .before in
     sym
     (sym (l .loop .inv)
-    ∙ distinct-done (s .args .store .now) (s .args .walk) (s .pre .0) (l .loop .i) (c .loop-test .left))
+    ∙ distinct-done (s .pre .0) (l .loop .i) (c .loop-test .left))
 
 pub check-distinct-spec : {M : Type 1} → statement M
 check-distinct-spec =

@@ -1,9 +1,14 @@
 use mathlib.Core.Path.{_≡_, sym, _∙_}
+use mathlib.Core.Bool.{true}
 use Prim.Native.Nat.{suc, _+_, _-_, _≤_}
 use native.Mathlib.Omega.{arith}
 use borrow.Author.Tests.{not-true, not-false}
+use Rattle.lists.specs.Lists.{all}
+use Rattle.lists.specs.Block.{block}
+use Rattle.page.specs.Rule.{pageOk}
 use Rattle.image.specs.Decode.{maxAt}
 use Rattle.image.specs.Rules.{rule5}
+use Rattle.chain.specs.Walk.{blocksOf}
 use Rattle.reader.specs.KnownLaws.{max-is, max-small}
 use Rattle.shape.specs.LoopLaws.{passed, failed, left, left-turn, left-done}
 use Rattle.entries.specs.WalkedLaws.{walk-within}
@@ -18,6 +23,9 @@ Inv-loop store m max b₀ b =
 abbrev μ-loop : tie.MeasureT-loop
 μ-loop store m max b₀ b = max + 1 - b
 
+made : (c : tie.In-loop Inv-loop μ-loop) → c .before .loop .b ≤ maxAt (c .before .before .before .args .store .now)
+made c = omega (arith, c .loop-test .taken, max-is (c .before .before .before .pre .known .known))
+
 loop-holds : tie.Need-loop-holds Inv-loop μ-loop
 loop-holds c = (omega arith, paging-start (c .before .args .store .now))
 
@@ -26,82 +34,70 @@ walk-bucket-requires c κs = (c .before .before .before .pre .known .known, c .l
 
 check-blocks-requires : tie.Need-check-blocks-requires Inv-loop μ-loop
 check-blocks-requires c κs =
-    let w = c in
+    let w = c .before .before in
     let l = w .before .before in
-    let s = l .before .before in
-    let k = s .pre in
-    let made : l .loop .b ≤ maxAt (s .args .store .now) = omega (arith, w .before .loop-test .taken, max-is (k .known .known)) in
-    walk-within (l .loop .b) made (w .walk-bucket .ensures) k
+    walk-within (l .loop .b) (made (w .before)) (w .walk-bucket .ensures) (l .before .before .pre)
 
 returns : tie.Need-returns Inv-loop μ-loop
 returns c =
-    let w = c .before .before in
-    let l = w .before .before in
-    let s = l .before .before in
-    let k = s .pre in
-    let made : l .loop .b ≤ maxAt (s .args .store .now) = omega (arith, w .before .loop-test .taken, max-is (k .known .known)) in
     let h = c .before in
+    let w = h .before .before .before in
+    let l = w .before .before in
+    let s = l .before .before .args .store .now in
     let test =
-    no-page (s .args .store .now) (l .loop .b) made (w .walk-bucket .result) (w .walk-bucket .ensures)
+    no-page s (l .loop .b) (made (w .before)) (w .walk-bucket .result) (w .walk-bucket .ensures)
     (sym (h .check-blocks .ensures) ∙ not-true (h .check-blocks .result) (c .if1 .taken)) in
-    let turn = left-turn (paged (s .args .store .now)) (suc (maxAt (s .args .store .now))) (l .loop .b) (omega arith) in
+    let turn = left-turn (paged s) (suc (maxAt s)) (l .loop .b) (omega (arith, made (w .before))) in
     sym (sym (l .loop .inv .1) ∙ failed _ _ _ turn test)
+
+-- each block of the walk is a page
+pages : (c : tie.Else1 Inv-loop μ-loop)
+    → let w = c .before .before .before .before in
+    let s = w .before .before .before .before .args .store .now in
+    all (λ k. pageOk (block s k)) (blocksOf (w .walk-bucket .result)) ≡ true
+pages c = let h = c .before .check-blocks in sym (h .ensures) ∙ not-false (h .result) (c .if1 .left)
 
 check-distinct-requires : tie.Need-check-distinct-requires Inv-loop μ-loop
 check-distinct-requires c κs =
-    let w = c .before .before in
+    let e = c .before in
+    let w = e .before .before .before .before in
     let l = w .before .before in
-    let s = l .before .before in
-    let k = s .pre in
-    let made : l .loop .b ≤ maxAt (s .args .store .now) = omega (arith, w .before .loop-test .taken, max-is (k .known .known)) in
-    let h = c .before in (
-      walk-within (l .loop .b) made (w .walk-bucket .ensures) k,
-      sym (h .check-blocks .ensures) ∙ not-false (h .check-blocks .result) (c .if1 .left),
-    )
+    (walk-within (l .loop .b) (made (w .before)) (w .walk-bucket .ensures) (l .before .before .pre), pages e)
 
 returns-2 : tie.Need-returns-2 Inv-loop μ-loop
 returns-2 c =
-    let w = c .before .before .before .before in
-    let l = w .before .before in
-    let s = l .before .before in
-    let k = s .pre in
-    let made : l .loop .b ≤ maxAt (s .args .store .now) = omega (arith, w .before .loop-test .taken, max-is (k .known .known)) in
     let d = c .before in
-    let h = d .before .before in
+    let e = d .before .before in
+    let w = e .before .before .before .before in
+    let l = w .before .before in
+    let s = l .before .before .args .store .now in
     let test =
-    pair-twice (s .args .store .now) (l .loop .b) made (w .walk-bucket .result) (w .walk-bucket .ensures)
-    (sym (h .check-blocks .ensures) ∙ not-false (h .check-blocks .result) (d .before .if1 .left))
+    pair-twice s (l .loop .b) (made (w .before)) (w .walk-bucket .result) (w .walk-bucket .ensures) (pages e)
     (sym (d .check-distinct .ensures) ∙ not-true (d .check-distinct .result) (c .if2 .taken)) in
-    let turn = left-turn (paged (s .args .store .now)) (suc (maxAt (s .args .store .now))) (l .loop .b) (omega arith) in
+    let turn = left-turn (paged s) (suc (maxAt s)) (l .loop .b) (omega (arith, made (w .before))) in
     sym (sym (l .loop .inv .1) ∙ failed _ _ _ turn test)
 
 add-b : tie.Need-add-b Inv-loop μ-loop
 add-b c =
-    let w = c .before .before .before .before in
-    let l = w .before .before in
-    let s = l .before .before in
-    let k = s .pre in
-    let made : l .loop .b ≤ maxAt (s .args .store .now) = omega (arith, w .before .loop-test .taken, max-is (k .known .known)) in
-    omega (arith, max-small (k .known .known))
+    let w = c .before .before .before .before .before .before .before in
+    omega (arith, made (w .before), max-small (w .before .before .before .before .pre .known .known))
 
 loop-less : tie.Need-loop-less Inv-loop μ-loop
-loop-less c = omega (arith, c .before .before .before .before .before .loop-test .taken)
+loop-less c = omega (arith, c .before .before .before .before .before .before .before .before .loop-test .taken)
 
 loop-again : tie.Need-loop-again Inv-loop μ-loop
 loop-again c =
-    let w = c .before .before .before .before in
-    let l = w .before .before in
-    let s = l .before .before in
-    let k = s .pre in
-    let made : l .loop .b ≤ maxAt (s .args .store .now) = omega (arith, w .before .loop-test .taken, max-is (k .known .known)) in
     let d = c .before in
-    let h = d .before .before in
+    let e = d .before .before in
+    let w = e .before .before .before .before in
+    let l = w .before .before in
+    let s = l .before .before .args .store .now in
+    let low = made (w .before) in
     let test =
-    all-paged (s .args .store .now) (l .loop .b) made (w .walk-bucket .result) (w .walk-bucket .ensures)
-    (sym (h .check-blocks .ensures) ∙ not-false (h .check-blocks .result) (d .before .if1 .left))
+    all-paged s (l .loop .b) low (w .walk-bucket .result) (w .walk-bucket .ensures) (pages e)
     (sym (d .check-distinct .ensures) ∙ not-false (d .check-distinct .result) (c .if2 .left)) in
-    let turn = left-turn (paged (s .args .store .now)) (suc (maxAt (s .args .store .now))) (l .loop .b) (omega arith) in
-    (omega arith, passed _ _ _ turn test ∙ l .loop .inv .1)
+    let turn = left-turn (paged s) (suc (maxAt s)) (l .loop .b) (omega (arith, low)) in
+    (omega (arith, low), passed _ _ _ turn test ∙ l .loop .inv .1)
 
 returns-3 : tie.Need-returns-3 Inv-loop μ-loop
 returns-3 c =

@@ -19,6 +19,9 @@ Inv-loop store m phase max b₀ b =
 abbrev μ-loop : tie.MeasureT-loop
 μ-loop store m phase max b₀ b = max + 1 - b
 
+made : (c : tie.In-loop Inv-loop μ-loop) → c .before .loop .b ≤ maxAt (c .before .before .before .args .store .now)
+made c = omega (arith, c .loop-test .taken, max-is (c .before .before .before .pre .known .known .known))
+
 loop-holds : tie.Need-loop-holds Inv-loop μ-loop
 loop-holds c =
     let a = c .before .args in
@@ -29,62 +32,55 @@ walk-bucket-requires c κs = (c .before .before .before .pre .known .known .know
 
 check-walk-places-requires : tie.Need-check-walk-places-requires Inv-loop μ-loop
 check-walk-places-requires c κs =
-    let w = c in
+    let w = c .before .before in
+    let l = w .before .before in
+    let k = l .before .before .pre in (
+      walk-within (l .loop .b) (made (w .before)) (w .walk-bucket .ensures) (k .known),
+      walk-pages (l .loop .b) (made (w .before)) (w .walk-bucket .ensures) k,
+    )
+
+-- the chain of bucket b
+chain : (c : tie.After-check-walk-places Inv-loop μ-loop)
+    → let l = c .before .before .before .before .before in
+    let a = l .before .before .args in
+    homed (a .store .now) (a .phase) (l .loop .b) ≡ c .check-walk-places .result
+chain c =
+    let w = c .before .before .before in
     let l = w .before .before in
     let s = l .before .before in
-    let k = s .pre in
-    let two = k .known .known .known in
-    let made : l .loop .b ≤ maxAt (s .args .store .now) = omega (arith, w .before .loop-test .taken, max-is two) in (
-      walk-within (l .loop .b) made (w .walk-bucket .ensures) (k .known),
-      walk-pages (l .loop .b) made (w .walk-bucket .ensures) k,
-    )
+    let a = s .args in
+    sym
+    (c .check-walk-places .ensures
+    ∙ walk-homed (a .store .now) (a .phase) (l .loop .b) (made (w .before)) (w .walk-bucket .result) (w .walk-bucket .ensures)
+    (a .m .max) (max-is (s .pre .known .known .known)))
 
 returns : tie.Need-returns Inv-loop μ-loop
 returns c =
-    let w = c .before .before in
-    let l = w .before .before in
-    let s = l .before .before in
-    let k = s .pre in
-    let two = k .known .known .known in
-    let made : l .loop .b ≤ maxAt (s .args .store .now) = omega (arith, w .before .loop-test .taken, max-is two) in
     let h = c .before in
-    let a = s .args in
-    let test =
-    sym
-    (h .check-walk-places .ensures
-    ∙ walk-homed (a .store .now) (a .phase) (l .loop .b) made (w .walk-bucket .result) (w .walk-bucket .ensures) (a .m .max) (max-is two)) in
-    let turn = left-turn (homed (a .store .now) (a .phase)) (suc (maxAt (a .store .now))) (l .loop .b) (omega arith) in
-    sym (sym (l .loop .inv .1) ∙ failed _ _ _ turn (test ∙ not-true (h .check-walk-places .result) (c .if1 .taken)))
+    let l = h .before .before .before .before .before in
+    let a = l .before .before .args in
+    let turn = left-turn (homed (a .store .now) (a .phase)) (suc (maxAt (a .store .now))) (l .loop .b)
+    (omega (arith, made (h .before .before .before .before))) in
+    sym (sym (l .loop .inv .1) ∙ failed _ _ _ turn (chain h ∙ not-true (h .check-walk-places .result) (c .if1 .taken)))
 
 add-b : tie.Need-add-b Inv-loop μ-loop
 add-b c =
-    let w = c .before .before in
-    let l = w .before .before in
-    let s = l .before .before in
-    let k = s .pre in
-    let two = k .known .known .known in
-    let made : l .loop .b ≤ maxAt (s .args .store .now) = omega (arith, w .before .loop-test .taken, max-is two) in
-    omega (arith, max-small two)
+    let i = c .before .before .before .before .before in
+    omega (arith, made i, max-small (i .before .before .before .pre .known .known .known))
 
 loop-less : tie.Need-loop-less Inv-loop μ-loop
-loop-less c = omega (arith, c .before .before .before .loop-test .taken)
+loop-less c = omega (arith, c .before .before .before .before .before .loop-test .taken)
 
 loop-again : tie.Need-loop-again Inv-loop μ-loop
 loop-again c =
-    let w = c .before .before in
-    let l = w .before .before in
-    let s = l .before .before in
-    let k = s .pre in
-    let two = k .known .known .known in
-    let made : l .loop .b ≤ maxAt (s .args .store .now) = omega (arith, w .before .loop-test .taken, max-is two) in
     let h = c .before in
-    let a = s .args in
-    let test =
-    sym
-    (h .check-walk-places .ensures
-    ∙ walk-homed (a .store .now) (a .phase) (l .loop .b) made (w .walk-bucket .result) (w .walk-bucket .ensures) (a .m .max) (max-is two)) in
-    let turn = left-turn (homed (a .store .now) (a .phase)) (suc (maxAt (a .store .now))) (l .loop .b) (omega arith) in
-    (omega arith, passed _ _ _ turn (test ∙ not-false (h .check-walk-places .result) (c .if1 .left)) ∙ l .loop .inv .1)
+    let l = h .before .before .before .before .before in
+    let a = l .before .before .args in
+    let low = made (h .before .before .before .before) in
+    let turn = left-turn (homed (a .store .now) (a .phase)) (suc (maxAt (a .store .now))) (l .loop .b) (omega (arith, low)) in (
+      omega (arith, low),
+      passed _ _ _ turn (chain h ∙ not-false (h .check-walk-places .result) (c .if1 .left)) ∙ l .loop .inv .1,
+    )
 
 returns-2 : tie.Need-returns-2 Inv-loop μ-loop
 returns-2 c =

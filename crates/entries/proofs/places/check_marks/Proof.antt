@@ -1,9 +1,9 @@
-use mathlib.Core.Path.{_∙_}
 use native.Mathlib.Omega.{arith}
+use mathlib.Core.Path.{sym, ap, _∙_}
 use borrow.Author.Needs.{needs}
 use Rattle.reader.specs.KnownLaws.{max-is}
-use Rattle.entries.specs.WalkedLaws.{walk-within, walk-pages}
-use Rattle.entries.proofs.Homing.{copying-made, walks-marked}
+use Rattle.entries.specs.Tests.{marksIn}
+use Rattle.entries.proofs.Homing.{copying-made}
 use Rattle.entries.proofs.places.check_marks.Statement.{statement}
 use Rattle.entries.proofs.places.check_marks.Tie as tie
 
@@ -13,39 +13,14 @@ enum-told c = search needs
 enum-known-phase : tie.Need-enum-known-phase
 enum-known-phase c = search needs
 
-walk-bucket-requires : tie.Need-walk-bucket-requires
-walk-bucket-requires c κs =
+check-copies-requires : tie.Need-check-copies-requires
+check-copies-requires c κs =
     let p = c .before in
     let s = p .before .before .before in
     let g = p .phase .given in
-    let k = s .pre .0 in
-    let two = k .known .known .known in
+    let two = s .pre .0 .known .known .known in
     let made = copying-made (s .args .store .now) two (s .args .phase) (s .pre .1) (g .0 .0) (g .0 .1 .0) (g .1) in
-    (two, omega (arith, made .new-made, max-is two))
-
-walk-bucket-requires-2 : tie.Need-walk-bucket-requires-2
-walk-bucket-requires-2 c κs =
-    let p = c .before .before in
-    let s = p .before .before .before in
-    let g = p .phase .given in
-    let k = s .pre .0 in
-    let two = k .known .known .known in
-    let made = copying-made (s .args .store .now) two (s .args .phase) (s .pre .1) (g .0 .0) (g .0 .1 .0) (g .1) in
-    (two, omega (arith, made .old-made, max-is two))
-
-check-walk-marks-requires : tie.Need-check-walk-marks-requires
-check-walk-marks-requires c κs =
-    let p = c .before .before .before in
-    let s = p .before .before .before in
-    let g = p .phase .given in
-    let k = s .pre .0 in
-    let two = k .known .known .known in
-    let made = copying-made (s .args .store .now) two (s .args .phase) (s .pre .1) (g .0 .0) (g .0 .1 .0) (g .1) in
-    let n = c .before .walk-bucket .ensures in
-    let o = c .walk-bucket2 .ensures in (
-      (walk-within (g .0 .1 .0) (made .new-made) n (k .known), walk-pages (g .0 .1 .0) (made .new-made) n k),
-      (walk-within (g .0 .0) (made .old-made) o (k .known), walk-pages (g .0 .0) (made .old-made) o k),
-    )
+    (s .pre .0, omega (arith, made .new-made, max-is two), omega (arith, made .old-made, max-is two))
 
 enum-told-2 : tie.Need-enum-told-2
 enum-told-2 c = search needs
@@ -55,16 +30,9 @@ returns c = search needs
 
 returns-2 : tie.Need-returns-2
 returns-2 c =
-    let p = c .before .before .before .before in
+    let p = c .before .before in
     let s = p .before .before .before in
-    let g = p .phase .given in
-    let k = s .pre .0 in
-    let two = k .known .known .known in
-    let made = copying-made (s .args .store .now) two (s .args .phase) (s .pre .1) (g .0 .0) (g .0 .1 .0) (g .1) in
-    let n = c .before .before .walk-bucket in
-    let o = c .before .walk-bucket2 in
-    c .check-walk-marks .ensures
-    ∙ walks-marked (s .args .store .now) (s .args .phase) (g .0 .0) (g .0 .1 .0) made (g .1) (o .result) (n .result) (o .ensures) (n .ensures)
+    c .check-copies .ensures ∙ sym (ap (marksIn (s .args .store .now)) (p .phase .given .1))
 
 returns-3 : tie.Need-returns-3
 returns-3 c = search needs
@@ -75,9 +43,7 @@ check-marks-spec =
     (tie.spec
     enum-told
     enum-known-phase
-    walk-bucket-requires
-    walk-bucket-requires-2
-    check-walk-marks-requires
+    check-copies-requires
     enum-told-2
     returns
     returns-2

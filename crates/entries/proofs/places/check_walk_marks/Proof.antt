@@ -1,82 +1,52 @@
-use mathlib.Core.Path.{_≡_, sym, ap, _∙_}
-use mathlib.Core.Bool.{Bool, true, false}
+use mathlib.Core.Path.{_≡_, refl, sym, _∙_}
+use mathlib.Core.Bool.{Bool}
 use mathlib.Core.List.{List}
 use Prim.Native.Nat.{ℕ, _-_}
 use native.Mathlib.Omega.{arith}
 use borrow.Author.Tests.{not-true, not-false}
-use lib.ListN.{getD, take, drop}
+use lib.ListN.{take, drop}
 use Rattle.lists.specs.Lists.{all, bind}
-use Rattle.lists.specs.Block.{blocks}
 use Rattle.page.specs.declared.Entry.{Entry}
-use Rattle.page.specs.Entries.{entriesOf}
-use Rattle.chain.specs.declared.Walk.{Walk}
-use Rattle.chain.specs.Walk.{blocksOf}
 use Rattle.chain.specs.Within.{entriesOn}
-use Rattle.chain.specs.WithinLaws.{block-inside, block-whole, block-sorted, walk-turn, walk-done}
+use Rattle.shape.specs.LoopLaws.{passed, failed}
 use Rattle.entries.specs.Tests.{markedBy}
-use Rattle.shape.specs.LoopLaws.{passed, failed, all-bind}
+use Rattle.entries.proofs.Walking.{all-turn, all-done}
 use Rattle.entries.proofs.places.check_walk_marks.Statement.{statement}
 use Rattle.entries.proofs.places.check_walk_marks.Tie as tie
 
-abbrev marked : List ℕ → Walk → Entry → Bool
-marked s w = markedBy (bind (blocksOf w) (entriesOn s))
-
--- of each entry of block k
-abbrev fine : List ℕ → (Entry → Bool) → ℕ → Bool
-fine s t k = all t (entriesOn s k)
+abbrev marked : List ℕ → List ℕ → ℕ → Entry → Bool
+marked s bs n = markedBy (bind (take n bs) (entriesOn s))
 
 abbrev Inv-loop : tie.InvT-loop
-Inv-loop store old blocks count i₀ i =
-    all (fine store (marked store old)) (drop i (take count blocks))
-    ≡ all (marked store old) (bind (take count blocks) (entriesOn store))
+Inv-loop store copies originals count total i₀ i =
+    all (marked store originals total) (bind (drop i (take count copies)) (entriesOn store))
+    ≡ all (marked store originals total) (bind (take count copies) (entriesOn store))
 
 abbrev μ-loop : tie.MeasureT-loop
-μ-loop store old blocks count i₀ i = count - i
+μ-loop store copies originals count total i₀ i = count - i
 
 loop-holds : tie.Need-loop-holds Inv-loop μ-loop
-loop-holds c =
-    let a = c .before .before .args in
-    sym (all-bind (marked (a .store .now) (a .old)) (entriesOn (a .store .now)) (blocksOf (a .new)))
+loop-holds c = refl
 
-mul-block-at : tie.Need-mul-block-at Inv-loop μ-loop
-mul-block-at c = omega (arith, c .before .before .before .before .pre .0 .0 .few)
-
-array-read-block-at : tie.Need-array-read-block-at Inv-loop μ-loop
-array-read-block-at c = omega (arith, c .before .before .before .before .pre .0 .0 .few)
-
-cast-block-at : tie.Need-cast-block-at Inv-loop μ-loop
-unfolding blocks
-cast-block-at c =
-    let s = c .before .before .before .before in
-    omega (arith, block-inside (s .pre .0 .0) (c .before .loop .i) (c .loop-test .taken))
-
-block-at-requires : tie.Need-block-at-requires Inv-loop μ-loop
-block-at-requires c κs =
-    let s = c .before .before .before .before in
-    block-whole (s .pre .0 .0) (c .before .loop .i) (c .loop-test .taken)
+page-on-requires : tie.Need-page-on-requires Inv-loop μ-loop
+page-on-requires c κs = (c .before .before .before .pre .0 .0, c .loop-test .taken)
 
 check-page-marks-requires : tie.Need-check-page-marks-requires Inv-loop μ-loop
 check-page-marks-requires c κs =
-    let l = c .before .before in
-    let s = l .before .before .before in (
-      rw (c .block-at .ensures) (block-sorted (s .pre .0 .0) (l .loop .i) (c .before .loop-test .taken) (s .pre .0 .1)),
-      s .pre .1 .0,
-      s .pre .1 .1,
-    )
+    let s = c .before .before .before .before in
+    (c .page-on .ensures .sorted (s .pre .0 .1), s .pre .1)
 
 returns : tie.Need-returns Inv-loop μ-loop
 returns c =
     let n = c .before in
     let l = n .before .before .before in
-    let s = l .before .before .before in
-    let a = s .args in
-    let t = fine (a .store .now) (marked (a .store .now) (a .old)) in
-    let turn = ap (all t) (walk-turn (s .pre .0 .0) (l .loop .i) (n .before .before .loop-test .taken)) in
-    let test =
-    sym
-    (n .check-page-marks .ensures
-    ∙ ap (λ (x : List ℕ). all (marked (a .store .now) (a .old)) (entriesOf x)) (n .before .block-at .ensures)) in
-    sym (sym (l .loop .inv) ∙ failed _ _ _ turn (test ∙ not-true (n .check-page-marks .result) (c .if1 .taken)))
+    let s = l .before .before in
+    let t = marked (s .args .store .now) (s .args .originals .now) (s .args .total) in
+    let f = n .check-page-marks in
+    let turn =
+    all-turn (s .pre .0 .0) t (l .loop .i) (n .before .before .loop-test .taken) (n .before .page-on .ensures) (f .result)
+    (f .ensures) in
+    sym (sym (l .loop .inv) ∙ failed _ _ _ turn (not-true (f .result) (c .if1 .taken)))
 
 add-i : tie.Need-add-i Inv-loop μ-loop
 add-i c = omega arith
@@ -88,23 +58,20 @@ loop-again : tie.Need-loop-again Inv-loop μ-loop
 loop-again c =
     let n = c .before in
     let l = n .before .before .before in
-    let s = l .before .before .before in
-    let a = s .args in
-    let t = fine (a .store .now) (marked (a .store .now) (a .old)) in
-    let turn = ap (all t) (walk-turn (s .pre .0 .0) (l .loop .i) (n .before .before .loop-test .taken)) in
-    let test =
-    sym
-    (n .check-page-marks .ensures
-    ∙ ap (λ (x : List ℕ). all (marked (a .store .now) (a .old)) (entriesOf x)) (n .before .block-at .ensures)) in
-    passed _ _ _ turn (test ∙ not-false (n .check-page-marks .result) (c .if1 .left)) ∙ l .loop .inv
+    let s = l .before .before in
+    let t = marked (s .args .store .now) (s .args .originals .now) (s .args .total) in
+    let f = n .check-page-marks in
+    let turn =
+    all-turn (s .pre .0 .0) t (l .loop .i) (n .before .before .loop-test .taken) (n .before .page-on .ensures) (f .result)
+    (f .ensures) in
+    passed _ _ _ turn (not-false (f .result) (c .if1 .left)) ∙ l .loop .inv
 
 returns-2 : tie.Need-returns-2 Inv-loop μ-loop
 returns-2 c =
     let l = c .before in
-    let s = l .before .before .before in
-    let a = s .args in
-    let t = fine (a .store .now) (marked (a .store .now) (a .old)) in
-    sym (sym (l .loop .inv) ∙ ap (all t) (walk-done (s .pre .0 .0) (l .loop .i) (c .loop-test .left)))
+    let s = l .before .before in
+    let t = marked (s .args .store .now) (s .args .originals .now) (s .args .total) in
+    sym (sym (l .loop .inv) ∙ all-done (s .pre .0 .0) t (l .loop .i) (c .loop-test .left))
 
 pub check-walk-marks-spec : {M : Type 1} → statement M
 check-walk-marks-spec =
@@ -113,10 +80,7 @@ check-walk-marks-spec =
     Inv-loop
     μ-loop
     loop-holds
-    mul-block-at
-    array-read-block-at
-    cast-block-at
-    block-at-requires
+    page-on-requires
     check-page-marks-requires
     returns
     add-i

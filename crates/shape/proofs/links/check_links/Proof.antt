@@ -1,8 +1,9 @@
 use mathlib.Core.Path.{sym, ap, _∙_}
-use Prim.Native.Nat.{_+_, _-_}
+use Prim.Native.Nat.{_+_, _-_, _≤_}
 use native.Mathlib.Omega.{arith}
 use borrow.Author.Tests.{not-true, not-false}
 use lib.Dec.{eqb}
+use Rattle.image.specs.Decode.{maxAt}
 use Rattle.chain.specs.WithinLaws.{walked-some}
 use Rattle.reader.specs.KnownLaws.{sized, max-is, max-small}
 use Rattle.shape.proofs.Chaining.{Linking, linking-start, linking-turn, linking-broken, linking-end, trail-few}
@@ -15,6 +16,9 @@ Inv-loop store m max links₀ b₀ links b = Linking store links b
 abbrev μ-loop : tie.MeasureT-loop
 μ-loop store m max links₀ b₀ links b = max + 1 - b
 
+made : (c : tie.In-loop Inv-loop μ-loop) → c .before .loop .b ≤ maxAt (c .before .before .before .args .store .now)
+made c = omega (arith, c .loop-test .taken, max-is (c .before .before .before .pre))
+
 loop-holds : tie.Need-loop-holds Inv-loop μ-loop
 loop-holds c = linking-start (c .before .args .store .now)
 
@@ -22,56 +26,48 @@ walk-bucket-requires : tie.Need-walk-bucket-requires Inv-loop μ-loop
 walk-bucket-requires c κs = (c .before .before .before .pre, c .loop-test .taken)
 
 check-chain-requires : tie.Need-check-chain-requires Inv-loop μ-loop
-check-chain-requires c κs = (c .before .before .before .before .pre, c .walk-bucket .ensures)
+check-chain-requires c κs =
+    let w = c .before .before in
+    (w .before .before .before .before .pre, w .walk-bucket .ensures)
 
 returns : tie.Need-returns Inv-loop μ-loop
 returns c =
     let h = c .before in
-    let l = h .before .before .before in
-    let s = l .before .before in
-    let k = s .pre in
+    let w = h .before .before .before in
+    let l = w .before .before in
+    let s = l .before .before .args .store .now in
     sym
-    (linking-broken (s .args .store .now) (l .loop .links) (l .loop .b) (l .loop .inv) (omega (arith, h .before .before .loop-test .taken, max-is k))
+    (linking-broken s (l .loop .links) (l .loop .b) (l .loop .inv) (made (w .before))
     (sym (h .check-chain .ensures) ∙ not-true (h .check-chain .result) (c .if1 .taken)))
 
 sub-links : tie.Need-sub-links Inv-loop μ-loop
-sub-links c = walked-some (c .before .before .before .walk-bucket .ensures)
+sub-links c = walked-some (c .before .before .before .before .walk-bucket .ensures)
 
 add-links : tie.Need-add-links Inv-loop μ-loop
 add-links c =
-    let e = c .before in
-    let h = e .before in
-    let w = h .before in
+    let w = c .before .before .before .before in
     let l = w .before .before in
     let s = l .before .before in
-    let k = s .pre in
-    let n = trail-few (s .args .store .now) (l .loop .b) (w .walk-bucket .result) (w .walk-bucket .ensures) (sized k) in
-    omega (arith, l .loop .inv .few, l .loop .inv .upto, n, max-small k)
+    let n = trail-few (s .args .store .now) (l .loop .b) (w .walk-bucket .result) (w .walk-bucket .ensures) (sized (s .pre)) in
+    omega (arith, l .loop .inv .few, l .loop .inv .upto, n, max-small (s .pre))
 
 add-b : tie.Need-add-b Inv-loop μ-loop
 add-b c =
-    let e = c .before in
-    let h = e .before in
-    let w = h .before in
-    let l = w .before .before in
-    let s = l .before .before in
-    let k = s .pre in
-    omega (arith, w .before .loop-test .taken, max-is k, max-small k)
+    let i = c .before .before .before .before .before in
+    omega (arith, made i, max-small (i .before .before .before .pre))
 
 loop-less : tie.Need-loop-less Inv-loop μ-loop
-loop-less c = omega (arith, c .before .before .before .before .loop-test .taken)
+loop-less c = omega (arith, c .before .before .before .before .before .loop-test .taken)
 
 loop-again : tie.Need-loop-again Inv-loop μ-loop
 loop-again c =
-    let e = c .before in
-    let h = e .before in
-    let w = h .before in
+    let h = c .before in
+    let w = h .before .before .before in
     let l = w .before .before in
     let s = l .before .before in
-    let k = s .pre in
-    linking-turn (s .args .store .now) (l .loop .links) (l .loop .b) (l .loop .inv)
-    (omega (arith, w .before .loop-test .taken, max-is k)) (w .walk-bucket .result) (w .walk-bucket .ensures) (sized k)
-    (sym (h .check-chain .ensures) ∙ not-false (h .check-chain .result) (e .if1 .left))
+    linking-turn (s .args .store .now) (l .loop .links) (l .loop .b) (l .loop .inv) (made (w .before)) (w .walk-bucket .result)
+    (w .walk-bucket .ensures) (sized (s .pre))
+    (sym (h .check-chain .ensures) ∙ not-false (h .check-chain .result) (c .if1 .left))
 
 count-overflow-requires : tie.Need-count-overflow-requires Inv-loop μ-loop
 count-overflow-requires c κs = c .before .before .before .pre
