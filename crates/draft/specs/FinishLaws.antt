@@ -8,12 +8,13 @@ use lib.ListN.{length, getD}
 use Rattle.lists.specs.Lists.{bind, upFrom}
 use Rattle.lists.specs.Block.{blocks, block}
 use Rattle.store.specs.declared.Change.{Change}
-use Rattle.store.specs.Store.{sealed, seals}
+use Rattle.store.specs.Store.{covered, sealed, seals}
+use Rattle.store.specs.CheckLaws.{sealed-body}
 use Rattle.store.specs.ChangeLaws.{length-seals, block-seals, commits-ext}
 use Rattle.store.specs.Finish.{finished, resealed, Sealed}
 use Rattle.store.specs.FinishLaws.{bind-run, length-resealed, block-resealed}
 use Rattle.model.specs.Index.{Index}
-use Rattle.image.specs.Layout.{encodeBlock, encode}
+use Rattle.image.specs.Layout.{encodeBlock, sealedBlock, encode}
 use Rattle.draft.specs.Draft.{Draft}
 use Rattle.draft.specs.DraftLaws.{length-draft, block-image, block-rest}
 
@@ -38,10 +39,11 @@ finished-draft {s} {c} {images} {d} g sound =
     ∙ ap sealed (block-rest g k h (λ w. free (w .0) (w .1) (w .2)))
     ∙ sound k h))
 
--- a draft whose blocks are an index's, but for the checks
+-- a draft whose bodies are an index's
 pub resealed-encode : (d : List ℕ) (y : Index) → blocks d ≡ y .size
-    → ((k : ℕ) → k < y .size → sealed (block d k) ≡ encodeBlock y k) → resealed d ≡ encode y
-unfolding resealed encode
+    → ((k : ℕ) → k < y .size → covered (block d k) ≡ encodeBlock y k) → resealed d ≡ encode y
+unfolding resealed encode sealedBlock
 resealed-encode d y e h =
     ap (λ (n : ℕ). bind (upFrom 0 n) (λ k. sealed (block d k))) e
-    ∙ bind-run (λ k. sealed (block d k)) (encodeBlock y) 0 (y .size) (λ k l u. h k (omega arith))
+    ∙ bind-run (λ k. sealed (block d k)) (sealedBlock y) 0 (y .size)
+    (λ k l u. sealed-body (block d k) (encodeBlock y k) (h k (omega arith)))

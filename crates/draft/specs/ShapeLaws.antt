@@ -1,21 +1,19 @@
--- A block made of its front, its trailer and any check: what edits make of it, and what it is when it is sealed.
+-- A block made of its front, its trailer and any check: what edits make of it, and what its body is.
 use mathlib.Core.Path.{_≡_, refl, sym, ap, _∙_}
-use mathlib.Core.List.{List, [], _∷_, _++_, append-nil, append-assoc}
+use mathlib.Core.List.{List, [], _∷_, _++_, append-assoc}
 use Prim.Native.Nat.{ℕ, suc, _+_, _≤_, _<_}
 use native.Mathlib.Nat.{zero-add, suc-add}
 use native.Mathlib.Omega.{arith}
 use lib.ListN.{length, set, replicate, length-append, length-replicate}
-use lib.Seq.{sets}
+use lib.Seq.{sets, take-at}
 use Rattle.endian.specs.Endian.{le16, le32}
 use Rattle.page.specs.declared.Entry.{Entry}
 use Rattle.page.specs.Entries.{encodePage}
-use Rattle.page.specs.PageLaws.{length-encodePage, number-page}
+use Rattle.page.specs.PageLaws.{number-page}
 use Rattle.page.specs.Gap.{Room, Held}
-use Rattle.store.specs.Store.{trailer, sealed}
-use Rattle.store.specs.CheckLaws.{sealed-append}
+use Rattle.store.specs.Store.{trailer, covered}
 use Rattle.store.specs.TrailerLaws.{length-trailer}
 use Rattle.image.specs.Layout.{paged, blank}
-use Rattle.image.specs.PageOkLaws.{encodePage-append}
 
 sets-cons : (x : ℕ) (l : List ℕ) (n : ℕ) (vs : List ℕ) → sets (x ∷ l) (suc n) vs ≡ x ∷ sets l n vs
 sets-cons x l n [] = refl
@@ -29,20 +27,21 @@ sets-after (x ∷ a) l i vs =
     ∙ sets-cons x (a ++ l) (length a + i) vs
     ∙ ap (λ (r : List ℕ). x ∷ r) (sets-after a l i vs)
 
-sealed-any : (a x : List ℕ) → length a ≡ 508 → sealed (a ++ x) ≡ sealed a
-sealed-any a x h = sealed-append a x h ∙ sym (sealed-append a [] h) ∙ ap sealed (append-nil a)
+covered-any : (a x : List ℕ) → length a ≡ 508 → covered (a ++ x) ≡ a
+unfolding covered
+covered-any a x h = take-at a x 508 h
 
-pub sealed-blank : (x : List ℕ) → sealed (replicate 508 0 ++ x) ≡ blank
+pub covered-blank : (x : List ℕ) → covered (replicate 508 0 ++ x) ≡ blank
 unfolding blank
-sealed-blank x = sealed-any (replicate 508 0) x (length-replicate {A = ℕ} 508 0)
+covered-blank x = covered-any (replicate 508 0) x (length-replicate {A = ℕ} 508 0)
 
 module _ (front x : List ℕ) (whole : length front ≡ 492) (prev next bucket flags : ℕ) where
-  pub sealed-paged : sealed (front ++ (trailer prev next bucket flags ++ x)) ≡ paged front prev next bucket flags
+  pub covered-paged : covered (front ++ (trailer prev next bucket flags ++ x)) ≡ paged front prev next bucket flags
   unfolding paged
-  sealed-paged =
+  covered-paged =
       let t = trailer prev next bucket flags in
-      ap sealed (sym (append-assoc front t x))
-      ∙ sealed-any (front ++ t) x (length-append front t ∙ omega (arith, length-trailer prev next bucket flags))
+      ap covered (sym (append-assoc front t x))
+      ∙ covered-any (front ++ t) x (length-append front t ∙ omega (arith, length-trailer prev next bucket flags))
 
   -- a run of stores in the trailer
   trailer-at : (i : ℕ) (vs : List ℕ) → sets (front ++ (trailer prev next bucket flags ++ x)) (492 + i) vs
@@ -68,12 +67,6 @@ module _ (front x : List ℕ) (whole : length front ≡ 492) (prev next bucket f
   sets-flags v = trailer-at 12 (le16 v)
 
 -- ---- pages
-
-pub sealed-page : (es : List Entry) (prev next bucket flags : ℕ) (x : List ℕ) → length es ≤ 40
-    → sealed (encodePage es (trailer prev next bucket flags ++ x)) ≡ paged (encodePage es []) prev next bucket flags
-sealed-page es prev next bucket flags x h =
-    ap sealed (sym (encodePage-append es (trailer prev next bucket flags ++ x)))
-    ∙ sealed-paged (encodePage es []) x (length-encodePage es [] h) prev next bucket flags
 
 module _ (l : List ℕ) (es : List Entry) (tail : List ℕ) (full : length l ≡ 512) (page : l ≡ encodePage es tail) where
   pub room-page : (k : ℕ) → length es < 40 → k ≤ length es → Room l k

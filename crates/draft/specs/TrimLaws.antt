@@ -78,12 +78,12 @@ module _ (s d : List ℕ) (whole : length s ≡ 512 * blocks s) (same : length d
   unfolding trimmed
   block-trimmed k h = block-images (trimmedBlock s d) (blocks s) full k h
 
-  pub sealed-trimmed : (k : ℕ) → k < blocks s → sealed (block (trimmed s d) k) ≡ sealed (block d k)
-  sealed-trimmed k h = ap sealed (block-trimmed k h) ∙ go (alike (covered (block s k)) (covered (block d k))) refl
+  pub covered-trimmed : (k : ℕ) → k < blocks s → covered (block (trimmed s d) k) ≡ covered (block d k)
+  covered-trimmed k h = ap covered (block-trimmed k h) ∙ go (alike (covered (block s k)) (covered (block d k))) refl
     where
       go : (t : Bool) → alike (covered (block s k)) (covered (block d k)) ≡ t
-          → sealed (cond t (block s k) (block d k)) ≡ sealed (block d k)
-      go true e = sealed-cong (block s k) (block d k) (alike-eq _ _ e)
+          → covered (cond t (block s k) (block d k)) ≡ covered (block d k)
+      go true e = alike-eq _ _ e
       go false e = refl
 
   pub resealed-trimmed : resealed (trimmed s d) ≡ resealed d
@@ -92,7 +92,7 @@ module _ (s d : List ℕ) (whole : length s ≡ 512 * blocks s) (same : length d
       let e : length (trimmed s d) / 512 ≡ length d / 512 = omega (arith, length-trimmed) in
       ap (λ (n : ℕ). bind (upFrom 0 n) (λ k. sealed (block (trimmed s d) k))) e
       ∙ bind-run (λ k. sealed (block (trimmed s d) k)) (λ k. sealed (block d k)) 0 (length d / 512)
-      (λ k l h. sealed-trimmed k (omega arith))
+      (λ k l h. sealed-cong (block (trimmed s d) k) (block d k) (covered-trimmed k (omega arith)))
 
 -- ---- the change that makes it
 

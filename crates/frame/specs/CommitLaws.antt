@@ -8,11 +8,11 @@ use native.Mathlib.Omega.{arith}
 use lib.ListN.{length, getD}
 use Rattle.lists.specs.Lists.{Each}
 use Rattle.lists.specs.Block.{block}
-use Rattle.store.specs.Store.{commits, Fits}
+use Rattle.store.specs.Store.{sealed, commits, Fits}
 use Rattle.store.specs.ChangeLaws.{commits-ext}
 use Rattle.model.specs.Index.{Index}
 use Rattle.model.specs.WellFormed.{Laid}
-use Rattle.image.specs.Layout.{encodeBlock, encode}
+use Rattle.image.specs.Layout.{encodeBlock, sealedBlock, encode}
 use Rattle.frame.specs.Frame.{Apart}
 use Rattle.image.specs.EncodeLaws.{length-encode, block-encode}
 
@@ -36,13 +36,15 @@ frame-rest x y ks Named frame listed k no-name =
 
 pub frame-commits : (x y : Index) → Laid x → Laid y → y .size ≡ x .size → (numbers images : List ℕ) (n : ℕ)
     → Fits (encode x) numbers n → length images ≡ 4096
-    → ((j : ℕ) → j < n → block images j ≡ encodeBlock y (getD numbers j 0))
+    → ((j : ℕ) → j < n → block images j ≡ sealedBlock y (getD numbers j 0))
     → ((k : ℕ) → ((j : ℕ) → j < n → getD numbers j 0 ≢ k) → encodeBlock y k ≡ encodeBlock x k)
     → commits (encode x) numbers images n ≡ encode y
+unfolding sealedBlock
 frame-commits x y l m same numbers images n fits eight named rest =
     sym
     (commits-ext (encode x) numbers images n fits eight (x .size) (encode y) (length-encode x l)
     (length-encode y m ∙ ap (λ (k : ℕ). 512 * k) same)
     (λ j h. block-encode y m (getD numbers j 0) (omega (arith, fits .inside j h, length-encode x l, same))
     ∙ sym (named j h))
-    (λ k h none. block-encode y m k (omega (arith, h, same)) ∙ rest k none ∙ sym (block-encode x l k h)))
+    (λ k h none.
+    block-encode y m k (omega (arith, h, same)) ∙ ap sealed (rest k none) ∙ sym (block-encode x l k h)))

@@ -6,15 +6,13 @@ use mathlib.Core.Option.{Option·getD}
 use Prim.Native.Nat.{ℕ, _<_}
 use native.Mathlib.Omega.{arith}
 use lib.Dec.{eqb}
-use lib.ListN.{getD}
+use lib.ListN.{getD, drop}
 use borrow.Author.Tests.{eq-eqb}
 use Rattle.lists.specs.Lists.{b2n, find, upFrom}
 use Rattle.lists.specs.ListsLaws.{and-both}
 use Rattle.lists.specs.RunLaws.{all-put}
 use Rattle.lists.specs.Bytes.{part, allZero}
 use Rattle.lists.specs.Block.{block}
-use Rattle.endian.specs.Endian.{le32}
-use Rattle.crc32c.specs.Crc.{crcOf}
 use Rattle.address.specs.Address.{point, bitBlock}
 use Rattle.address.specs.Role.{Role, bitPage}
 use Rattle.address.specs.BlockLaws.{point-pos}
@@ -50,17 +48,16 @@ module _ (x : Index) (w : WF x) where
   e = encode x
 
   tail : List ℕ
-  tail =
-      let t = trailer noLink noLink noLink 4 in
-      t ++ le32 (crcOf (mapFront (mapBit x) ++ t))
+  tail = trailer noLink noLink noLink 4 ++ drop 508 (block e (bitBlock sp s 0))
 
   map-encode : mapAt e ≡ mapFront (mapBit x) ++ tail
   unfolding image tail
   map-encode =
       let one : 0 < topBit x = top-pos sp s (x .size) (l .spares) (point-pos (x .maxBucket)) in
       ap₂ (λ (q : List ℕ) (n : ℕ). block e (bitBlock q n 0)) (spares-encode x w) (point-encode x w)
-      ∙ image-at x w (bitBlock sp s 0) (bitPage 0) (bit-inside x l 0 one) (role-of-bit x w 0 one)
       ∙ paged-parts (mapFront (mapBit x)) (length-mapFront (mapBit x)) noLink noLink noLink 4
+      (block e (bitBlock sp s 0))
+      (image-at x w (bitBlock sp s 0) (bitPage 0) (bit-inside x l 0 one) (role-of-bit x w 0 one))
 
   bit-encode : (n : ℕ) → n < 2048 → bitAt e n ≡ mapBit x n
   bit-encode n h = ap (λ (t : List ℕ). bitOf t n) map-encode ∙ bitOf-mapFront (mapBit x) (mapBit-lt x) tail n h

@@ -17,7 +17,7 @@ use Rattle.address.specs.Role.{Role, meta, bucketPage, bitPage, unmade, roleOf,
 use Rattle.address.specs.RoleLaws.{role-is}
 use Rattle.address.specs.BlockLaws.{point-pos}
 use Rattle.address.specs.MaskLaws.{split-lt}
-use Rattle.store.specs.Store.{prevAt, nextAt, bucketAt, flagsAt, idAt}
+use Rattle.store.specs.Store.{prevAt, nextAt, bucketAt, flagsAt, idAt, covered}
 use Rattle.model.specs.Index.{Job, idle, copying, clearing, Index, topBit}
 use Rattle.model.specs.WellFormed.{uses, Laid, WF}
 use Rattle.image.specs.Layout.{
@@ -58,23 +58,19 @@ use Rattle.image.specs.EncodeDecodeLaws.{newFlags-encode, oldFlags-encod
 
 -- ---- the tests of one block
 
-unlinked-paged : (front : List ℕ) (flags : ℕ) → length front ≡ 492 → flags < 2 ^ 16
-    → unlinked flags (paged front noLink noLink noLink flags) ≡ true
-unlinked-paged front flags h f =
-    let l = paged front noLink noLink noLink flags in
+unlinked-paged : (l front : List ℕ) (flags : ℕ) → length front ≡ 492 → flags < 2 ^ 16
+    → covered l ≡ paged front noLink noLink noLink flags → unlinked flags l ≡ true
+unlinked-paged l front flags h f q =
     let none : noLink < 2 ^ 32 = omega arith in
-    and-both (eqb (flagsAt l) flags) _ (eq-eqb _ _ (flags-paged front h noLink noLink noLink flags f))
-    (and-both (eqb (idAt l) 0xFF80) _ (eq-eqb _ _ (id-paged front h noLink noLink noLink flags))
-    (and-both (eqb (prevAt l) noLink) _ (eq-eqb _ _ (prev-paged front h noLink noLink noLink flags none))
+    and-both (eqb (flagsAt l) flags) _ (eq-eqb _ _ (flags-paged front h noLink noLink noLink flags l q f))
+    (and-both (eqb (idAt l) 0xFF80) _ (eq-eqb _ _ (id-paged front h noLink noLink noLink flags l q))
+    (and-both (eqb (prevAt l) noLink) _ (eq-eqb _ _ (prev-paged front h noLink noLink noLink flags l q none))
     (and-both (eqb (nextAt l) noLink) (eqb (bucketAt l) noLink)
-    (eq-eqb _ _ (next-paged front h noLink noLink noLink flags none))
-    (eq-eqb _ _ (bucket-paged front h noLink noLink noLink flags none)))))
+    (eq-eqb _ _ (next-paged front h noLink noLink noLink flags l q none))
+    (eq-eqb _ _ (bucket-paged front h noLink noLink noLink flags l q none)))))
 
-blank-unused : (l : List ℕ) → l ≡ blank → unused l ≡ true
-blank-unused l q = ap unused q ∙ unused-blank
-
-pub blank-flags : (l : List ℕ) → l ≡ blank → eqb (flagsAt l) 1 ≡ false
-blank-flags l q = ap (λ (k : List ℕ). eqb (flagsAt k) 1) q ∙ ap (λ (k : ℕ). eqb k 1) flags-blank
+pub blank-flags : (l : List ℕ) → covered l ≡ blank → eqb (flagsAt l) 1 ≡ false
+blank-flags l q = ap (λ (k : ℕ). eqb k 1) (flags-blank l q)
 
 -- ---- flags of the job
 
@@ -143,7 +139,7 @@ module _ (x : Index) (w : WF x) where
   pub data BitBlock (k n : ℕ) : Type 0 where
     inChain : (g : LinkedPage) → g .bit ≡ n → uses n x ≡ 1 → LinkedIs x w g
         → block (encode x) k ≡ block (encode x) (bitBlock (x .spares) (point (x .maxBucket)) (g .bit)) → BitBlock k n
-    inNone : uses n x ≡ 0 → block (encode x) k ≡ blank → BitBlock k n
+    inNone : uses n x ≡ 0 → covered (block (encode x) k) ≡ blank → BitBlock k n
 
   pub bit-block : (k n : ℕ) → k < x .size
       → (suc n < topBit x) × (bitBlock (x .spares) (point (x .maxBucket)) (suc n) ≡ k)
@@ -167,8 +163,7 @@ module _ (x : Index) (w : WF x) where
       → fits (x .maxBucket) r (block e k) ≡ true
   unfolding fits image
   fits-encode k h meta i q =
-      ap (unlinked 8) (image-at x w k meta h q)
-      ∙ unlinked-paged (metaFront (metaOf x)) 8 (length-meta x l) (omega arith)
+      unlinked-paged (block e k) (metaFront (metaOf x)) 8 (length-meta x l) (omega arith) (image-at x w k meta h q)
   fits-encode k h (bucketPage b) i q =
       cond-put (leb b (x .maxBucket)) _ _
       (λ c.
@@ -177,11 +172,11 @@ module _ (x : Index) (w : WF x) where
       and-both _ _ (ap (bucketFlagsOk (x .maxBucket) b) (ap flagsAt z ∙ p .flags) ∙ flags-ok x b)
       (and-both _ _ (eq-eqb _ _ (ap idAt z ∙ p .id)) (eq-eqb _ _ (ap bucketAt z ∙ p .bucket))))
       (λ c.
-      blank-unused (block e k)
+      unused-blank (block e k)
       (image-at x w k (bucketPage b) h q ∙ ap (λ (d : Bool). cond d (bucketImage x b) blank) c))
   fits-encode k h (bitPage zero) i q =
-      ap (unlinked 4) (image-at x w k (bitPage zero) h q)
-      ∙ unlinked-paged (mapFront (mapBit x)) 4 (length-mapFront (mapBit x)) (omega arith)
+      unlinked-paged (block e k) (mapFront (mapBit x)) 4 (length-mapFront (mapBit x)) (omega arith)
+      (image-at x w k (bitPage zero) h q)
   fits-encode k h (bitPage (suc n)) i q = go (bit-block k n h i q)
     where
       go : BitBlock k (suc n) → fits (x .maxBucket) (bitPage (suc n)) (block e k) ≡ true
@@ -190,8 +185,8 @@ module _ (x : Index) (w : WF x) where
           (and-both _ _ (eq-eqb _ _ (ap idAt z ∙ p .page .id))
           (le-leb (bucketAt (block e k)) (x .maxBucket)
           (omega (arith, ap bucketAt z ∙ p .page .bucket, p .ok .bucket))))
-      go (inNone u z) = rw (blank-flags (block e k) z) (blank-unused (block e k) z)
-  fits-encode k h unmade i q = blank-unused (block e k) (image-at x w k unmade h q)
+      go (inNone u z) = rw (blank-flags (block e k) z) (unused-blank (block e k) z)
+  fits-encode k h unmade i q = unused-blank (block e k) (image-at x w k unmade h q)
 
   pub rule3-encode : rule3 (encode x) ≡ true
   unfolding rule3

@@ -1,5 +1,5 @@
--- The bytes of a laid-out index, block by block: each has 512 bytes, its check is right, and it is the image of the
--- block's role.
+-- The bytes of a laid-out index, block by block: each has 512 bytes, its check is right, and its body is the image of
+-- the block's role.
 use mathlib.Core.Path.{_≡_, refl, ap, _∙_}
 use mathlib.Core.Bool.{Bool, true, false, cond, not}
 use mathlib.Core.List.{List, [], _∷_, map}
@@ -22,7 +22,8 @@ use Rattle.address.specs.BlockLaws.{point-pos, bit-made, bucket-made}
 use Rattle.page.specs.declared.Entry.{Entry}
 use Rattle.page.specs.Entries.{encodePage}
 use Rattle.page.specs.PageLaws.{Bytes-encodePage}
-use Rattle.store.specs.Store.{checked}
+use Rattle.store.specs.Store.{covered, checks, checked}
+use Rattle.store.specs.CheckLaws.{covered-whole, length-sealed, covered-sealed, checks-sealed, Bytes-sealed}
 use Rattle.model.specs.Index.{Page, Chain, noChain, Index, chain, topBit}
 use Rattle.model.specs.Pages.{bitsOf, isFree}
 use Rattle.model.specs.WellFormed.{PageOk, MoreOk, ChainOk, Laid}
@@ -44,16 +45,15 @@ use Rattle.image.specs.Layout.{
   overflowImage,
   image,
   encodeBlock,
+  sealedBlock,
   encode,
 }
 use Rattle.store.specs.Flags.{noLink}
 use Rattle.image.specs.Rules.{lengthOk}
 use Rattle.image.specs.PagedLaws.{
   length-paged,
-  checked-paged,
   Bytes-paged,
   length-blank,
-  checked-blank,
   Bytes-blank,
 }
 use Rattle.image.specs.MetaLaws.{Bytes-metaFront}
@@ -62,21 +62,16 @@ use Rattle.image.specs.PageOkLaws.{length-pageFront}
 use Rattle.image.specs.LinkedLaws.{hasBit}
 use Rattle.image.specs.BoundLaws.{max-under, length-meta}
 
--- ---- a block with its length and its check
+-- ---- a body
 
 pub record Whole (l : List ℕ) : Type 0 where
-  pub full : length l ≡ 512
-  pub check : (s : List ℕ) (k : ℕ) → block s k ≡ l → checked s k ≡ true
+  pub full : length l ≡ 508
   pub bytes : Bytes l
 
 paged-whole : (front : List ℕ) (prev next bucket flags : ℕ) → length front ≡ 492 → Bytes front
     → Whole (paged front prev next bucket flags)
 paged-whole front prev next bucket flags h b =
-    record {
-      full = length-paged front h prev next bucket flags;
-      check = checked-paged front h prev next bucket flags;
-      bytes = Bytes-paged front h prev next bucket flags b;
-    }
+    record { full = length-paged front h prev next bucket flags; bytes = Bytes-paged front h prev next bucket flags b }
 
 page-whole : (es : List Entry) (prev next bucket flags : ℕ) → length es ≤ 40
     → Whole (paged (encodePage es []) prev next bucket flags)
@@ -85,7 +80,7 @@ page-whole es prev next bucket flags h =
     (Bytes-encodePage es [] (λ i. omega arith))
 
 blank-whole : Whole blank
-blank-whole = record { full = length-blank; check = checked-blank; bytes = Bytes-blank }
+blank-whole = record { full = length-blank; bytes = Bytes-blank }
 
 pub mapBit-lt : (x : Index) (n : ℕ) → mapBit x n < 2
 mapBit-lt x n = omega (arith, b2n-le (not (isFree x n)))
@@ -194,31 +189,47 @@ module _ (x : Index) (l : Laid x) where
   unfolding encodeBlock
   block-whole k = image-whole (roleOf sp s k)
 
+  -- a block with its check
+  full : (k : ℕ) → length (sealedBlock x k) ≡ 512
+  unfolding sealedBlock
+  full k = length-sealed (encodeBlock x k) (omega (arith, block-whole k .full))
+
   pub length-encode : length (encode x) ≡ 512 * x .size
   unfolding encode
-  length-encode = length-bind (encodeBlock x) (λ k. block-whole k .full) 0 (x .size)
+  length-encode = length-bind (sealedBlock x) full 0 (x .size)
 
   pub blocks-encode : blocks (encode x) ≡ x .size
   unfolding blocks
   blocks-encode = omega (arith, length-encode)
 
-  pub block-encode : (k : ℕ) → k < x .size → block (encode x) k ≡ encodeBlock x k
+  pub block-encode : (k : ℕ) → k < x .size → block (encode x) k ≡ sealedBlock x k
   unfolding encode
   block-encode k h =
       let z : 0 + k ≡ k = omega arith in
-      block-bind (encodeBlock x) (λ k. block-whole k .full) 0 (x .size) k h ∙ ap (encodeBlock x) z
+      block-bind (sealedBlock x) full 0 (x .size) k h ∙ ap (sealedBlock x) z
+
+  pub covered-encode : (k : ℕ) → k < x .size → covered (block (encode x) k) ≡ encodeBlock x k
+  unfolding sealedBlock
+  covered-encode k h =
+      let b = block-whole k .full in
+      ap covered (block-encode k h)
+      ∙ covered-sealed (encodeBlock x k) (omega arith)
+      ∙ covered-whole (encodeBlock x k) b
 
   pub checked-encode : (k : ℕ) → k < x .size → checked (encode x) k ≡ true
-  checked-encode k h = block-whole k .check (encode x) k (block-encode k h)
+  unfolding checked sealedBlock
+  checked-encode k h =
+      ap checks (block-encode k h) ∙ checks-sealed (encodeBlock x k) (omega (arith, block-whole k .full))
 
   pub Bytes-encode : Bytes (encode x)
   unfolding encode
   Bytes-encode = go 0 (x .size)
     where
-      go : (i n : ℕ) → Bytes (bind (upFrom i n) (encodeBlock x))
+      go : (i n : ℕ) → Bytes (bind (upFrom i n) (sealedBlock x))
       go i zero = λ j. omega arith
       go i (suc n) =
-          Bytes-append (encodeBlock x i) (bind (upFrom (suc i) n) (encodeBlock x)) (block-whole i .bytes)
+          Bytes-append (sealedBlock x i) (bind (upFrom (suc i) n) (sealedBlock x))
+          (unfold sealedBlock in Bytes-sealed (encodeBlock x i) (block-whole i .bytes))
           (go (suc i) n)
 
   pub lengthOk-encode : lengthOk (encode x) ≡ true

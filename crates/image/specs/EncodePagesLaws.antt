@@ -21,7 +21,7 @@ use Rattle.page.specs.Entries.{encodePage, entriesOf}
 use Rattle.page.specs.PageLaws.{number-encodePage, entriesOf-encodePage}
 use Rattle.page.specs.Rule.{pageOk}
 use Rattle.page.specs.RuleLaws.{pageOk-encodePage}
-use Rattle.store.specs.Store.{prevAt, nextAt, bucketAt, flagsAt, idAt}
+use Rattle.store.specs.Store.{prevAt, nextAt, bucketAt, flagsAt, idAt, covered}
 use Rattle.model.specs.Index.{Page, Index, chain, topBit}
 use Rattle.model.specs.WellFormed.{PageOk, Laid, WF}
 use Rattle.model.specs.BoundLaws.{laid-room, laid-size, bits-le}
@@ -50,7 +50,7 @@ use Rattle.image.specs.MetaLaws.{readMeta-metaFront}
 use Rattle.image.specs.PageOkLaws.{page-allowed, encodePage-append, length-pageFront}
 use Rattle.image.specs.LinkedLaws.{hasBit, linked-uses, Found, found-each, each-chain}
 use Rattle.image.specs.BoundLaws.{max-under, max-small, length-meta, meta-fits, flags-small, last-le, bits-part}
-use Rattle.image.specs.EncodeLaws.{bit-inside, bucket-inside, LinkedOk, linked-ok, block-encode}
+use Rattle.image.specs.EncodeLaws.{bit-inside, bucket-inside, LinkedOk, linked-ok, covered-encode}
 
 -- ---- what a page of entries holds
 
@@ -65,19 +65,19 @@ pub record PageIs (l : List ℕ) (es : List Entry) (p n b f : ℕ) : Type 0 wher
   pub rule : pageOk l ≡ true
 
 page-is : (l : List ℕ) (es : List Entry) (prev next bucket flags : ℕ)
-    → l ≡ paged (encodePage es []) prev next bucket flags
+    → covered l ≡ paged (encodePage es []) prev next bucket flags
     → PageOk es → prev < 2 ^ 32 → next < 2 ^ 32 → bucket < 2 ^ 32 → flags < 2 ^ 16 → PageIs l es prev next bucket flags
 page-is l es prev next bucket flags q o hp hn hb hf =
     let front = encodePage es [] in
     let len = length-pageFront es (o .full) in
     let a = page-allowed es o in
-    let parts = q ∙ paged-parts front len prev next bucket flags ∙ encodePage-append es _ in
+    let parts = paged-parts front len prev next bucket flags l q ∙ encodePage-append es _ in
     record {
-      prev = ap prevAt q ∙ prev-paged front len prev next bucket flags hp;
-      next = ap nextAt q ∙ next-paged front len prev next bucket flags hn;
-      bucket = ap bucketAt q ∙ bucket-paged front len prev next bucket flags hb;
-      flags = ap flagsAt q ∙ flags-paged front len prev next bucket flags hf;
-      id = ap idAt q ∙ id-paged front len prev next bucket flags;
+      prev = prev-paged front len prev next bucket flags l q hp;
+      next = next-paged front len prev next bucket flags l q hn;
+      bucket = bucket-paged front len prev next bucket flags l q hb;
+      flags = flags-paged front len prev next bucket flags l q hf;
+      id = id-paged front len prev next bucket flags l q;
       number = ap (λ (k : List ℕ). u16At k 0) parts ∙ number-encodePage es _ (omega (arith, o .full));
       entries = ap entriesOf parts ∙ entriesOf-encodePage es _ (omega (arith, o .full)) (a .fit);
       rule = ap pageOk parts ∙ pageOk-encodePage es _ a;
@@ -98,15 +98,15 @@ module _ (x : Index) (w : WF x) where
 
   -- ---- the meta block
 
-  pub meta-block : block (encode x) 0 ≡ paged (metaFront (metaOf x)) noLink noLink noLink 8
+  pub meta-block : covered (block (encode x) 0) ≡ paged (metaFront (metaOf x)) noLink noLink noLink 8
   unfolding encodeBlock image
   meta-block =
-      block-encode x l 0 (omega (arith, laid-size x l))
+      covered-encode x l 0 (omega (arith, laid-size x l))
       ∙ ap (image x) (role-meta sp s (x .size) (l .spares) (point-pos (x .maxBucket)))
 
   pub meta-encode : metaAt (encode x) ≡ metaOf x
   meta-encode =
-      ap readMeta (meta-block ∙ paged-parts (metaFront (metaOf x)) (length-meta x l) noLink noLink noLink 8)
+      ap readMeta (paged-parts (metaFront (metaOf x)) (length-meta x l) noLink noLink noLink 8 (block e 0) meta-block)
       ∙ readMeta-metaFront (metaOf x) _ (meta-fits x w)
 
   pub max-encode : maxAt (encode x) ≡ x .maxBucket
@@ -131,15 +131,15 @@ module _ (x : Index) (w : WF x) where
   -- ---- the image of a role
 
   pub image-at : (k : ℕ) (r : Role) → k < x .size → roleOf (x .spares) (point (x .maxBucket)) k ≡ r
-      → block (encode x) k ≡ image x r
+      → covered (block (encode x) k) ≡ image x r
   unfolding encodeBlock
-  image-at k r h q = block-encode x l k h ∙ ap (image x) q
+  image-at k r h q = covered-encode x l k h ∙ ap (image x) q
 
   pub role-of-bit : (n : ℕ) → n < topBit x
       → roleOf (x .spares) (point (x .maxBucket)) (bitBlock (x .spares) (point (x .maxBucket)) n) ≡ bitPage n
   role-of-bit n h = role-bit sp s (x .size) (l .spares) (point-pos (x .maxBucket)) n h
 
-  bucket-encode : (b : ℕ) → b ≤ x .maxBucket → block e (bucketBlock sp b) ≡ bucketImage x b
+  bucket-encode : (b : ℕ) → b ≤ x .maxBucket → covered (block e (bucketBlock sp b)) ≡ bucketImage x b
   unfolding image
   bucket-encode b h =
       image-at (bucketBlock sp b) (bucketPage b) (bucket-inside x l b h)

@@ -68,7 +68,7 @@ module _ (x : Index) (w : WF x) where
   unfolding rule1 metaOf
   rule1-encode =
       ap₂ frontOk (blocks-encode x l)
-      (meta-block x w ∙ paged-parts (metaFront (metaOf x)) (length-meta x l) noLink noLink noLink 8)
+      (paged-parts (metaFront (metaOf x)) (length-meta x l) noLink noLink noLink 8 (block e 0) (meta-block x w))
       ∙ frontOk-metaFront (metaOf x) _ (meta-fits x w)
 
   padded-at : (i : ℕ) → i ≤ s → getD (padded (x .spares)) i 0 ≡ getD (x .spares) i 0

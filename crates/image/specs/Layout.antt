@@ -19,13 +19,15 @@ use Rattle.model.specs.Pages.{isFree, firstFree}
 use Rattle.model.specs.Held.{count}
 use Rattle.image.specs.declared.Meta.{Meta}
 
--- a block of bytes 0..491 and its trailer, with its check
-unfoldable pub paged : List ℕ → (prev next bucket flags : ℕ) → List ℕ
-paged front prev next bucket flags = sealed (front ++ trailer prev next bucket flags)
+-- ---- a block's body, bytes 0..507: the block without its check
 
--- an unused block: "bytes 0..507 zero, with its check"
+-- bytes 0..491 and the trailer
+unfoldable pub paged : List ℕ → (prev next bucket flags : ℕ) → List ℕ
+paged front prev next bucket flags = front ++ trailer prev next bucket flags
+
+-- an unused block: "bytes 0..507 zero"
 unfoldable pub blank : List ℕ
-blank = sealed (replicate 508 0)
+blank = replicate 508 0
 
 -- ---- meta
 
@@ -122,7 +124,7 @@ abbrev pub overflowImage : Option LinkedPage → List ℕ
 overflowImage none = blank
 overflowImage (some g) = paged (encodePage (g .entries) []) (g .prev) (g .next) (g .bucket) overflowFlags
 
--- the block of a role; a bucket's block above max bucket is kept for it, and unused
+-- the body of a role's block; a bucket's block above max bucket is kept for it, and unused
 unfoldable pub image : Index → Role → List ℕ
 image x meta = paged (metaFront (metaOf x)) noLink noLink noLink metaFlags
 image x (bucketPage b) = cond (leb b (x .maxBucket)) (bucketImage x b) blank
@@ -130,8 +132,13 @@ image x (bitPage zero) = paged (mapFront (mapBit x)) noLink noLink noLink bitmap
 image x (bitPage (suc n)) = overflowImage (find (λ g. eqb (suc n) (g .bit)) (linkedPages x))
 image x unmade = blank
 
+-- the body of block k
 unfoldable pub encodeBlock : Index → ℕ → List ℕ
 encodeBlock x k = image x (roleOf (x .spares) (point (x .maxBucket)) k)
 
+-- block k, with its check
+unfoldable pub sealedBlock : Index → ℕ → List ℕ
+sealedBlock x k = sealed (encodeBlock x k)
+
 unfoldable pub encode : Index → List ℕ
-encode x = bind (upFrom 0 (x .size)) (encodeBlock x)
+encode x = bind (upFrom 0 (x .size)) (sealedBlock x)

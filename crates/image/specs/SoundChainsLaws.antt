@@ -17,7 +17,7 @@ use Rattle.address.specs.Address.{bucketBlock, bitBlock}
 use Rattle.address.specs.Role.{Role}
 use Rattle.page.specs.Entries.{encodePage, entriesOf}
 use Rattle.page.specs.Rule.{pageOk}
-use Rattle.store.specs.Store.{prevAt, nextAt, bucketAt}
+use Rattle.store.specs.Store.{prevAt, nextAt, bucketAt, covered}
 use Rattle.model.specs.Index.{noChain, chain}
 use Rattle.image.specs.Layout.{paged, LinkedPage, nextOf, linkedOf, linkedFrom, overflowImage}
 use Rattle.store.specs.Flags.{noLink}
@@ -140,7 +140,7 @@ module _ (s : List ℕ) (g : SoundBytes s) where
   -- ---- each overflow page of a chain is the image of what is read of it
 
   unfoldable pub Shown : LinkedPage → Type 0
-  Shown h = block s (bitBlock (sparesAt s) (pointAt s) (h .bit)) ≡ overflowImage (some h)
+  Shown h = covered (block s (bitBlock (sparesAt s) (pointAt s) (h .bit))) ≡ overflowImage (some h)
 
   shown : (b k : ℕ) (js : List ℕ) → Links b k js → Each PageRead js
       → Each Shown (linkedOf sp t b k (map (readPage s) js))
@@ -152,7 +152,7 @@ module _ (s : List ℕ) (g : SoundBytes s) where
       let e = bit-link b k j (h .0) in
       let front = front-read j (p .0) in
       let next = next-links b j js (h .1) in (
-        ap (block s) e ∙ paged-read s j (g .bytes) (w .place) (w .check) (o .id)
+        ap (λ (k : ℕ). covered (block s k)) e ∙ paged-read s j (g .bytes) (w .place) (o .id)
             ∙ (λ i. paged (front i) (h .0 .back i) (next i) (h .0 .bucket i) (o .flags i)),
         subst (λ (q : ℕ). Each Shown (linkedOf sp t b q (map (readPage s) js))) (sym e) (shown b j js (h .1) (p .1)),
       )

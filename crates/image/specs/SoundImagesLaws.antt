@@ -15,7 +15,8 @@ use Rattle.lists.specs.Block.{blocks, block}
 use Rattle.address.specs.Address.{lastSplit, point, bitBlock}
 use Rattle.address.specs.Role.{Role, meta, bucketPage, bitPage, unmade, RoleIs}
 use Rattle.page.specs.Entries.{encodePage}
-use Rattle.store.specs.Store.{prevAt, nextAt, bucketAt, flagsAt, idAt}
+use Rattle.store.specs.Store.{prevAt, nextAt, bucketAt, flagsAt, idAt, covered}
+use Rattle.store.specs.CheckLaws.{sealed-body, block-checked}
 use Rattle.model.specs.Index.{Chain, Index, chain}
 use Rattle.model.specs.Held.{count}
 use Rattle.model.specs.WellFormed.{uses}
@@ -34,6 +35,7 @@ use Rattle.image.specs.Layout.{
   overflowImage,
   image,
   encodeBlock,
+  sealedBlock,
 }
 use Rattle.store.specs.Flags.{noLink}
 use Rattle.image.specs.Decode.{readMeta, metaAt, maxAt, pointAt, sparesAt, roleAt, blockOf, trail, decode}
@@ -95,12 +97,12 @@ module _ (s : List ℕ) (g : SoundBytes s) where
 
   -- ---- blocks by the tests of rule 3
 
-  blank-at : (k : ℕ) → BlockOk s g k → unused (block s k) ≡ true → block s k ≡ blank
-  blank-at k w h = blank-read s k (g .bytes) (w .place) (w .check) h
+  blank-at : (k : ℕ) → BlockOk s g k → unused (block s k) ≡ true → covered (block s k) ≡ blank
+  blank-at k w h = blank-read s k (g .bytes) (w .place) h
 
   unlinked-at : (k flags : ℕ) (front : List ℕ) → BlockOk s g k → take 492 (block s k) ≡ front
       → unlinked flags (block s k) ≡ true
-      → block s k ≡ paged front noLink noLink noLink flags
+      → covered (block s k) ≡ paged front noLink noLink noLink flags
   unlinked-at k flags front w e h =
       let l : List ℕ = block s k in
       let h₁ = and-right (eqb (flagsAt l) flags) _ h in
@@ -111,9 +113,9 @@ module _ (s : List ℕ) (g : SoundBytes s) where
       let p : prevAt l ≡ noLink = eqb-true _ _ (and-left (eqb (prevAt l) noLink) _ h₂) in
       let n : nextAt l ≡ noLink = eqb-true _ _ (and-left (eqb (nextAt l) noLink) _ h₃) in
       let b : bucketAt l ≡ noLink = eqb-true _ _ (and-right (eqb (nextAt l) noLink) _ h₃) in
-      paged-read s k (g .bytes) (w .place) (w .check) id ∙ (λ i. paged (e i) (p i) (n i) (b i) (f i))
+      paged-read s k (g .bytes) (w .place) id ∙ (λ i. paged (e i) (p i) (n i) (b i) (f i))
 
-  bucket-at : (b : ℕ) → b ≤ maxAt s → block s (blockOf s b) ≡ bucketImage x b
+  bucket-at : (b : ℕ) → b ≤ maxAt s → covered (block s (blockOf s b)) ≡ bucketImage x b
   unfolding bucketImage rule8 decode
   bucket-at b h =
       let c = chain-read s g b h in
@@ -128,29 +130,29 @@ module _ (s : List ℕ) (g : SoundBytes s) where
       next-links s g b (blockOf s b) (trail s b) (c .links) ∙ ap (λ (c : Chain). nextOf sp t (c .more)) (sym ch) in
       let front : take 492 (block s (blockOf s b)) ≡ encodePage (chain x b .first) [] =
       front-read s g (blockOf s b) (c .first) ∙ ap (λ (c : Chain). encodePage (c .first) []) (sym ch) in
-      paged-read s (blockOf s b) (g .bytes) (w .place) (w .check) (o .id)
+      paged-read s (blockOf s b) (g .bytes) (w .place) (o .id)
       ∙ (λ i. paged (front i) (prev i) (next i) (o .bucket i) (o .flags i))
 
   -- a made overflow block, but for the bitmap
   bit-at : (k n : ℕ) → BlockOk s g k → RoleIs sp t k (bitPage (suc n)) → roleAt s k ≡ bitPage (suc n)
-      → block s k ≡ overflowImage (find (hasBit (suc n)) (linkedPages x))
+      → covered (block s k) ≡ overflowImage (find (hasBit (suc n)) (linkedPages x))
   unfolding Shown fits overflowAs decode
   bit-at k n w i q = go (find (hasBit (suc n)) (linkedPages x)) refl
     where
       l : List ℕ
       l = block s k
 
-      free : eqb (flagsAt l) 1 ≡ false → l ≡ blank
+      free : eqb (flagsAt l) 1 ≡ false → covered l ≡ blank
       free e =
           blank-at k w
           (cond-no (eqb (flagsAt l) 1) _ (unused l) e (subst (λ (r : Role). fits (maxAt s) r l ≡ true) q (w .fit)))
 
-      go : (o : Option LinkedPage) → find (hasBit (suc n)) (linkedPages x) ≡ o → l ≡ overflowImage o
+      go : (o : Option LinkedPage) → find (hasBit (suc n)) (linkedPages x) ≡ o → covered l ≡ overflowImage o
       go (some h) e =
           let b : suc n ≡ h .bit = eqb-true _ _ (find-yes (hasBit (suc n)) (linkedPages x) h e .0) in
-          let here : block s (bitBlock sp t (h .bit)) ≡ overflowImage (some h) =
+          let here : covered (block s (bitBlock sp t (h .bit))) ≡ overflowImage (some h) =
           each-find (Shown s g) (hasBit (suc n)) (linkedPages x) h (shown-all s g) e in
-          ap (block s) (sym (i .1) ∙ ap (bitBlock sp t) b) ∙ here
+          ap (λ (j : ℕ). covered (block s j)) (sym (i .1) ∙ ap (bitBlock sp t) b) ∙ here
       go none e =
           let u : uses (suc n) x ≡ 0 = sym (linked-uses x (suc n)) ∙ find-no (hasBit (suc n)) (linkedPages x) e in
           let v : b2n (isOverflow s k) ≡ 0 =
@@ -160,22 +162,30 @@ module _ (s : List ℕ) (g : SoundBytes s) where
 
   -- ---- every block
 
-  image-at : (k : ℕ) → BlockOk s g k → (r : Role) → RoleIs sp t k r → roleAt s k ≡ r → block s k ≡ image x r
+  image-at : (k : ℕ) → BlockOk s g k → (r : Role) → RoleIs sp t k r → roleAt s k ≡ r → covered (block s k) ≡ image x r
   unfolding image fits decode
   image-at k w r i q = go r i q (subst (λ (r : Role). fits (maxAt s) r (block s k) ≡ true) q (w .fit))
     where
-      go : (r : Role) → RoleIs sp t k r → roleAt s k ≡ r → fits (maxAt s) r (block s k) ≡ true → block s k ≡ image x r
+      go : (r : Role) → RoleIs sp t k r → roleAt s k ≡ r → fits (maxAt s) r (block s k) ≡ true
+          → covered (block s k) ≡ image x r
       go meta i q f = unlinked-at k 8 (metaFront (metaOf x)) w (ap (λ (j : ℕ). take 492 (block s j)) i ∙ meta-read) f
       go (bucketPage b) i q f = page (leb b (maxAt s)) refl
         where
-          page : (c : Bool) → leb b (maxAt s) ≡ c → block s k ≡ cond c (bucketImage x b) blank
-          page true e = ap (block s) (sym (i .1)) ∙ bucket-at b (leb-true _ _ e)
+          page : (c : Bool) → leb b (maxAt s) ≡ c → covered (block s k) ≡ cond c (bucketImage x b) blank
+          page true e = ap (λ (j : ℕ). covered (block s j)) (sym (i .1)) ∙ bucket-at b (leb-true _ _ e)
           page false e = blank-at k w (cond-no (leb b (maxAt s)) _ (unused (block s k)) e f)
       go (bitPage zero) i q f =
           unlinked-at k 4 (mapFront (mapBit x)) w (ap (λ (j : ℕ). take 492 (block s j)) (sym (i .1)) ∙ map-read s g) f
       go (bitPage (suc n)) i q f = bit-at k n w i q
       go unmade i q f = blank-at k w f
 
-  pub block-decode : (k : ℕ) → k < blocks s → block s k ≡ encodeBlock (decode s) k
+  covered-decode : (k : ℕ) → k < blocks s → covered (block s k) ≡ encodeBlock (decode s) k
   unfolding encodeBlock decode
-  block-decode k h = image-at k (block-ok s g k h) (roleAt s k) (role-at s g k) refl
+  covered-decode k h = image-at k (block-ok s g k h) (roleAt s k) (role-at s g k) refl
+
+  pub block-decode : (k : ℕ) → k < blocks s → block s k ≡ sealedBlock (decode s) k
+  unfolding sealedBlock decode
+  block-decode k h =
+      let w = block-ok s g k h in
+      block-checked s k (g .bytes) (w .place) (w .check)
+      ∙ sealed-body (block s k) (encodeBlock (decode s) k) (covered-decode k h)

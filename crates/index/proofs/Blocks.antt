@@ -13,6 +13,7 @@ use Rattle.endian.specs.Endian.{le16, le32}
 use Rattle.store.specs.Store.{sealed, copies, seals, commits, Fits}
 use Rattle.store.specs.ChangeLaws.{block-seals}
 use Rattle.store.specs.Finish.{finished}
+use Rattle.store.specs.CheckLaws.{length-sealed}
 use Rattle.store.specs.Flags.{noLink}
 use Rattle.outcomes.specs.Format.{formatMeta, formatBlock}
 use Rattle.image.specs.PagedLaws.{length-paged, length-blank}
@@ -60,10 +61,13 @@ module _ (f : ℕ → List ℕ) (whole : (k : ℕ) → length (f k) ≡ 512) whe
       blocks-ext n s (bind (upFrom 0 n) f) ls (length-bind f whole 0 n)
       (λ k lt. h k lt ∙ ap f (sym (zero-add k)) ∙ sym (block-bind f whole 0 n k lt))
 
-pub length-formatBlock : (n fill k : ℕ) → length (formatBlock n fill k) ≡ 512
+length-formatBlock : (n fill k : ℕ) → length (formatBlock n fill k) ≡ 508
 unfolding formatBlock formatMeta le16 le32
 length-formatBlock n fill zero = length-paged (formatMeta n fill) refl noLink noLink noLink 8
 length-formatBlock n fill (suc zero) = length-paged (replicate 492 0) refl 1 noLink 0 2
 length-formatBlock n fill (suc (suc zero)) = length-paged (replicate 492 0) refl 1 noLink 1 2
 length-formatBlock n fill (suc (suc (suc zero))) = length-paged _ refl noLink noLink noLink 4
 length-formatBlock n fill (suc (suc (suc (suc k)))) = length-blank
+
+pub length-formatted : (n fill k : ℕ) → length (sealed (formatBlock n fill k)) ≡ 512
+length-formatted n fill k = length-sealed (formatBlock n fill k) (omega (arith, length-formatBlock n fill k))

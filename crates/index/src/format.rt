@@ -20,7 +20,7 @@ ghost use lib.ListN.{length, replicate};
 ghost use Rattle.lists.specs.Lists.{bind, upFrom};
 ghost use Rattle.lists.specs.Block.{blocks, setBlock};
 ghost use Rattle.store.specs.Flags.{bucketFlags, bitmapFlags, metaFlags};
-ghost use Rattle.store.specs.Store.{sealed};
+ghost use Rattle.store.specs.Store.{covered, sealed};
 ghost use Rattle.model.specs.Calls.{fillOk};
 ghost use Rattle.image.specs.Layout.{paged};
 ghost use Rattle.store.specs.Flags.{noLink};
@@ -38,7 +38,7 @@ fn check_fill(fill: u32) -> bool
 // The blocks of a new store, without their checks.
 
 fn build_meta(size: u32, fill: u16) -> [u8; 512]
-    ensures { λ r. ⌜ sealed r ≡ paged (formatMeta size fill) noLink noLink noLink metaFlags ⌝ }
+    ensures { λ r. ⌜ covered r ≡ paged (formatMeta size fill) noLink noLink noLink metaFlags ⌝ }
 {
     let mut spares = [0u32; 16];
     spares[1] = 1;
@@ -63,7 +63,7 @@ fn build_meta(size: u32, fill: u16) -> [u8; 512]
 
 // The page of a bucket without entries, from which none has split off.
 fn build_bucket(bucket: u32) -> [u8; 512]
-    ensures { λ r. ⌜ sealed r ≡ paged (replicate 492 0) 1 noLink bucket bucketFlags ⌝ }
+    ensures { λ r. ⌜ covered r ≡ paged (replicate 492 0) 1 noLink bucket bucketFlags ⌝ }
 {
     let mut body = [0u8; 512];
     put_trailer(&mut body, 1, NO_LINK, bucket, BUCKET);
@@ -72,7 +72,7 @@ fn build_bucket(bucket: u32) -> [u8; 512]
 
 // A bitmap whose bits are all 1.
 fn build_bitmap() -> [u8; 512]
-    ensures { λ r. ⌜ sealed r ≡ paged (replicate 256 255 ++ replicate 236 0) noLink noLink noLink bitmapFlags ⌝ }
+    ensures { λ r. ⌜ covered r ≡ paged (replicate 256 255 ++ replicate 236 0) noLink noLink noLink bitmapFlags ⌝ }
 {
     let ones = [255u8; 256];
     let mut body = [0u8; 512];
@@ -83,7 +83,7 @@ fn build_bitmap() -> [u8; 512]
 
 // Block `k` of `size`.
 fn build_body(k: u32, size: u32, fill: u16) -> [u8; 512]
-    ensures { λ r. ⌜ sealed r ≡ formatBlock size fill k ⌝ }
+    ensures { λ r. ⌜ covered r ≡ formatBlock size fill k ⌝ }
 {
     match k {
         0 => build_meta(size, fill),
@@ -97,7 +97,7 @@ fn build_body(k: u32, size: u32, fill: u16) -> [u8; 512]
 // Writes block `k` of a new store, with its check.
 fn format_block(store: &mut [u8], k: u32, size: u32, fill: u16)
     requires { ⌜ 512 * k + 512 ≤ length (now store) ⌝ }
-    ensures { λ _. ⌜ now (store .exit) ≡ setBlock (now (store .entry)) k (formatBlock size fill k) ⌝ }
+    ensures { λ _. ⌜ now (store .exit) ≡ setBlock (now (store .entry)) k (sealed (formatBlock size fill k)) ⌝ }
 {
     let change = Change {
         count: 1,
@@ -113,7 +113,8 @@ fn format_block(store: &mut [u8], k: u32, size: u32, fill: u16)
 fn format_blocks(store: &mut [u8], fill: u16)
     requires { ⌜ Sized (now store) ⌝ }
     ensures { λ _. ⌜ now (store .exit)
-        ≡ bind (upFrom 0 (blocks (now (store .entry)))) (formatBlock (blocks (now (store .entry))) fill) ⌝ }
+        ≡ bind (upFrom 0 (blocks (now (store .entry))))
+        (λ k. sealed (formatBlock (blocks (now (store .entry))) fill k)) ⌝ }
 {
     let size = (store.len() / 512) as u32;
     let mut k = 0;

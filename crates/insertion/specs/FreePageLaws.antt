@@ -13,7 +13,7 @@ use Rattle.address.specs.Address.{point, made}
 use Rattle.address.specs.BlockLaws.{point-pos, bit-apart}
 use Rattle.page.specs.declared.Entry.{Entry}
 use Rattle.store.specs.declared.Change.{Change}
-use Rattle.store.specs.Store.{sealed}
+use Rattle.store.specs.Store.{covered}
 use Rattle.model.specs.Index.{Index, chain, topBit}
 use Rattle.model.specs.Pages.{addPage, firstFree}
 use Rattle.model.specs.WellFormed.{Laid}
@@ -38,7 +38,7 @@ use Rattle.draft.specs.Draft.{Draft, Ready, Edited}
 use Rattle.draft.specs.Trim.{Trimmed}
 use Rattle.plan.specs.Plan.{Plans}
 use Rattle.plan.specs.Shape.{Shaped}
-use Rattle.plan.specs.ShapeLaws.{shaped-length, shaped-sealed, shaped-bit}
+use Rattle.plan.specs.ShapeLaws.{shaped-length, shaped-covered, shaped-bit}
 use Rattle.plan.specs.Sketch.{Sketch}
 use Rattle.plan.specs.SketchLaws.{ready, sketch-here, sketch-there, sketch-more, edited}
 use Rattle.plan.specs.StoreLaws.{map-inside, map-shape}
@@ -147,15 +147,15 @@ module _ {s : List ℕ} {m : Meta} {b last : ℕ} {e : Entry} {held n : ℕ}
       pub free-fields : (d : List ℕ) × Ready s c₁ images₁ d 0
       free-fields = (_, fields-ready r mapped (omega arith))
 
-      map-shown : sealed (block d₁ M) ≡ encodeBlock y M
+      map-shown : covered (block d₁ M) ≡ encodeBlock y M
       map-shown =
-          ap sealed (sketch-here (p .sketch) M map-here _ put-whole)
-          ∙ ap (λ (l : List ℕ). sealed (putBit l n true)) map-kept
-          ∙ shaped-sealed (length-mapFront (mapBit y)) bitmap
+          ap covered (sketch-here (p .sketch) M map-here _ put-whole)
+          ∙ ap (λ (l : List ℕ). covered (putBit l n true)) map-kept
+          ∙ shaped-covered (length-mapFront (mapBit y)) bitmap
           ∙ sym (map-image y (h .leaves .wf .laid))
 
-      other : (k : ℕ) → k < blocks s → k ≢ M → sealed (block d₁ k) ≡ sealed (block (p .draft) k)
-      other k u ne = ap sealed (sketch-there (p .sketch) M map-here _ put-whole k u ne)
+      other : (k : ℕ) → k < blocks s → k ≢ M → covered (block d₁ k) ≡ covered (block (p .draft) k)
+      other k u ne = ap covered (sketch-there (p .sketch) M map-here _ put-whole k u ne)
 
       pub free-plans : (m′ : Meta) (first : ℕ) → m′ ≡ fieldsOf m held first (m .spares)
           → first ≡ firstFree (extended (decode s) (decode s .spares) b n e)

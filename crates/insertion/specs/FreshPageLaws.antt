@@ -12,6 +12,7 @@ use Rattle.address.specs.BlockLaws.{point-pos, bit-made}
 use Rattle.address.specs.SparesLaws.{bit-spares}
 use Rattle.page.specs.declared.Entry.{Entry}
 use Rattle.store.specs.declared.Change.{Change}
+use Rattle.store.specs.Store.{covered}
 use Rattle.model.specs.Index.{Index, chain, topBit}
 use Rattle.model.specs.Pages.{addPage, firstFree}
 use Rattle.model.specs.WellFormed.{Laid}
@@ -33,7 +34,7 @@ use Rattle.draft.specs.Draft.{Draft, Ready, Edited}
 use Rattle.draft.specs.Trim.{Trimmed}
 use Rattle.plan.specs.Plan.{Plans}
 use Rattle.plan.specs.ShapeLaws.{shaped-paged}
-use Rattle.plan.specs.StoreLaws.{block-is, map-inside}
+use Rattle.plan.specs.StoreLaws.{block-is, map-inside, block-full}
 use Rattle.insertion.specs.Put.{lastBlock, extended, fieldsOf, AtEnd, Linked}
 use Rattle.plan.specs.FieldLaws.{read-made}
 use Rattle.insertion.specs.FieldLaws.{more-spares, fields-set}
@@ -98,7 +99,7 @@ module _ {s : List ℕ} {m : Meta} {b last : ℕ} {e : Entry} {held : ℕ}
   not-last q =
       page-map x laid b (lastPlace (chain x b)) (omega (arith, h .leaves .made, reads-max r)) (omega arith) (sym q)
 
-  map-stays : block s (mapBlock x) ≡ encodeBlock y (mapBlock y)
+  map-stays : covered (block s (mapBlock x)) ≡ encodeBlock y (mapBlock y)
   map-stays =
       block-is r (mapBlock x) (map-inside r)
       ∙ sym (frame (mapBlock x) (bit-some x laid 0, (not-last, ((λ q. omega (arith, q, new-is, map-low)), tt))))
@@ -116,7 +117,7 @@ module _ {s : List ℕ} {m : Meta} {b last : ℕ} {e : Entry} {held : ℕ}
       ∙ first-read y w (block s (mapBlock x))
       (bits-shaped y
       (shaped-paged (mapFront (mapBit y)) noLink noLink noLink 4 (length-mapFront (mapBit y))
-      (map-stays ∙ map-image y w)))
+      (block-full r (mapBlock x) (map-inside r)) (map-stays ∙ map-image y w)))
 
   module _ {c : Change} {images : List ℕ}
       (p : Linked s b (lastBlock (decode s) b)

@@ -14,7 +14,7 @@ use Rattle.endian.specs.Endian.{le32}
 use Rattle.page.specs.declared.Entry.{Entry}
 use Rattle.page.specs.Entries.{encodePage}
 use Rattle.store.specs.declared.Change.{Change}
-use Rattle.store.specs.Store.{trailer, sealed}
+use Rattle.store.specs.Store.{trailer, covered}
 use Rattle.model.specs.Index.{Index, chain}
 use Rattle.model.specs.WellFormed.{Laid}
 use Rattle.image.specs.declared.Meta.{Meta}
@@ -33,7 +33,7 @@ use Rattle.view.specs.ReadsLaws.{reads-laid, reads-size}
 use Rattle.draft.specs.Draft.{Draft, Ready, Edited}
 use Rattle.draft.specs.DraftLaws.{length-draft}
 use Rattle.plan.specs.Shape.{Shaped}
-use Rattle.plan.specs.ShapeLaws.{shaped-length, shaped-sealed, shaped-next, shaped-new}
+use Rattle.plan.specs.ShapeLaws.{shaped-length, shaped-covered, shaped-next, shaped-new}
 use Rattle.plan.specs.Sketch.{Sketch}
 use Rattle.plan.specs.SketchLaws.{sketch-none, ready, sketch-here, sketch-there, sketch-more, edited}
 use Rattle.plan.specs.StoreLaws.{page-under, page-few, page-shape}
@@ -146,17 +146,17 @@ module _ {s : List ℕ} {m : Meta} {b last : ℕ} {e : Entry} {held : ℕ} {sp :
       (apart : lastBlock (decode s) b ≢ blockOfBit (decode s) n)
       {c : Change} {images : List ℕ}
       (p : Linked s b (lastBlock (decode s) b) (blockOfBit (decode s) n) e c images) where
-    pub last-shown : sealed (block (p .draft) (lastBlock (decode s) b))
+    pub last-shown : covered (block (p .draft) (lastBlock (decode s) b))
         ≡ encodeBlock (extended (decode s) sp b n e) (lastBlock (decode s) b)
     unfolding pageWith
     last-shown =
         let full = length-pageFront (pageEntries x b i) (page-few r b (h .leaves .made) i (omega arith)) in
-        ap sealed (p .before apart)
-        ∙ shaped-sealed full (shaped-next full (page-shape r b (h .leaves .made) i (omega arith)) (blockOfBit x n))
+        ap covered (p .before apart)
+        ∙ shaped-covered full (shaped-next full (page-shape r b (h .leaves .made) i (omega arith)) (blockOfBit x n))
         ∙ sym (last-image x b (chain-there (h .leaves)) e n sp (h .leaves .wf .laid) at)
 
-    pub new-shown : sealed (block (p .draft) (blockOfBit (decode s) n))
+    pub new-shown : covered (block (p .draft) (blockOfBit (decode s) n))
         ≡ encodeBlock (extended (decode s) sp b n e) (blockOfBit (decode s) n)
     new-shown =
-        shaped-sealed (length-pageFront (e ∷ []) (omega arith)) (p .page)
+        shaped-covered (length-pageFront (e ∷ []) (omega arith)) (p .page)
         ∙ sym (new-image x b (chain-there (h .leaves)) e n sp (h .leaves .wf .laid) at)

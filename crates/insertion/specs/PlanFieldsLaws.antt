@@ -9,7 +9,7 @@ use Rattle.lists.specs.Lists.{Each}
 use Rattle.lists.specs.Block.{blocks, block, setBlock}
 use Rattle.page.specs.SublistLaws.{each-map}
 use Rattle.store.specs.declared.Change.{Change}
-use Rattle.store.specs.Store.{sealed}
+use Rattle.store.specs.Store.{covered}
 use Rattle.model.specs.Index.{Index}
 use Rattle.model.specs.WellFormed.{Laid}
 use Rattle.model.specs.BoundLaws.{laid-size}
@@ -26,7 +26,7 @@ use Rattle.draft.specs.Draft.{Draft, Ready, Edited}
 use Rattle.draft.specs.Trim.{Trimmed}
 use Rattle.plan.specs.Plan.{Plans}
 use Rattle.plan.specs.Shape.{Shaped}
-use Rattle.plan.specs.ShapeLaws.{shaped-sealed, shaped-front, shaped-length}
+use Rattle.plan.specs.ShapeLaws.{shaped-covered, shaped-front, shaped-length}
 use Rattle.plan.specs.Sketch.{Sketch}
 use Rattle.plan.specs.SketchLaws.{ready, sketch-here, sketch-there, sketch-more}
 use Rattle.plan.specs.StoreLaws.{meta-shape}
@@ -43,7 +43,7 @@ module _ {s : List ℕ} {m : Meta} (r : Reads s m) {c : Change} {images d : List
   module _ (y : Index) (laid : Laid y) (size : y .size ≡ decode s .size) (js : List ℕ)
       (frame : (k : ℕ) → Apart k (0 ∷ js) → encodeBlock y k ≡ encodeBlock (decode s) k)
       (edits : (k : ℕ) → Apart k js → Apart k ks) (first : Apart 0 ks)
-      (shown : Each (λ (k : ℕ). sealed (block d k) ≡ encodeBlock y k) js) where
+      (shown : Each (λ (k : ℕ). covered (block d k) ≡ encodeBlock y k) js) where
     module _ (m′ : Meta) (fields : m′ ≡ metaOf y) where
       written : List ℕ
       written = metaFront m′ ++ drop 492 (block d 0)
@@ -61,9 +61,9 @@ module _ {s : List ℕ} {m : Meta} (r : Reads s m) {c : Change} {images d : List
       whole : length written ≡ 512
       whole = shaped-length full shape
 
-      meta-shown : sealed written ≡ encodeBlock y 0
+      meta-shown : covered written ≡ encodeBlock y 0
       meta-shown =
-          shaped-sealed full shape
+          shaped-covered full shape
           ∙ ap (λ (f : Meta). paged (metaFront f) noLink noLink noLink 8) fields
           ∙ sym (meta-image y laid)
 
@@ -77,15 +77,15 @@ module _ {s : List ℕ} {m : Meta} (r : Reads s m) {c : Change} {images d : List
           let here = sketch-here g 0 meta-under written whole in
           plans-of r (sketch-more g 0 meta-under written whole (e .lists) h) y laid size (0 ∷ js) frame
           (λ k a. (a .0, edits k (a .1))) (
-            λ u. ap sealed here ∙ meta-shown,
-            each-map (λ (k : ℕ). sealed (block d k) ≡ encodeBlock y k)
-                (λ (k : ℕ). k < y .size → sealed (block (setBlock d 0 written) k) ≡ encodeBlock y k)
+            λ u. ap covered here ∙ meta-shown,
+            each-map (λ (k : ℕ). covered (block d k) ≡ encodeBlock y k)
+                (λ (k : ℕ). k < y .size → covered (block (setBlock d 0 written) k) ≡ encodeBlock y k)
                 (λ k q u. go k q u (ℕ-discrete k 0)) js shown,
           )
           (t (setBlock d 0 written) h)
         where
-          go : (k : ℕ) → sealed (block d k) ≡ encodeBlock y k → k < y .size → Dec (k ≡ 0)
-              → sealed (block (setBlock d 0 written) k) ≡ encodeBlock y k
-          go k q u (yes z) = rw z (ap sealed (sketch-here g 0 meta-under written whole) ∙ meta-shown)
+          go : (k : ℕ) → covered (block d k) ≡ encodeBlock y k → k < y .size → Dec (k ≡ 0)
+              → covered (block (setBlock d 0 written) k) ≡ encodeBlock y k
+          go k q u (yes z) = rw z (ap covered (sketch-here g 0 meta-under written whole) ∙ meta-shown)
           go k q u (no ne) =
-              ap sealed (sketch-there g 0 meta-under written whole k (omega (arith, size, reads-size r)) ne) ∙ q
+              ap covered (sketch-there g 0 meta-under written whole k (omega (arith, size, reads-size r)) ne) ∙ q

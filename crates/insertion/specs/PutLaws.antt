@@ -20,7 +20,7 @@ use Rattle.page.specs.PlaceLaws.{place-le, enter-insertAt}
 use Rattle.page.specs.SlotLaws.{length-insertAt}
 use Rattle.page.specs.SublistLaws.{all-each, each-getD}
 use Rattle.store.specs.declared.Change.{Change}
-use Rattle.store.specs.Store.{trailer, sealed}
+use Rattle.store.specs.Store.{trailer, covered}
 use Rattle.model.specs.Index.{Page, Index, chain, topBit}
 use Rattle.model.specs.Pages.{chainRoom, addEntry, freeBit, firstFree, Taken, takeFrom, takePage, putIn, put}
 use Rattle.image.specs.declared.Meta.{Meta}
@@ -43,7 +43,7 @@ use Rattle.draft.specs.ShapeLaws.{room-page}
 use Rattle.draft.specs.Trim.{Trimmed}
 use Rattle.plan.specs.Plan.{Plans}
 use Rattle.plan.specs.Shape.{Shaped}
-use Rattle.plan.specs.ShapeLaws.{shaped-length, shaped-page, shaped-entries, sealed-entries}
+use Rattle.plan.specs.ShapeLaws.{shaped-length, shaped-page, shaped-entries, covered-entries}
 use Rattle.plan.specs.Sketch.{Sketch}
 use Rattle.plan.specs.SketchLaws.{sketch-none, ready, sketch-here, sketch-more, page-edited}
 use Rattle.plan.specs.StoreLaws.{map-shape, page-under, page-shape}
@@ -193,11 +193,11 @@ module _ {s : List ℕ} {m : Meta} {k : ℕ} {e : Entry} {held b : ℕ} (h : InR
       pub room-fields : (d : List ℕ) × Ready s c₁ images₁ d 0
       room-fields = (_, fields-ready r room-sketch (omega arith))
 
-      shown : sealed (block (setBlock s (pageBlock x b i) new) (pageBlock x b i)) ≡ encodeBlock y (pageBlock x b i)
+      shown : covered (block (setBlock s (pageBlock x b i) new) (pageBlock x b i)) ≡ encodeBlock y (pageBlock x b i)
       unfolding new pageWith
       shown =
-          ap sealed (sketch-here start (pageBlock x b i) here new new-whole)
-          ∙ sealed-entries es shape fs fs-few
+          ap covered (sketch-here start (pageBlock x b i) here new new-whole)
+          ∙ covered-entries es shape fs fs-few
           ∙ ap (λ (ds : List Entry). paged (encodePage ds []) prev (pageBlock x b (suc i)) b flags)
           (ap (λ (n : ℕ). insertAt n e es) slot-is ∙ sym (enter-insertAt e es))
           ∙ sym (room-image x b (chain-there (h .leaves)) e (h .leaves .wf .laid) (h .room))

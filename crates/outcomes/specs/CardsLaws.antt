@@ -25,7 +25,7 @@ use Rattle.model.specs.Machine.{Call, formatting, inserting, removing, looking,
 use Rattle.model.specs.Machine.{Reply, plain, replyNo, runIndex, onIndex}
 use Rattle.model.specs.FormatLaws.{format-wf}
 use Rattle.image.specs.declared.Meta.{Meta}
-use Rattle.image.specs.Layout.{paged, blank, padded, metaOf, mapFront, image, encodeBlock, encode}
+use Rattle.image.specs.Layout.{paged, blank, padded, metaOf, mapFront, image, encodeBlock, sealedBlock, encode}
 use Rattle.image.specs.Decode.{bitOf, metaAt}
 use Rattle.image.specs.Rules.{mapAt}
 use Rattle.outcomes.specs.Outcomes.{Changed, formatOn, formatOutcome, runStore, onStore}
@@ -40,14 +40,14 @@ use Rattle.outcomes.specs.Cards.{nos, cards, Bench}
 -- ---- a store and the index whose bytes it is
 
 module _ {s : List ℕ} {x : Index} (r : Encodes s x) where
-  block-is : (k : ℕ) → k < x .size → block s k ≡ encodeBlock x k
+  block-is : (k : ℕ) → k < x .size → block s k ≡ sealedBlock x k
   block-is k h = ap (λ (t : List ℕ). block t k) (r .1) ∙ block-encode x (r .0 .laid) k h
 
   meta-is : metaAt s ≡ metaOf x
   meta-is = ap metaAt (r .1) ∙ meta-encode x (r .0)
 
   -- k is the bitmap's block
-  map-is : (k : ℕ) → k < x .size → bitBlock (x .spares) (point (x .maxBucket)) 0 ≡ k → mapAt s ≡ encodeBlock x k
+  map-is : (k : ℕ) → k < x .size → bitBlock (x .spares) (point (x .maxBucket)) 0 ≡ k → mapAt s ≡ sealedBlock x k
   map-is k h e =
       let w = r .0 in
       ap mapAt (r .1)
@@ -140,8 +140,8 @@ module _ (fresh : ℕ → List ℕ) (e : (n : ℕ) → length (fresh n) ≡ 512 
       bucketsAt maskDigits highMask lowMask bucketOf digits splitFrom point bucketPoint bucketBlock bitBlock made
       freeBit firstFree takePage put cut sources held matches count slack wanted begin step
       format insert remove lookup standing work runIndex
-      metaOf padded mapFront roleOf encodeBlock image paged blank sealed covered trailer le16 le32 u16At u32At
-      encodeEntry encodePage readEntry entryAt entriesFrom entriesOf
+      metaOf padded mapFront roleOf encodeBlock sealedBlock image paged blank sealed covered trailer
+      le16 le32 u16At u32At encodeEntry encodePage readEntry entryAt entriesFrom entriesOf
   calls =
       let E = store-is 5 40 refl refl 41 (omega arith) [] tt in
       let F = store-is 5 40 refl refl 41 (omega arith) (removing (pairOf 80) ∷ []) (omega arith) in

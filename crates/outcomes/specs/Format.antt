@@ -1,5 +1,5 @@
--- The blocks of a formatted store, spelt out. docs/RULES.md 6.1: "meta, buckets 0 and 1 in blocks 1 and 2, bitmap in
--- block 3, spares[1] = 1, first free 1, bits all 1, no entries."
+-- The bodies of a formatted store's blocks, spelt out. docs/RULES.md 6.1: "meta, buckets 0 and 1 in blocks 1 and 2,
+-- bitmap in block 3, spares[1] = 1, first free 1, bits all 1, no entries."
 use mathlib.Core.List.{List, _++_}
 use Prim.Native.Nat.{ℕ, zero, suc}
 use lib.ListN.{replicate}
@@ -15,7 +15,7 @@ formatMeta n fill =
     le32 0x06440640 ++ (le32 512 ++ (le32 0 ++ (le16 fill ++ (le16 0 ++ (le32 1 ++ (le32 3 ++ (le32 1 ++ (le32 1
     ++ (le32 1 ++ (le32 n ++ (le32 0 ++ (le32 1 ++ replicate 444 0))))))))))))
 
--- a bucket page has previous 1, no next, and flags 2
+-- the body of block k; a bucket page has previous 1, no next, and flags 2
 unfoldable pub formatBlock : (n fill k : ℕ) → List ℕ
 formatBlock n fill zero = paged (formatMeta n fill) noLink noLink noLink metaFlags
 formatBlock n fill (suc zero) = paged (replicate 492 0) 1 noLink 0 bucketFlags

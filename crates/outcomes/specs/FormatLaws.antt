@@ -13,6 +13,7 @@ use Rattle.address.specs.Address.{
 use Rattle.address.specs.Role.{roleOf}
 use Rattle.address.specs.FormatLaws.{point-first, role-first, role-second, role-bitmap, role-past}
 use Rattle.page.specs.Entries.{encodePage}
+use Rattle.store.specs.Store.{sealed}
 use Rattle.model.specs.Pages.{freeBit, firstFree}
 use Rattle.model.specs.Held.{count}
 use Rattle.model.specs.Calls.{format}
@@ -26,6 +27,7 @@ use Rattle.image.specs.Layout.{
   bucketImage,
   image,
   encodeBlock,
+  sealedBlock,
   encode,
 }
 use Rattle.outcomes.specs.Format.{formatMeta, formatBlock}
@@ -64,6 +66,8 @@ module _ (n fill : ℕ) where
   pub format-unused : (k : ℕ) → 4 ≤ k → formatBlock n fill k ≡ blank
   format-unused k h = sym (format-block k) ∙ past k h
 
-  pub format-bytes : encode (format n fill) ≡ bind (upFrom 0 n) (formatBlock n fill)
-  unfolding encode format
-  format-bytes = bind-cong (encodeBlock (format n fill)) (formatBlock n fill) (upFrom 0 n) format-block
+  pub format-bytes : encode (format n fill) ≡ bind (upFrom 0 n) (λ k. sealed (formatBlock n fill k))
+  unfolding encode sealedBlock format
+  format-bytes =
+      bind-cong (sealedBlock (format n fill)) (λ k. sealed (formatBlock n fill k)) (upFrom 0 n)
+      (λ k. ap sealed (format-block k))

@@ -12,7 +12,7 @@ use Rattle.address.specs.Address.{point, bucketPoint, bucketBlock, bitBlock, ma
 use Rattle.address.specs.Role.{roleOf}
 use Rattle.page.specs.Entries.{readEntry, entryAt, entriesFrom, entriesOf}
 use Rattle.page.specs.Rule.{numberOk, flagsOk, numbersOk, orderOk, restZero, pageOk}
-use Rattle.store.specs.Store.{covered, checked}
+use Rattle.store.specs.Store.{covered, checkOf, checks, checked}
 use Rattle.model.specs.Held.{count}
 use Rattle.image.specs.declared.Verdict.{Verdict}
 use Rattle.image.specs.Decode.{wordsAt, readMeta, follow, decode}
@@ -26,8 +26,8 @@ answer : List ℕ → Verdict
 unfolding verifyOutcome lengthOk part allZero blocks block le16 le32 u16At u32At crcBit crcBits crcByte crcBytes
     crcOf bucketsAt maskDigits highMask lowMask bucketOf digits splitFrom lastSplit point bucketPoint bucketBlock
     bitBlock made roleOf readEntry entryAt entriesFrom entriesOf numberOk flagsOk numbersOk orderOk restZero
-    pageOk covered checked count wordsAt readMeta follow decode frontOk sparesOk metaOk fits overflowAs rule1
-    rule2 rule3 linked rule4 rule5 rule6 rule7 rule8 rules lowestDamaged lowestBroken verdict
+    pageOk covered checkOf checks checked count wordsAt readMeta follow decode frontOk sparesOk metaOk fits
+    overflowAs rule1 rule2 rule3 linked rule4 rule5 rule6 rule7 rule8 rules lowestDamaged lowestBroken verdict
 answer s = verifyOutcome s
 
 -- no entries, and a job that no list of calls leaves with max bucket 1: sound

@@ -1,4 +1,4 @@
--- From a sketch whose blocks are an index's, but for their checks, to the plan that makes that index's store.
+-- From a sketch whose bodies are an index's to the plan that makes that index's store.
 use mathlib.Core.Path.{_≡_, sym, ap, _∙_}
 use mathlib.Core.Logic.{⊎-elim}
 use mathlib.Core.List.{List}
@@ -7,10 +7,8 @@ use native.Mathlib.Omega.{arith}
 use lib.ListN.{length}
 use Rattle.lists.specs.Lists.{Each}
 use Rattle.lists.specs.Block.{blocks, block}
-use Rattle.lists.specs.BlockLaws.{length-block}
 use Rattle.store.specs.declared.Change.{Change}
-use Rattle.store.specs.Store.{covered, sealed, Fits}
-use Rattle.store.specs.CheckLaws.{covered-sealed}
+use Rattle.store.specs.Store.{covered, Fits}
 use Rattle.model.specs.Index.{Index}
 use Rattle.model.specs.WellFormed.{Laid}
 use Rattle.image.specs.declared.Meta.{Meta}
@@ -18,7 +16,7 @@ use Rattle.image.specs.Layout.{encodeBlock, encode}
 use Rattle.image.specs.Decode.{decode}
 use Rattle.frame.specs.Frame.{Apart}
 use Rattle.frame.specs.CommitLaws.{in-or-apart}
-use Rattle.image.specs.EncodeLaws.{block-encode}
+use Rattle.image.specs.EncodeLaws.{covered-encode}
 use Rattle.view.specs.Reads.{Reads}
 use Rattle.view.specs.ReadsLaws.{reads-size, reads-sized}
 use Rattle.draft.specs.Draft.{Listed}
@@ -43,20 +41,19 @@ module _ {s : List ℕ} {m : Meta} (r : Reads s m) {c : Change} {images d : List
     (g : Sketch s c images d n ks) (y : Index) (laid : Laid y) (size : y .size ≡ decode s .size) (js : List ℕ)
     (frame : (k : ℕ) → Apart k js → encodeBlock y k ≡ encodeBlock (decode s) k)
     (edits : (k : ℕ) → Apart k js → Apart k ks)
-    (shown : Each (λ (k : ℕ). k < y .size → sealed (block d k) ≡ encodeBlock y k) js) where
+    (shown : Each (λ (k : ℕ). k < y .size → covered (block d k) ≡ encodeBlock y k) js) where
   same : length d ≡ length s
   same = length-draft (g .draft)
 
-  -- every block of the draft, sealed, is the index's
-  all-shown : (k : ℕ) → k < y .size → sealed (block d k) ≡ encodeBlock y k
+  -- the body of every block of the draft is the index's
+  all-shown : (k : ℕ) → k < y .size → covered (block d k) ≡ encodeBlock y k
   all-shown k h =
-      ⊎-elim (λ q. q h) rest (in-or-apart (λ (k : ℕ). k < y .size → sealed (block d k) ≡ encodeBlock y k) k js shown)
+      ⊎-elim (λ q. q h) rest (in-or-apart (λ (k : ℕ). k < y .size → covered (block d k) ≡ encodeBlock y k) k js shown)
     where
-      rest : Apart k js → sealed (block d k) ≡ encodeBlock y k
+      rest : Apart k js → covered (block d k) ≡ encodeBlock y k
       rest a =
           let u : k < blocks s = omega (arith, h, size, reads-size r) in
-          ap sealed (g .rest k u (edits k a)) ∙ store-sealed r k u ∙ block-is r k (omega (arith, h, size))
-          ∙ sym (frame k a)
+          ap covered (g .rest k u (edits k a)) ∙ block-is r k (omega (arith, h, size)) ∙ sym (frame k a)
 
   -- the plan, where `js` are the blocks that the operation may alter
   pub plans-of : {c′ : Change} {images′ : List ℕ} → Trimmed s d c′ images′ → Plans s c′ images′ y
@@ -73,6 +70,4 @@ module _ {s : List ℕ} {m : Meta} (r : Reads s m) {c : Change} {images d : List
       alike k w e =
           let inside = t .draft .fits .inside (w .0) (w .1) in
           let u : k < y .size = omega (arith, inside, w .2, reads-sized r .whole, reads-size r, size) in
-          ap covered (e ∙ block-encode y laid k u ∙ sym (all-shown k u))
-          ∙ covered-sealed (block d k)
-          (omega (arith, length-block d k (omega (arith, same, reads-sized r .whole, reads-size r, size))))
+          ap covered e ∙ covered-encode y laid k u ∙ sym (all-shown k u)

@@ -1,4 +1,4 @@
--- What edits make of a shaped block, and what it is when it is sealed.
+-- What edits make of a shaped block, and what its body is.
 use mathlib.Core.Path.{_≡_, sym, ap, _∙_}
 use mathlib.Core.Logic.{_≢_}
 use mathlib.Core.Bool.{Bool}
@@ -9,24 +9,27 @@ use lib.ListN.{length, drop, length-append, length-drop}
 use lib.Seq.{sets, drop-at}
 use Rattle.lists.specs.Lists.{b2n}
 use Rattle.endian.specs.Endian.{le16, le32}
-use Rattle.endian.specs.EndianLaws.{length-le32}
 use Rattle.page.specs.declared.Entry.{Entry}
 use Rattle.page.specs.Entries.{encodePage}
-use Rattle.store.specs.Store.{trailer, sealed}
+use Rattle.store.specs.Store.{trailer, covered}
 use Rattle.store.specs.TrailerLaws.{length-trailer}
 use Rattle.image.specs.Layout.{paged, mapFront}
 use Rattle.image.specs.PagedLaws.{paged-parts}
 use Rattle.image.specs.PageOkLaws.{encodePage-append, length-pageFront}
 use Rattle.draft.specs.Bits.{putBit}
 use Rattle.draft.specs.BitLaws.{putBit-mapFront}
-use Rattle.draft.specs.ShapeLaws.{sealed-paged, sets-prev, sets-next, sets-flags}
+use Rattle.draft.specs.ShapeLaws.{covered-paged, sets-prev, sets-next, sets-flags}
 use Rattle.plan.specs.Shape.{Shaped}
 
--- a sealed block of a front part and a trailer
-pub shaped-paged : {l : List ℕ} (front : List ℕ) (prev next bucket flags : ℕ) → length front ≡ 492
-    → l ≡ paged front prev next bucket flags → Shaped l front prev next bucket flags
-shaped-paged front prev next bucket flags full e =
-    record { rest = _; four = length-le32 _; whole = e ∙ paged-parts front full prev next bucket flags }
+-- a block of a front part and a trailer
+pub shaped-paged : {l : List ℕ} (front : List ℕ) (prev next bucket flags : ℕ) → length front ≡ 492 → length l ≡ 512
+    → covered l ≡ paged front prev next bucket flags → Shaped l front prev next bucket flags
+shaped-paged {l} front prev next bucket flags full whole e =
+    record {
+      rest = drop 508 l;
+      four = omega (arith, length-drop 508 l);
+      whole = paged-parts front full prev next bucket flags l e;
+    }
 
 module _ {l front : List ℕ} {prev next bucket flags : ℕ} (full : length front ≡ 492)
     (h : Shaped l front prev next bucket flags) where
@@ -40,8 +43,8 @@ module _ {l front : List ℕ} {prev next bucket flags : ℕ} (full : length fron
       ap length (h .whole) ∙ length-append front (trailer prev next bucket flags ++ h .rest)
       ∙ omega (arith, length-tail)
 
-  pub shaped-sealed : sealed l ≡ paged front prev next bucket flags
-  shaped-sealed = ap sealed (h .whole) ∙ sealed-paged front (h .rest) full prev next bucket flags
+  pub shaped-covered : covered l ≡ paged front prev next bucket flags
+  shaped-covered = ap covered (h .whole) ∙ covered-paged front (h .rest) full prev next bucket flags
 
   -- the fields of the trailer
   pub shaped-prev : (v : ℕ) → Shaped (sets l 492 (le32 v)) front v next bucket flags
@@ -102,10 +105,10 @@ module _ {l : List ℕ} (es : List Entry) {prev next bucket flags : ℕ}
         whole = sym (encodePage-append fs (trailer prev next bucket flags ++ h .rest));
       }
 
-  pub sealed-entries : (fs : List Entry) → length fs ≤ 40
-      → sealed (encodePage fs (trailer prev next bucket flags ++ h .rest))
+  pub covered-entries : (fs : List Entry) → length fs ≤ 40
+      → covered (encodePage fs (trailer prev next bucket flags ++ h .rest))
       ≡ paged (encodePage fs []) prev next bucket flags
-  sealed-entries fs few = shaped-sealed (length-pageFront fs few) (shaped-entries fs)
+  covered-entries fs few = shaped-covered (length-pageFront fs few) (shaped-entries fs)
 
 -- a page written anew over the block b
 pub shaped-new : (b : List ℕ) (es : List Entry) (prev next bucket flags : ℕ) → length b ≡ 512

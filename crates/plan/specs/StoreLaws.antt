@@ -1,4 +1,4 @@
--- The blocks of a store that is read as an index: their images, and their shapes.
+-- The blocks of a store that is read as an index: their bodies, and their shapes.
 use mathlib.Core.Path.{_≡_, sym, ap, _∙_, subst}
 use mathlib.Core.List.{List, [], _∷_}
 use Prim.Native.Nat.{ℕ, zero, suc, _≤_, _<_}
@@ -7,9 +7,10 @@ use lib.ListN.{length, getD}
 use Rattle.lists.specs.Lists.{Each}
 use Rattle.lists.specs.Bytes.{Bytes}
 use Rattle.lists.specs.Block.{block}
+use Rattle.lists.specs.BlockLaws.{length-block}
 use Rattle.address.specs.Address.{lastSplit}
 use Rattle.page.specs.Entries.{encodePage}
-use Rattle.store.specs.Store.{checked}
+use Rattle.store.specs.Store.{covered, checked}
 use Rattle.store.specs.Finish.{Sealed}
 use Rattle.store.specs.FinishLaws.{sealed-checked}
 use Rattle.model.specs.Index.{Page, Chain, Index, chain}
@@ -21,7 +22,7 @@ use Rattle.image.specs.Decode.{decode}
 use Rattle.image.specs.BitmapLaws.{length-mapFront}
 use Rattle.image.specs.PageOkLaws.{length-pageFront}
 use Rattle.image.specs.BoundLaws.{length-meta}
-use Rattle.image.specs.EncodeLaws.{bit-inside, block-encode, checked-encode, Bytes-encode}
+use Rattle.image.specs.EncodeLaws.{bit-inside, covered-encode, checked-encode, Bytes-encode}
 use Rattle.frame.specs.Frame.{mapBlock, chainBlocks, pageBlock, entriesAfter, placeEntries, pageEntries, prevIn}
 use Rattle.frame.specs.Frame.{flagsFor, pageWith}
 use Rattle.frame.specs.ImagesLaws.{top-one, page-inside, page-image, meta-image, map-image}
@@ -44,10 +45,13 @@ module _ {s : List ℕ} {m : Meta} (r : Reads s m) where
   abbrev x : Index
   x = decode s
 
-  -- ---- images
+  -- ---- bodies
 
-  pub block-is : (k : ℕ) → k < decode s .size → block s k ≡ encodeBlock (decode s) k
-  block-is k h = ap (λ (t : List ℕ). block t k) (r .bytes) ∙ block-encode x (reads-laid r) k h
+  pub block-is : (k : ℕ) → k < decode s .size → covered (block s k) ≡ encodeBlock (decode s) k
+  block-is k h = ap (λ (t : List ℕ). covered (block t k)) (r .bytes) ∙ covered-encode x (reads-laid r) k h
+
+  pub block-full : (k : ℕ) → k < decode s .size → length (block s k) ≡ 512
+  block-full k h = length-block s k (omega (arith, h, reads-size r, reads-sized r .whole))
 
   pub store-sealed : Sealed s
   store-sealed =
@@ -65,13 +69,14 @@ module _ {s : List ℕ} {m : Meta} (r : Reads s m) where
   pub meta-shape : 0 < decode s .size → Shaped (block s 0) (metaFront (metaOf (decode s))) noLink noLink noLink 8
   meta-shape h =
       let l = reads-laid r in
-      shaped-paged (metaFront (metaOf x)) noLink noLink noLink 8 (length-meta x l) (block-is 0 h ∙ meta-image x l)
+      shaped-paged (metaFront (metaOf x)) noLink noLink noLink 8 (length-meta x l) (block-full 0 h)
+      (block-is 0 h ∙ meta-image x l)
 
   pub map-shape : Shaped (block s (mapBlock (decode s))) (mapFront (mapBit (decode s))) noLink noLink noLink 4
   map-shape =
       let l = reads-laid r in
       shaped-paged (mapFront (mapBit x)) noLink noLink noLink 4 (length-mapFront (mapBit x))
-      (block-is (mapBlock x) map-inside ∙ map-image x l)
+      (block-full (mapBlock x) map-inside) (block-is (mapBlock x) map-inside ∙ map-image x l)
 
   -- the page at place i of bucket b's chain
   module _ (b : ℕ) (made : b ≤ m .max) (i : ℕ) (inside : i ≤ length (chain (decode s) b .more)) where
@@ -91,5 +96,5 @@ module _ {s : List ℕ} {m : Meta} (r : Reads s m) where
     page-shape =
         let l = reads-laid r in
         shaped-paged (encodePage (pageEntries x b i) []) _ (pageBlock x b (suc i)) b _
-        (length-pageFront (pageEntries x b i) page-few)
+        (length-pageFront (pageEntries x b i) page-few) (block-full (pageBlock x b i) page-under)
         (block-is (pageBlock x b i) page-under ∙ page-image x l b i under inside)

@@ -13,7 +13,7 @@ use Rattle.lists.specs.Block.{blocks, block, setBlock}
 use Rattle.address.specs.Address.{point}
 use Rattle.address.specs.BlockLaws.{point-pos, bit-pos}
 use Rattle.store.specs.declared.Change.{Change}
-use Rattle.store.specs.Store.{sealed}
+use Rattle.store.specs.Store.{covered}
 use Rattle.model.specs.Index.{Index}
 use Rattle.image.specs.declared.Meta.{Meta}
 use Rattle.image.specs.Layout.{paged, metaFront, metaOf, mapFront, mapBit, encodeBlock}
@@ -29,7 +29,7 @@ use Rattle.draft.specs.Draft.{Draft, Ready, Edited}
 use Rattle.draft.specs.Trim.{Trimmed}
 use Rattle.plan.specs.Plan.{Plans}
 use Rattle.plan.specs.Shape.{Shaped}
-use Rattle.plan.specs.ShapeLaws.{shaped-length, shaped-sealed, shaped-front}
+use Rattle.plan.specs.ShapeLaws.{shaped-length, shaped-covered, shaped-front}
 use Rattle.plan.specs.Sketch.{Sketch}
 use Rattle.plan.specs.SketchLaws.{ready, sketch-here, sketch-there, sketch-more}
 use Rattle.plan.specs.StoreLaws.{map-inside, meta-shape, map-shape}
@@ -134,28 +134,28 @@ module _ {s : List ℕ} {m : Meta} {c : Change} {images : List ℕ} {held : ℕ}
 
       -- ---- every block
 
-      shown : (j : ℕ) → j < y .size → sealed (block (setBlock (b .d′) 0 new) j) ≡ encodeBlock y j
+      shown : (j : ℕ) → j < y .size → covered (block (setBlock (b .d′) 0 new) j) ≡ encodeBlock y j
       shown j h = go (ℕ-discrete j 0) (ℕ-discrete j k)
         where
           i : j < blocks s
           i = omega (arith, h, e .size, reads-size (e .reads))
 
-          go : Dec (j ≡ 0) → Dec (j ≡ k) → sealed (block (setBlock (b .d′) 0 new) j) ≡ encodeBlock y j
+          go : Dec (j ≡ 0) → Dec (j ≡ k) → covered (block (setBlock (b .d′) 0 new) j) ≡ encodeBlock y j
           go (yes q) _ =
-              ap (λ (i : ℕ). sealed (block (setBlock (b .d′) 0 new) i)) q
-              ∙ ap sealed (sketch-here (map-sketch (b .sketch)) 0 zero-low new full)
-              ∙ shaped-sealed front shape
+              ap (λ (i : ℕ). covered (block (setBlock (b .d′) 0 new) i)) q
+              ∙ ap covered (sketch-here (map-sketch (b .sketch)) 0 zero-low new full)
+              ∙ shaped-covered front shape
               ∙ ap (λ (n : Meta). paged (metaFront n) noLink noLink noLink 8) fields-are
               ∙ sym (meta-image y (e .laid))
               ∙ ap (encodeBlock y) (sym q)
           go (no q) (yes u) =
-              ap sealed (sketch-there (map-sketch (b .sketch)) 0 zero-low new full j i q ∙ ap (block (b .d′)) u)
-              ∙ shaped-sealed (length-mapFront _) (b .sketch .shape)
+              ap covered (sketch-there (map-sketch (b .sketch)) 0 zero-low new full j i q ∙ ap (block (b .d′)) u)
+              ∙ shaped-covered (length-mapFront _) (b .sketch .shape)
               ∙ ap (λ (bit : ℕ → ℕ). paged (mapFront bit) noLink noLink noLink 4) (sym (fun-ext (e .bits)))
               ∙ sym (map-image y (e .laid))
               ∙ ap (encodeBlock y) (e .map ∙ sym at ∙ sym u)
           go (no q) (no u) =
-              ap sealed (sketch-there (map-sketch (b .sketch)) 0 zero-low new full j i q ∙ there j i u)
+              ap covered (sketch-there (map-sketch (b .sketch)) 0 zero-low new full j i q ∙ there j i u)
               ∙ e .sketches .shows .pages j h q (λ v. u (v ∙ e .map ∙ sym at))
 
       pub planned : {r : Change} {images′ : List ℕ} → Trimmed s last r images′ → Plans s r images′ y
@@ -165,5 +165,5 @@ module _ {s : List ℕ} {m : Meta} {c : Change} {images : List ℕ} {held : ℕ}
           plans-of (e .reads) sketched y (e .laid) (e .size) js
           (λ j o. e .frame j (each-left (λ (i : ℕ). j ≢ i) (e .js) _ o))
           (λ j o. each-right (λ (i : ℕ). j ≢ i) (e .js) _ o)
-          (each-all (λ (j : ℕ). j < y .size → sealed (block (setBlock (b .d′) 0 new) j) ≡ encodeBlock y j) 0 js
+          (each-all (λ (j : ℕ). j < y .size → covered (block (setBlock (b .d′) 0 new) j) ≡ encodeBlock y j) 0 js
           (λ i h. shown _)) t

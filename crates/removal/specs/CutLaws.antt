@@ -20,7 +20,7 @@ use Rattle.page.specs.Gap.{Held}
 use Rattle.page.specs.PageLaws.{number-page}
 use Rattle.page.specs.SublistLaws.{sublist-keep, length-sublist}
 use Rattle.store.specs.declared.Change.{Change}
-use Rattle.store.specs.Store.{trailer, sealed}
+use Rattle.store.specs.Store.{trailer, covered}
 use Rattle.model.specs.Index.{Index, chain}
 use Rattle.model.specs.Pages.{thinEntries, cut}
 use Rattle.model.specs.WellFormed.{PageOk, Laid}
@@ -36,7 +36,7 @@ use Rattle.frame.specs.CutPagesLaws.{thin-image}
 use Rattle.view.specs.HeldLaws.{FoundAt, findAt-at}
 use Rattle.draft.specs.Draft.{Draft, PageEdited}
 use Rattle.draft.specs.ShapeLaws.{held-page}
-use Rattle.plan.specs.ShapeLaws.{shaped-page, shaped-length, shaped-entries, sealed-entries}
+use Rattle.plan.specs.ShapeLaws.{shaped-page, shaped-length, shaped-entries, covered-entries}
 use Rattle.plan.specs.SketchLaws.{page-edited, sketch-here, sketch-there, sketch-more}
 use Rattle.removal.specs.declared.Freed.{Freed}
 use Rattle.removal.specs.Freeing.{emptied, freedIf, freedAt}
@@ -152,11 +152,11 @@ module _ {s : List ℕ} {m : Meta} {c : Change} {images : List ℕ} {k slot n b 
     few : length (removeAt slot (pageEntries x b (pairPlace p (chain x b)))) ≤ 40
     few = omega (arith, ap length removed, length-sublist (sublist-keep (λ e. not (is p e)) es), ok .full)
 
-    sealed-thinned : sealed thinned
+    covered-thinned : covered thinned
         ≡ encodeBlock (cut p b x) (pageBlock x b (pairPlace p (chain x b)))
     unfolding thinned pageWith
-    sealed-thinned =
-        sealed-entries es page-here (removeAt slot es) few
+    covered-thinned =
+        covered-entries es page-here (removeAt slot es) few
         ∙ ap (λ (fs : List Entry). paged (encodePage fs []) prev next b flags) removed
         ∙ sym (thin-image x laid b (bucket-fits f) p (f .once) stays place (stands-at .inside))
 
@@ -165,7 +165,7 @@ module _ {s : List ℕ} {m : Meta} {c : Change} {images : List ℕ} {k slot n b 
     shows-thinned d′ here rest =
         let i = stands-at .inside in
         shows-cut f false stays d′ (λ j l a. rest j l (λ q. a .0 (q ∙ block-at)))
-        ((λ l. ap (λ (j : ℕ). sealed (block d′ j)) (sym block-at) ∙ ap sealed here ∙ sealed-thinned), tt)
+        ((λ l. ap (λ (j : ℕ). covered (block d′ j)) (sym block-at) ∙ ap covered here ∙ covered-thinned), tt)
         ((λ q. page-no-meta f place i (sym q)), tt)
         ((λ q. page-no-map f place i (sym q)), tt)
 

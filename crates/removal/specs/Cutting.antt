@@ -10,7 +10,7 @@ use Rattle.page.specs.declared.Pair.{Pair}
 use Rattle.page.specs.Pair.{is}
 use Rattle.page.specs.Entries.{encodePage}
 use Rattle.store.specs.declared.Change.{Change}
-use Rattle.store.specs.Store.{sealed}
+use Rattle.store.specs.Store.{covered}
 use Rattle.model.specs.Index.{Index, chain, entriesAt}
 use Rattle.model.specs.WellFormed.{Laid}
 use Rattle.image.specs.declared.Meta.{Meta}
@@ -23,9 +23,9 @@ use Rattle.view.specs.Places.{findAt}
 use Rattle.plan.specs.Shape.{Shaped}
 use Rattle.plan.specs.Sketch.{Sketch}
 
--- the draft d of the store s shows x, but for the checks; the meta block and the bitmap are still the store's
+-- the bodies of the draft d of the store s are those of x; the meta block and the bitmap are still the store's
 pub record Shows (s d : List ℕ) (x : Index) : Type 0 where
-  pub pages : (k : ℕ) → k < x .size → k ≢ 0 → k ≢ mapBlock x → sealed (block d k) ≡ encodeBlock x k
+  pub pages : (k : ℕ) → k < x .size → k ≢ 0 → k ≢ mapBlock x → covered (block d k) ≡ encodeBlock x k
   pub meta : block d 0 ≡ block s 0
   pub map : block d (mapBlock x) ≡ block s (mapBlock x)
 

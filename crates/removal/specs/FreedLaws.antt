@@ -12,7 +12,7 @@ use Rattle.endian.specs.Endian.{le32}
 use Rattle.page.specs.declared.Pair.{Pair}
 use Rattle.page.specs.Entries.{encodePage}
 use Rattle.store.specs.declared.Change.{Change}
-use Rattle.store.specs.Store.{prevAt, nextAt, sealed}
+use Rattle.store.specs.Store.{prevAt, nextAt, covered}
 use Rattle.model.specs.Index.{Index, chain}
 use Rattle.model.specs.Pages.{cut}
 use Rattle.image.specs.declared.Meta.{Meta}
@@ -23,8 +23,8 @@ use Rattle.image.specs.PageOkLaws.{length-pageFront}
 use Rattle.frame.specs.Frame.{mapBlock, pageBlock, pageEntries, pageWith, morePlace, freesAt}
 use Rattle.frame.specs.FreedLaws.{before-image, after-image, freed-image}
 use Rattle.view.specs.ReadsLaws.{reads-sized}
-use Rattle.draft.specs.ShapeLaws.{sealed-blank}
-use Rattle.plan.specs.ShapeLaws.{shaped-sealed, shaped-prev, shaped-next}
+use Rattle.draft.specs.ShapeLaws.{covered-blank}
+use Rattle.plan.specs.ShapeLaws.{shaped-covered, shaped-prev, shaped-next}
 use Rattle.removal.specs.Freeing.{Freeable, Freeing}
 use Rattle.removal.specs.Cutting.{Shows, Sketches, Findable, Cuttable}
 use Rattle.removal.specs.ShowLaws.{bucket-fits, page-within, page-small, page-no-meta, page-no-map, store-page}
@@ -52,16 +52,16 @@ module _ {s : List ℕ} {m : Meta} {c : Change} {images : List ℕ} {k slot n b 
   prev-is : prevAt (block s k) ≡ pageBlock x b (morePlace p (chain x b .more))
   unfolding pageWith
   prev-is =
-      ap (λ (i : ℕ). prevAt (block s i)) block-freed ∙ ap prevAt (store-page f (suc j) inside)
+      ap (λ (i : ℕ). prevAt (block s i)) block-freed
       ∙ prev-paged (encodePage (pageEntries x b (suc j)) []) (length-pageFront _ (page-small f (suc j) inside)) _ _ _ _
-      (page-word f j)
+      (block s (pageBlock x b (suc j))) (store-page f (suc j) inside) (page-word f j)
 
   next-is : nextAt (block s k) ≡ pageBlock x b (suc (suc (morePlace p (chain x b .more))))
   unfolding pageWith
   next-is =
-      ap (λ (i : ℕ). nextAt (block s i)) block-freed ∙ ap nextAt (store-page f (suc j) inside)
+      ap (λ (i : ℕ). nextAt (block s i)) block-freed
       ∙ next-paged (encodePage (pageEntries x b (suc j)) []) (length-pageFront _ (page-small f (suc j) inside)) _ _ _ _
-      (page-word f (suc (suc j)))
+      (block s (pageBlock x b (suc j))) (store-page f (suc j) inside) (page-word f (suc (suc j)))
 
   -- ---- it can be freed
 
@@ -90,34 +90,34 @@ module _ {s : List ℕ} {m : Meta} {c : Change} {images : List ℕ} {k slot n b 
     full : (i : ℕ) → i ≤ length (chain x b .more) → length (encodePage (pageEntries x b i) []) ≡ 492
     full i l = length-pageFront (pageEntries x b i) (page-small f i l)
 
-    before-shown : sealed (block (g .d′) (pageBlock x b (morePlace p (chain x b .more))))
+    before-shown : covered (block (g .d′) (pageBlock x b (morePlace p (chain x b .more))))
         ≡ encodeBlock (cut p b x) (pageBlock x b (morePlace p (chain x b .more)))
     unfolding pageWith
     before-shown =
-        ap sealed
+        ap covered
         (ap (block (g .d′)) (sym prev-is) ∙ g .before
         ∙ (λ t. sets (block (f .sketches .d) (prev-is t)) 496 (le32 (next-is t))))
-        ∙ shaped-sealed (full j low) (shaped-next (full j low) (draft-page f j low) (pageBlock x b (suc (suc j))))
+        ∙ shaped-covered (full j low) (shaped-next (full j low) (draft-page f j low) (pageBlock x b (suc (suc j))))
         ∙ sym (before-image x (f .like .laid) b (bucket-fits f) p (f .once) goes)
 
-    here-shown : sealed (block (g .d′) (pageBlock x b (suc (morePlace p (chain x b .more)))))
+    here-shown : covered (block (g .d′) (pageBlock x b (suc (morePlace p (chain x b .more)))))
         ≡ encodeBlock (cut p b x) (pageBlock x b (suc (morePlace p (chain x b .more))))
     here-shown =
-        ap sealed (ap (block (g .d′)) (sym block-freed) ∙ g .here)
-        ∙ sealed-blank _
+        ap covered (ap (block (g .d′)) (sym block-freed) ∙ g .here)
+        ∙ covered-blank _
         ∙ sym (freed-image x (f .like .laid) b (bucket-fits f) p (f .once) goes)
 
     after-shown : suc (morePlace p (chain x b .more)) < length (chain x b .more)
-        → sealed (block (g .d′) (pageBlock x b (suc (suc (morePlace p (chain x b .more))))))
+        → covered (block (g .d′) (pageBlock x b (suc (suc (morePlace p (chain x b .more))))))
         ≡ encodeBlock (cut p b x) (pageBlock x b (suc (suc (morePlace p (chain x b .more)))))
     after-shown l =
         let i : ℕ = suc (suc j) in
         let ne : nextAt (block s k) ≢ noLink =
         λ e. omega (arith, e, next-is, page-within f i l, reads-sized (f .reads) .few) in
-        ap sealed
+        ap covered
         (ap (block (g .d′)) (sym next-is) ∙ g .after ne
         ∙ (λ t. sets (block (f .sketches .d) (next-is t)) 492 (le32 (prev-is t))))
-        ∙ shaped-sealed (full i l) (shaped-prev (full i l) (draft-page f i l) (pageBlock x b j))
+        ∙ shaped-covered (full i l) (shaped-prev (full i l) (draft-page f i l) (pageBlock x b j))
         ∙ sym (after-image x (f .like .laid) b (bucket-fits f) p (f .once) goes l)
 
     -- a block of the store that is no page of the chain

@@ -2,13 +2,12 @@
 use mathlib.Core.Path.{_≡_, sym, ap, _∙_, subst}
 use mathlib.Core.Logic.{_≢_, ⊎-elim}
 use mathlib.Core.Bool.{Bool, true, false, cond}
-use mathlib.Core.List.{List, [], _∷_, _++_, append-assoc}
+use mathlib.Core.List.{List, [], _∷_, _++_}
 use Prim.Native.Nat.{ℕ, suc, _+_, _^_, _≤_, _<_}
 use native.Mathlib.Decide.{decLe}
 use native.Mathlib.Omega.{arith}
-use lib.ListN.{length, drop, length-append, length-drop, length-map, take-append-drop}
+use lib.ListN.{length, length-map}
 use lib.ListN.{List·getD-eq-default}
-use lib.Seq.{take-at}
 use Rattle.lists.specs.Lists.{any, Each}
 use Rattle.lists.specs.ListsLaws.{each-append}
 use Rattle.lists.specs.Block.{blocks, block}
@@ -17,16 +16,13 @@ use Rattle.page.specs.declared.Pair.{Pair}
 use Rattle.page.specs.Pair.{is}
 use Rattle.page.specs.Entries.{encodePage, placeOf}
 use Rattle.store.specs.declared.Change.{Change}
-use Rattle.store.specs.Store.{trailer, covered, sealed}
-use Rattle.store.specs.TrailerLaws.{length-trailer}
-use Rattle.store.specs.CheckLaws.{covered-sealed}
+use Rattle.store.specs.Store.{covered}
 use Rattle.model.specs.Index.{Page, Chain, idle, Index, entriesIn, chain}
 use Rattle.model.specs.Pages.{cut}
 use Rattle.image.specs.declared.Meta.{Meta}
-use Rattle.image.specs.Layout.{paged, flagsOf, encodeBlock}
+use Rattle.image.specs.Layout.{flagsOf, encodeBlock}
 use Rattle.store.specs.Flags.{noLink}
 use Rattle.image.specs.Decode.{decode}
-use Rattle.image.specs.PagedLaws.{paged-parts}
 use Rattle.image.specs.PageOkLaws.{length-pageFront}
 use Rattle.frame.specs.Frame.{blockOfBit, mapBlock, chainBlocks, pageBlock, pageEntries, pageWith, placeImage}
 use Rattle.frame.specs.Frame.{Apart, placeBlock, placeEntries, pairPlace, freesAt, mapBlocks, pairBlocks, pageImage}
@@ -38,33 +34,11 @@ use Rattle.frame.specs.ApartLaws.{page-same, page-meta, page-map}
 use Rattle.chain.specs.declared.Found.{Found}
 use Rattle.view.specs.Places.{findAt}
 use Rattle.view.specs.ReadsLaws.{reads-laid, reads-size, reads-sized, reads-max}
-use Rattle.plan.specs.Shape.{Shaped}
 use Rattle.plan.specs.Sketch.{Sketch}
 use Rattle.plan.specs.ShapeLaws.{shaped-paged}
 use Rattle.plan.specs.StoreLaws.{page-full, block-is}
 use Rattle.draft.specs.DraftLaws.{length-draft}
 use Rattle.removal.specs.Cutting.{Shows, ShapedAt, Like, Findable}
-
--- a block that is, when it is sealed, one of a front part and a trailer
-pub shaped-of : {l : List ℕ} (front : List ℕ) (prev next bucket flags : ℕ) → length l ≡ 512 → length front ≡ 492
-    → sealed l ≡ paged front prev next bucket flags → Shaped l front prev next bucket flags
-unfolding covered
-shaped-of {l} front prev next bucket flags full whole e =
-    let t : List ℕ = trailer prev next bucket flags in
-    let n : length (front ++ t) ≡ 508 =
-    length-append front t ∙ omega (arith, length-trailer prev next bucket flags) in
-    let parts = paged-parts front whole prev next bucket flags in
-    record {
-      rest = drop 508 l;
-      four = omega (arith, length-drop 508 l);
-      whole =
-          sym (take-append-drop 508 l)
-          ∙ ap (λ (a : List ℕ). a ++ drop 508 l)
-          (sym (covered-sealed l (omega arith))
-          ∙ ap covered (e ∙ parts ∙ sym (append-assoc front t _))
-          ∙ take-at (front ++ t) _ 508 n)
-          ∙ append-assoc front t (drop 508 l);
-    }
 
 pub sketch-wider : {s : List ℕ} {c : Change} {images d : List ℕ} {n : ℕ} {ks : List ℕ} → Sketch s c images d n ks
     → (i : ℕ) → n ≤ i → Sketch s c images d i ks
@@ -139,14 +113,14 @@ module _ {s : List ℕ} {m : Meta} {c : Change} {images : List ℕ} {n b : ℕ} 
     pub page-small : length (pageEntries x b i) ≤ 40
     page-small = page-full (chain x b) (f .like .laid .pages b) i
 
-    pub store-page : block s (pageBlock x b i) ≡ pageImage x b i
+    pub store-page : covered (block s (pageBlock x b i)) ≡ pageImage x b i
     store-page =
         let w = decode s in
         let j : i ≤ length (chain w b .more) =
         subst (λ (e : Chain). i ≤ length (e .more)) (f .like .chain) h in
         let u : pageBlock w b i < w .size =
         omega (arith, like-block (f .like) i, page-within, reads-size (f .reads)) in
-        ap (block s) (sym (like-block (f .like) i))
+        ap (λ (k : ℕ). covered (block s k)) (sym (like-block (f .like) i))
         ∙ block-is (f .reads) (pageBlock w b i) u
         ∙ page-image w (reads-laid (f .reads)) b i (omega (arith, f .made, reads-max (f .reads))) j
         ∙ like-image (f .like) i
@@ -155,14 +129,15 @@ module _ {s : List ℕ} {m : Meta} {c : Change} {images : List ℕ} {n b : ℕ} 
     unfolding pageWith
     store-shape =
         shaped-paged (encodePage (pageEntries x b i) []) _ (pageBlock x b (suc i)) b _
-        (length-pageFront (pageEntries x b i) page-small) store-page
+        (length-pageFront (pageEntries x b i) page-small)
+        (length-block s (pageBlock x b i) (omega (arith, page-within, reads-sized (f .reads) .whole))) store-page
 
     pub draft-page : ShapedAt x b i (block (f .sketches .d) (pageBlock x b i))
     unfolding pageWith
     draft-page =
-        shaped-of (encodePage (pageEntries x b i) []) _ (pageBlock x b (suc i)) b _
-        (draft-block (pageBlock x b i) page-within)
+        shaped-paged (encodePage (pageEntries x b i) []) _ (pageBlock x b (suc i)) b _
         (length-pageFront (pageEntries x b i) page-small)
+        (draft-block (pageBlock x b i) page-within)
         (f .sketches .shows .pages (pageBlock x b i) (omega (arith, page-within, size-is)) page-no-meta page-no-map
         ∙ page-image x (f .like .laid) b i bucket-low h)
 
@@ -219,7 +194,7 @@ module _ {s : List ℕ} {m : Meta} {c : Change} {images : List ℕ} {n b : ℕ} 
           (subst (λ (e : Bool). Apart j (0 ∷ mapBlocks e x ++ pairBlocks e x b (chain x b) p)) (sym frees)
           (nz, each-append (λ (i : ℕ). j ≢ i) (mapBlocks e x) _ (no-map e j nm) a))
 
-      pub shows-cut : Each (λ (j : ℕ). j < blocks s → sealed (block d′ j) ≡ encodeBlock (cut p b x) j)
+      pub shows-cut : Each (λ (j : ℕ). j < blocks s → covered (block d′ j) ≡ encodeBlock (cut p b x) j)
           (pairBlocks e x b (chain x b) p)
           → Apart 0 (pairBlocks e x b (chain x b) p) → Apart (mapBlock x) (pairBlocks e x b (chain x b) p)
           → Shows s d′ (cut p b x)
@@ -230,8 +205,8 @@ module _ {s : List ℕ} {m : Meta} {c : Change} {images : List ℕ} {n b : ℕ} 
                 λ j l nz nm.
                 let u : j < blocks s = omega (arith, size-is) in
                 ⊎-elim (λ q. q u)
-                (λ a. ap sealed (rest j u a) ∙ f .sketches .shows .pages j l nz nm ∙ sym (framed j nz nm a))
-                (in-or-apart (λ (j : ℕ). j < blocks s → sealed (block d′ j) ≡ encodeBlock (cut p b x) j) j
+                (λ a. ap covered (rest j u a) ∙ f .sketches .shows .pages j l nz nm ∙ sym (framed j nz nm a))
+                (in-or-apart (λ (j : ℕ). j < blocks s → covered (block d′ j) ≡ encodeBlock (cut p b x) j) j
                 (pairBlocks e x b (chain x b) p) shown);
             meta = rest 0 (omega (arith, map-within)) am ∙ f .sketches .shows .meta;
             map = rest (mapBlock x) map-within ab ∙ f .sketches .shows .map;

@@ -22,10 +22,10 @@ use Rattle.image.specs.Decode.{decode}
 use Rattle.frame.specs.Frame.{cutBlocks}
 use Rattle.frame.specs.RemoveLaws.{stands-once, frame-cut}
 use Rattle.view.specs.Reads.{Reads}
-use Rattle.view.specs.ReadsLaws.{reads-laid, reads-size, reads-max, reads-meta}
+use Rattle.view.specs.ReadsLaws.{reads-laid, reads-max, reads-meta}
 use Rattle.draft.specs.Draft.{Draft}
 use Rattle.plan.specs.SketchLaws.{sketch-none}
-use Rattle.plan.specs.StoreLaws.{block-is, store-sealed}
+use Rattle.plan.specs.StoreLaws.{block-is}
 use Rattle.removal.specs.declared.Freed.{Freed}
 use Rattle.removal.specs.Freeing.{freedAt, clears, lowers, Below}
 use Rattle.removal.specs.Cutting.{Sketches, Findable}
@@ -65,8 +65,7 @@ module _ {s : List ℕ} {m : Meta} (r : Reads s m) (p : Pair) where
               sketch = sketch-none g e;
               shows =
                   record {
-                    pages =
-                        λ k l nz nm. store-sealed r k (omega (arith, l, reads-size r)) ∙ block-is r k l;
+                    pages = λ k l nz nm. block-is r k l;
                     meta = refl;
                     map = refl;
                   };

@@ -17,7 +17,7 @@ use Rattle.address.specs.MaskLaws.{split-lt}
 use Rattle.address.specs.BlockLaws.{point-pos, bucket-pos}
 use Rattle.page.specs.Entries.{encodePage}
 use Rattle.store.specs.declared.Change.{Change}
-use Rattle.store.specs.Store.{trailer, sealed}
+use Rattle.store.specs.Store.{trailer, covered}
 use Rattle.model.specs.Index.{idle, Index, chain}
 use Rattle.model.specs.Held.{count, wanted}
 use Rattle.model.specs.Steps.{orFull, begin}
@@ -43,7 +43,7 @@ use Rattle.view.specs.Reads.{Reads}
 use Rattle.view.specs.ReadsLaws.{reads-laid, reads-sized, reads-size, reads-block, reads-meta, reads-max, reads-low}
 use Rattle.plan.specs.Plan.{Plans}
 use Rattle.plan.specs.Shape.{Shaped}
-use Rattle.plan.specs.ShapeLaws.{shaped-length, shaped-sealed, shaped-prev, shaped-flags, shaped-front, shaped-new}
+use Rattle.plan.specs.ShapeLaws.{shaped-length, shaped-covered, shaped-prev, shaped-flags, shaped-front, shaped-new}
 use Rattle.plan.specs.Sketch.{Sketch}
 use Rattle.plan.specs.SketchLaws.{sketch-here, sketch-there, sketch-more, sketch-again, edited}
 use Rattle.plan.specs.StoreLaws.{meta-shape, page-shape, page-few}
@@ -227,17 +227,17 @@ module _ {s : List ℕ} {m : Meta} (r : Reads s m) (y : Index) (b : begin (decod
         plans-of r fields-sketch y (next-laid x l y b) (next-size x l y b) (beginBlocks x)
         (λ k a. frame-begin x l job v k a)
         (λ k a. (a .0, (a .1 .1 .0, (a .1 .1 .0, (a .1 .0, tt))))) (
-          (λ h. ap sealed (sketch-here (u .sketch) 0 zero-at metaPage meta-full) ∙ shaped-sealed meta-length meta-new
+          (λ h. ap covered (sketch-here (u .sketch) 0 zero-at metaPage meta-full) ∙ shaped-covered meta-length meta-new
               ∙ ap (λ (g : Meta). paged (metaFront g) noLink noLink noLink 8) fields
               ∙ sym (meta-image y (next-laid x l y b))),
           (
-            (λ h. ap sealed (sketch-there (u .sketch) 0 zero-at metaPage meta-full (bucketAt s n) new-at
+            (λ h. ap covered (sketch-there (u .sketch) 0 zero-at metaPage meta-full (bucketAt s n) new-at
                 (λ q. block-pos n (sym q)))
-                ∙ shaped-sealed (length-pageFront [] (omega arith)) (u .new) ∙ sym (begin-new x l v)),
+                ∙ shaped-covered (length-pageFront [] (omega arith)) (u .new) ∙ sym (begin-new x l v)),
             (
-              (λ h. ap sealed (sketch-there (u .sketch) 0 zero-at metaPage meta-full (bucketAt s o) old-at
+              (λ h. ap covered (sketch-there (u .sketch) 0 zero-at metaPage meta-full (bucketAt s o) old-at
                   (λ q. block-pos o (sym q)))
-                  ∙ shaped-sealed front (u .old) ∙ sym (begin-old x l v)),
+                  ∙ shaped-covered front (u .old) ∙ sym (begin-old x l v)),
               tt,
             ),
           ),

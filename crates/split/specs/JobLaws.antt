@@ -16,7 +16,7 @@ use Rattle.address.specs.MaskLaws.{split-lt}
 use Rattle.address.specs.BlockLaws.{point-pos, bucket-apart}
 use Rattle.page.specs.Entries.{encodePage}
 use Rattle.store.specs.declared.Change.{Change}
-use Rattle.store.specs.Store.{sealed}
+use Rattle.store.specs.Store.{covered}
 use Rattle.model.specs.Index.{Job, idle, copying, clearing, Index, chain, entriesAt, newBucket, oldBucket, setJob}
 use Rattle.model.specs.Steps.{next, moves, toCopy, step}
 use Rattle.model.specs.HeldLaws.{old-new}
@@ -38,7 +38,7 @@ use Rattle.view.specs.Reads.{Reads}
 use Rattle.view.specs.ReadsLaws.{reads-laid, reads-sized, reads-size, reads-max}
 use Rattle.plan.specs.Plan.{Plans}
 use Rattle.plan.specs.Shape.{Shaped}
-use Rattle.plan.specs.ShapeLaws.{shaped-length, shaped-sealed, shaped-flags}
+use Rattle.plan.specs.ShapeLaws.{shaped-length, shaped-covered, shaped-flags}
 use Rattle.plan.specs.Sketch.{Sketch}
 use Rattle.plan.specs.SketchLaws.{sketch-more, edited}
 use Rattle.plan.specs.StoreLaws.{page-shape, page-few}
@@ -68,11 +68,11 @@ module _ {s : List ℕ} {m : Meta} (r : Reads s m) where
     flagged-full : (v : ℕ) → length (flagged s b v) ≡ 512
     flagged-full v = shaped-length front (flagged-shape v)
 
-    -- sealed, it is the page of the index with another job
+    -- its body is that of the index with another job
     flagged-job : (v : ℕ) (j : Job) → flagsIn j (newBucket (decode s)) (oldBucket (decode s)) b ≡ v
-        → sealed (flagged s b v) ≡ encodeBlock (setJob (decode s) j) (bucketAt s b)
+        → covered (flagged s b v) ≡ encodeBlock (setJob (decode s) j) (bucketAt s b)
     flagged-job v j e =
-        shaped-sealed front (flagged-shape v)
+        shaped-covered front (flagged-shape v)
         ∙ ap (paged (encodePage (chain x b .first) []) (lastSplit (x .maxBucket) b) (pageBlock x b 1) b) (sym e)
         ∙ sym (job-image x (reads-laid r) j b (omega (arith, reads-max r)))
 
@@ -129,8 +129,8 @@ module _ {s : List ℕ} {m : Meta} (r : Reads s m) where
           ),
         )))
         (λ k a. a) (
-          (λ h. ap sealed here-old ∙ flagged-job old old-under 66 clearing old-flags),
-          ((λ h. ap sealed here-new ∙ flagged-job new new-under 2 clearing new-flags), tt),
+          (λ h. ap covered here-old ∙ flagged-job old old-under 66 clearing old-flags),
+          ((λ h. ap covered here-new ∙ flagged-job new new-under 2 clearing new-flags), tt),
         )
         t
       where
@@ -185,7 +185,7 @@ module _ {s : List ℕ} {m : Meta} (r : Reads s m) where
         (frame-all idle busy (step-clears x job left) (bucketAt s old ∷ [])
         (λ k a. frame-cleared x (reads-laid r) job k (a .0, ((λ q. a .1 .0 (q ∙ ap (bucketAt s) (sym is-old))), tt))))
         (λ k a. a)
-        ((λ h. ap sealed here-old ∙ flagged-job old old-under 2 idle refl), tt)
+        ((λ h. ap covered here-old ∙ flagged-job old old-under 2 idle refl), tt)
         t
       where
         busy : decode s .job ≢ idle

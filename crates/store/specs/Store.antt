@@ -34,17 +34,25 @@ trailer prev next bucket flags = le32 prev ++ (le32 next ++ (le32 bucket ++ (le1
 
 -- ---- the check
 
--- what a block's check is worked out from
+-- a block's body: what its check is worked out from
 unfoldable pub covered : List ℕ → List ℕ
 covered l = take 508 l
 
+-- the check that a block should have
+unfoldable pub checkOf : List ℕ → ℕ
+checkOf l = crcOf (covered l)
+
 -- the block with its check written
 unfoldable pub sealed : List ℕ → List ℕ
-sealed l = covered l ++ le32 (crcOf (covered l))
+sealed l = covered l ++ le32 (checkOf l)
+
+-- whether a block's check is right
+unfoldable pub checks : List ℕ → Bool
+checks l = eqb (u32At l 508) (checkOf l)
 
 -- whether the check of block k is right
 unfoldable pub checked : List ℕ → ℕ → Bool
-checked s k = eqb (u32At (block s k) 508) (crcOf (covered (block s k)))
+checked s k = checks (block s k)
 
 -- ---- a change: the first n of the numbers, and the images, block j of which is the new body of the block that the
 -- j-th number names

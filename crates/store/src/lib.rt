@@ -14,9 +14,8 @@ ghost use Prim.Native.Nat.{_+_, _*_, _≤_, _<_};
 ghost use lib.ListN.{length, getD};
 ghost use lib.Seq.{sets};
 ghost use Rattle.lists.specs.Block.{block, setBlock};
-ghost use Rattle.crc32c.specs.Crc.{crcOf};
 ghost use Rattle.store.specs.Store.{prevAt, nextAt, bucketAt, flagsAt, idAt, trailer};
-ghost use Rattle.store.specs.Store.{covered, sealed, checked, seals, stored, commits, Fits};
+ghost use Rattle.store.specs.Store.{checkOf, sealed, checks, seals, stored, commits, Fits};
 ghost use Rattle.store.specs.Finish.{finished};
 
 // Block `k`, as a part of the store.
@@ -89,17 +88,16 @@ pub fn put_trailer(image: &mut [u8], prev: u32, next: u32, bucket: u32, flags: u
 // The check that a block should have.
 fn check_of(part: &[u8]) -> u32
     requires { ⌜ length (now part) ≡ 512 ⌝ }
-    ensures { λ r. ⌜ r ≡ crcOf (covered (now (part .entry))) ⌝ }
+    ensures { λ r. ⌜ r ≡ checkOf (now (part .entry)) ⌝ }
 {
     crc32c(&part[..508])
 }
 
-// Whether the check of block `k` is right.
-pub fn check_block(store: &[u8], k: usize) -> bool
-    requires { ⌜ 512 * k + 512 ≤ length (now store) ⌝ }
-    ensures { λ r. ⌜ r ≡ checked (now (store .entry)) k ⌝ }
+// Whether a block's check is right.
+pub fn check_block(part: &[u8]) -> bool
+    requires { ⌜ length (now part) ≡ 512 ⌝ }
+    ensures { λ r. ⌜ r ≡ checks (now (part .entry)) ⌝ }
 {
-    let part = block_at(store, k);
     get_u32(part, 508) == check_of(part)
 }
 

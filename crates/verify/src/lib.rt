@@ -84,7 +84,7 @@ fn judge(store: &[u8]) -> Verdict
     let size = store.len() / 512;
     let mut k = 0;
     while k < size {
-        if !check_block(store, k) {
+        if !check_block(block_at(store, k)) {
             return Verdict::Damaged { block: k as u32 };
         }
         k += 1;

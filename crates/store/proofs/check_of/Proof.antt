@@ -1,7 +1,7 @@
 use mathlib.Core.Path.{sym}
 use native.Mathlib.Omega.{arith}
 use lib.Seq.{length-take-le}
-use Rattle.store.specs.Store.{covered}
+use Rattle.store.specs.Store.{covered, checkOf}
 use borrow.Author.Needs.{needs}
 use Rattle.store.proofs.check_of.Statement.{statement}
 use Rattle.store.proofs.check_of.Tie as tie
@@ -13,7 +13,7 @@ crc32c-requires : tie.Need-crc32c-requires
 crc32c-requires c κs = search needs
 
 returns : tie.Need-returns
-unfolding covered
+unfolding checkOf covered
 returns c = cc
 
 pub check-of-spec : {M : Type 1} → statement M

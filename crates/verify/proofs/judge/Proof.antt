@@ -1,8 +1,11 @@
-use mathlib.Core.Path.{_≡_, sym, _∙_}
+use mathlib.Core.Path.{_≡_, sym, ap, _∙_}
 use Prim.Native.Nat.{_-_, _≤_}
 use native.Mathlib.Omega.{arith}
 use borrow.Author.Tests.{not-true, not-false}
+use lib.ListN.{length}
 use Rattle.lists.specs.Block.{blocks}
+use Rattle.lists.specs.BlockLaws.{length-block}
+use Rattle.store.specs.Store.{checks, checked}
 use Rattle.image.specs.Rules.{lowestDamaged}
 use Rattle.chain.specs.WalkLaws.{lengthOk-sized}
 use Rattle.verify.proofs.Judging.{damagedFrom, damaged-start, damaged-here, damaged-later, undamaged}
@@ -18,25 +21,37 @@ abbrev μ-loop : tie.MeasureT-loop
 loop-holds : tie.Need-loop-holds Inv-loop μ-loop
 loop-holds c = (omega arith, damaged-start (c .before .args .store .now))
 
-check-block-requires : tie.Need-check-block-requires Inv-loop μ-loop
-check-block-requires c κs = omega arith
+block-at-requires : tie.Need-block-at-requires Inv-loop μ-loop
+block-at-requires c κs = omega arith
 
-cast-t7 : tie.Need-cast-t7 Inv-loop μ-loop
+check-block-requires : tie.Need-check-block-requires Inv-loop μ-loop
+check-block-requires c κs =
+    let l = c .before .before in
+    ap length (c .block-at .ensures) ∙ length-block (l .before .before .args .store .now) (l .loop .k) (omega arith)
+
+-- what the test of a block tells
+check : (c : tie.After-check-block Inv-loop μ-loop)
+    → let l = c .before .before .before in
+    checked (l .before .before .args .store .now) (l .loop .k) ≡ c .check-block .result
+unfolding checked
+check c = sym (c .check-block .ensures ∙ ap checks (c .before .block-at .ensures))
+
+cast-t8 : tie.Need-cast-t8 Inv-loop μ-loop
 unfolding blocks
-cast-t7 c =
-    let s = c .before .before .before .before .before in
+cast-t8 c =
+    let s = c .before .before .before .before .before .before in
     omega (arith, lengthOk-sized (s .args .store .now) (s .pre) .few)
 
 returns : tie.Need-returns Inv-loop μ-loop
 unfolding blocks
 returns c =
     let n = c .before in
-    let l = n .before .before in
+    let l = n .before .before .before in
     let s = l .before .before in
     let a = s .args in
     let inv = l .loop .inv .1 in
-    damaged-here (a .store .now) (l .loop .k) inv (n .before .loop-test .taken)
-    (sym (n .check-block .ensures) ∙ not-true (n .check-block .result) (c .if1 .taken))
+    damaged-here (a .store .now) (l .loop .k) inv (n .before .before .loop-test .taken)
+    (check n ∙ not-true (n .check-block .result) (c .if1 .taken))
 
 add-k : tie.Need-add-k Inv-loop μ-loop
 add-k c = omega arith
@@ -48,13 +63,13 @@ loop-again : tie.Need-loop-again Inv-loop μ-loop
 unfolding blocks
 loop-again c =
     let n = c .before in
-    let l = n .before .before in
+    let l = n .before .before .before in
     let s = l .before .before in
     let a = s .args in
     let inv = l .loop .inv .1 in (
       omega arith,
-      damaged-later (a .store .now) (l .loop .k) inv (n .before .loop-test .taken)
-          (sym (n .check-block .ensures) ∙ not-false (n .check-block .result) (c .if1 .left)),
+      damaged-later (a .store .now) (l .loop .k) inv (n .before .before .loop-test .taken)
+          (check n ∙ not-false (n .check-block .result) (c .if1 .left)),
     )
 
 judge-rules-requires : tie.Need-judge-rules-requires Inv-loop μ-loop
@@ -75,8 +90,9 @@ judge-spec =
     Inv-loop
     μ-loop
     loop-holds
+    block-at-requires
     check-block-requires
-    cast-t7
+    cast-t8
     returns
     add-k
     loop-less

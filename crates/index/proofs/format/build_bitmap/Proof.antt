@@ -3,9 +3,9 @@ use mathlib.Core.List.{List, _++_}
 use Prim.Native.Nat.{ℕ}
 use lib.ListN.{replicate}
 use lib.Seq.{sets}
-use Rattle.store.specs.Store.{trailer, sealed}
+use Rattle.store.specs.Store.{trailer, covered}
 use Rattle.store.specs.Flags.{noLink}
-use Rattle.index.proofs.Bodies.{sealed-trailer}
+use Rattle.index.proofs.Bodies.{covered-trailer}
 use borrow.Author.Needs.{needs}
 use Rattle.index.proofs.format.build_bitmap.Statement.{statement}
 use Rattle.index.proofs.format.build_bitmap.Tie as tie
@@ -31,9 +31,9 @@ put-trailer-requires c κs = search needs
 returns : tie.Need-returns
 returns c =
     let ones = c .before .before .before .before .copy-over .ensures in
-    ap sealed (c .before .put-trailer .ensures)
-    ∙ ap (λ (x : List ℕ). sealed (sets (x ++ replicate 256 0) 492 (trailer noLink noLink noLink 4))) ones
-    ∙ sealed-trailer (replicate 256 255 ++ replicate 236 0) (replicate 20 0) noLink noLink noLink 4 refl refl
+    ap covered (c .before .put-trailer .ensures)
+    ∙ ap (λ (x : List ℕ). covered (sets (x ++ replicate 256 0) 492 (trailer noLink noLink noLink 4))) ones
+    ∙ covered-trailer (replicate 256 255 ++ replicate 236 0) (replicate 20 0) noLink noLink noLink 4 refl refl
 
 pub build-bitmap-spec : {M : Type 1} → statement M
 build-bitmap-spec =

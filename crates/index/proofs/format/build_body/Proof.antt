@@ -2,7 +2,7 @@ use mathlib.Core.Path.{sym, ap, _∙_}
 use native.Mathlib.Omega.{arith}
 use Rattle.outcomes.specs.Format.{formatBlock}
 use Rattle.outcomes.specs.FormatLaws.{format-unused}
-use Rattle.index.proofs.Bodies.{sealed-zeros}
+use Rattle.index.proofs.Bodies.{covered-zeros}
 use borrow.Author.Needs.{needs}
 use Rattle.index.proofs.format.build_body.Statement.{statement}
 use Rattle.index.proofs.format.build_body.Tie as tie
@@ -46,7 +46,7 @@ returns-4 c =
 returns-5 : tie.Need-returns-5
 returns-5 c =
     let a = c .before .args in
-    sealed-zeros ∙ sym (format-unused (a .size) (a .fill) (a .k) (omega arith))
+    covered-zeros ∙ sym (format-unused (a .size) (a .fill) (a .k) (omega arith))
 
 pub build-body-spec : {M : Type 1} → statement M
 build-body-spec =

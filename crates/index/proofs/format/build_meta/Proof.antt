@@ -4,11 +4,11 @@ use Prim.Native.Nat.{ℕ}
 use lib.ListN.{replicate}
 use lib.Seq.{sets}
 use Rattle.endian.specs.Endian.{le16, le32}
-use Rattle.store.specs.Store.{trailer, sealed}
+use Rattle.store.specs.Store.{trailer, covered}
 use Rattle.image.specs.Layout.{metaFront}
 use Rattle.store.specs.Flags.{noLink}
 use Rattle.outcomes.specs.Format.{formatMeta}
-use Rattle.index.proofs.Bodies.{sealed-trailer}
+use Rattle.index.proofs.Bodies.{covered-trailer}
 use borrow.Author.Needs.{needs}
 use Rattle.index.proofs.format.build_meta.Statement.{statement}
 use Rattle.index.proofs.format.build_meta.Tie as tie
@@ -32,10 +32,10 @@ returns : tie.Need-returns
 unfolding metaFront formatMeta le16 le32
 returns c =
     let a = c .before .before .before .before .before .before .args in
-    ap sealed (c .before .put-trailer .ensures)
-    ∙ ap (λ (x : List ℕ). sealed (sets x 492 (trailer noLink noLink noLink 8)))
+    ap covered (c .before .put-trailer .ensures)
+    ∙ ap (λ (x : List ℕ). covered (sets x 492 (trailer noLink noLink noLink 8)))
     (c .before .before .before .before .put-meta .ensures)
-    ∙ sealed-trailer (formatMeta (a .size) (a .fill)) (replicate 20 0) noLink noLink noLink 8 refl refl
+    ∙ covered-trailer (formatMeta (a .size) (a .fill)) (replicate 20 0) noLink noLink noLink 8 refl refl
 
 pub build-meta-spec : {M : Type 1} → statement M
 build-meta-spec =

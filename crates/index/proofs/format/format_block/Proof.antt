@@ -1,6 +1,7 @@
 use mathlib.Core.Path.{refl, ap, _∙_}
 use lib.ListN.{replicate}
 use Rattle.lists.specs.Block.{setBlock}
+use Rattle.store.specs.CheckLaws.{sealed-body}
 use Rattle.index.proofs.Blocks.{fits-one, finished-one}
 use borrow.Author.Needs.{needs}
 use Rattle.index.proofs.format.format_block.Statement.{statement}
@@ -36,7 +37,7 @@ returns c =
     let a = b .before .before .args in
     c .before .before .before .finish .ensures
     ∙ finished-one (a .store .now) _ (replicate 4096 0) (b .build-body .result) _ refl (search needs) (p .put-block .ensures)
-    ∙ ap (setBlock (a .store .now) (a .k)) (b .build-body .ensures)
+    ∙ ap (setBlock (a .store .now) (a .k)) (sealed-body (b .build-body .result) _ (b .build-body .ensures))
 
 pub format-block-spec : {M : Type 1} → statement M
 format-block-spec =

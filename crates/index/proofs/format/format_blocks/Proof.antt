@@ -1,16 +1,18 @@
 use mathlib.Core.Path.{_≡_, refl, _∙_}
+use mathlib.Core.List.{List}
 use Prim.Native.Nat.{ℕ, _-_, _≤_, _<_}
 use native.Mathlib.Omega.{arith}
 use lib.ListN.{length}
 use Rattle.lists.specs.Block.{blocks, block}
+use Rattle.store.specs.Store.{sealed}
 use Rattle.outcomes.specs.Format.{formatBlock}
-use Rattle.index.proofs.Blocks.{turn, written, length-formatBlock}
+use Rattle.index.proofs.Blocks.{turn, written, length-formatted}
 use Rattle.index.proofs.format.format_blocks.Statement.{statement}
 use Rattle.index.proofs.format.format_blocks.Tie as tie
 
 abbrev Inv-loop : tie.InvT-loop
 Inv-loop store₀ fill size k₀ store k =
-    (k ≤ size) × (length store ≡ length store₀) × ((j : ℕ) → j < k → block store j ≡ formatBlock size fill j)
+    (k ≤ size) × (length store ≡ length store₀) × ((j : ℕ) → j < k → block store j ≡ sealed (formatBlock size fill j))
 
 abbrev μ-loop : tie.MeasureT-loop
 μ-loop store₀ fill size k₀ store k = size - k
@@ -39,8 +41,8 @@ loop-again c =
     let l = c .before .before .before .before .before .loop in
     let a = c .before .before .before .before .before .before .before .args in
     let n = blocks (a .store .now) in
-    let f = formatBlock n (a .fill) in
-    let whole = length-formatBlock n (a .fill) in (
+    let f : ℕ → List ℕ = λ k. sealed (formatBlock n (a .fill) k) in
+    let whole = length-formatted n (a .fill) in (
       omega arith,
       p .kept .0 ∙ l .inv .1,
       turn f whole (l .store) _ (l .k) (p .ensures) (omega arith) (l .inv .2),
@@ -55,8 +57,8 @@ returns c =
     let l = c .before .loop in
     let s = c .before .before .before in
     let n = blocks (s .args .store .now) in
-    let f = formatBlock n (s .args .fill) in
-    let whole = length-formatBlock n (s .args .fill) in
+    let f : ℕ → List ℕ = λ k. sealed (formatBlock n (s .args .fill) k) in
+    let whole = length-formatted n (s .args .fill) in
     written f whole n (l .store) (l .inv .1 ∙ s .pre .whole) (λ j h. l .inv .2 j (omega arith))
 
 pub format-blocks-spec : {M : Type 1} → statement M
