@@ -1,3 +1,5 @@
 pub mod Walking
 pub mod Slots
 pub mod Searching
+pub mod Paging
+pub mod Tallies

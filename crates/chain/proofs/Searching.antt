@@ -65,7 +65,7 @@ module _ {s bs : List ℕ} {n : ℕ} (ok : Within s bs n) (i : ℕ) where
     unfolding findIn
     pair-nowhere p left = ap (foundAs s p) (left ∙ search-end ok i (pairOn s p) past)
 
-    pub room-nowhere : RoomLeft → roomIn s (take n bs) ≡ Room.Full (getD bs (n - 1) 0)
+    pub room-nowhere : 1 ≤ n → RoomLeft → roomIn s (take n bs) ≡ Room.Full (getD bs (n - 1) 0)
     unfolding roomIn
-    room-nowhere left =
-        ap (roomAs (lastOf (take n bs))) (left ∙ search-end ok i (roomOn s) past) ∙ ap Room.Full (within-last ok)
+    room-nowhere least left =
+        ap (roomAs (lastOf (take n bs))) (left ∙ search-end ok i (roomOn s) past) ∙ ap Room.Full (within-last ok least)

@@ -5,6 +5,10 @@ pub mod Within
 pub mod WithinLaws
 pub mod Search
 pub mod SearchLaws
+pub mod Next
+pub mod NextLaws
+pub mod PairsLaws
+pub mod Along
 pub mod Bitmap
 pub mod BitmapLaws
 pub mod DecodeLaws

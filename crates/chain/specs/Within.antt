@@ -23,7 +23,6 @@ module _ (s : List ℕ) where
   module _ (bs : List ℕ) (n : ℕ) where
     -- the number is right, and the blocks are the store's
     pub record Within : Type 0 where
-      pub some : 1 ≤ n
       pub few : n ≤ suc maxBlocks
       pub count : length (take n bs) ≡ n
       pub inside : Each (λ k. k < blocks s) (take n bs)

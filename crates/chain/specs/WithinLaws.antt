@@ -1,5 +1,5 @@
 -- Loops over a walk by index: the block at index i, a search in the blocks from it on, and the entries on them.
-use mathlib.Core.Path.{_≡_, sym, ap, ap₂, _∙_}
+use mathlib.Core.Path.{_≡_, refl, sym, ap, ap₂, _∙_}
 use mathlib.Core.Bool.{Bool, true, false}
 use mathlib.Core.List.{List, [], _∷_, _++_}
 use mathlib.Core.Option.{none, some}
@@ -36,7 +36,6 @@ module _ {s : List ℕ} {first : ℕ} {w : Walk} (held : Walked s first w) where
   pub walked-within : Sized s → Each (λ k. k < blocks s) (walk s first) → Within s (w .blocks) (w .count)
   walked-within sized inside =
       record {
-        some = walked-some;
         few = walked-few sized;
         count = ap length (held .blocks) ∙ sym (held .count);
         inside = rw (held .blocks) inside;
@@ -102,8 +101,11 @@ module _ {s bs : List ℕ} {n : ℕ} (ok : Within s bs n) (i : ℕ) where
   rest-done past = ap (λ (ks : List ℕ). bind ks (entriesOn s)) (walk-done past)
 
 -- the last block of the walk is the last that the array holds
-pub within-last : {s bs : List ℕ} {n : ℕ} → Within s bs n → lastOf (take n bs) ≡ getD bs (n - 1) 0
-within-last {s} {bs} {n} ok =
-    let e : pred (length (take n bs)) ≡ n - 1 = omega (arith, ok .count, ok .some) in
-    ap (λ (j : ℕ). getD (take n bs) j 0) e
-    ∙ getD-take n bs (n - 1) 0 (omega (arith, ok .some))
+pub within-last : {s bs : List ℕ} {n : ℕ} → Within s bs n → 1 ≤ n → lastOf (take n bs) ≡ getD bs (n - 1) 0
+within-last {s} {bs} {n} ok least =
+    let e : pred (length (take n bs)) ≡ n - 1 = omega (arith, ok .count) in
+    ap (λ (j : ℕ). getD (take n bs) j 0) e ∙ getD-take n bs (n - 1) 0 (omega arith)
+
+-- a walk of no block
+pub within-none : (s bs : List ℕ) → Within s bs 0
+within-none s bs = record { few = omega arith; count = refl; inside = tt }

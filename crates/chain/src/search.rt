@@ -10,6 +10,7 @@ use page::search::find_place;
 use page::slots::count_entries;
 use page::slots::get_entry;
 ghost use mathlib.Core.Path.{_≡_};
+ghost use Prim.Native.Nat.{_≤_};
 ghost use lib.ListN.{take};
 ghost use Rattle.page.specs.Entries.{entriesOf};
 ghost use Rattle.page.specs.Rule.{Sorted};
@@ -32,8 +33,7 @@ pub fn find_slot(page: &[u8], pair: Pair) -> Slot
 
 // The first page of the walk that has the pair, and the pair's slot in it.
 pub fn find_pair(store: &[u8], blocks: &[u32; MAX_BLOCKS + 1], count: usize, pair: Pair) -> Found
-    requires { ⌜ Within (now store) (now blocks) count ⌝ }
-    requires { ⌜ PagesOk (now store) (take count (now blocks)) ⌝ }
+    requires { ⌜ (Within (now store) (now blocks) count) × (PagesOk (now store) (take count (now blocks))) ⌝ }
     ensures { λ r. ⌜ r ≡ findIn (now (store .entry)) (take count (now (blocks .entry))) pair ⌝ }
 {
     let mut i = 0;
@@ -52,7 +52,7 @@ pub fn find_pair(store: &[u8], blocks: &[u32; MAX_BLOCKS + 1], count: usize, pai
 
 // The first page of the walk with fewer than 40 entries, else the walk's last block.
 pub fn first_room(store: &[u8], blocks: &[u32; MAX_BLOCKS + 1], count: usize) -> Room
-    requires { ⌜ Within (now store) (now blocks) count ⌝ }
+    requires { ⌜ (Within (now store) (now blocks) count) × (1 ≤ count) ⌝ }
     ensures { λ r. ⌜ r ≡ roomIn (now (store .entry)) (take count (now (blocks .entry))) ⌝ }
 {
     let mut i = 0;

@@ -1,24 +1,23 @@
 // The first entry of the old bucket's chain that a step copies or clears.
 use crate::Mover;
 use address::bucket_of;
+use address::limits::MAX_BLOCKS;
 use address::parent_of;
 use chain::Found;
-use chain::Walk;
+use chain::links::page_on;
 use image::Meta;
 use page::Entry;
 use page::slots::count_entries;
 use page::slots::get_entry;
 use reader::buckets::walk_bucket;
-use store::block_at;
 use view::chains::find_in;
 ghost use mathlib.Core.Path.{_≡_};
-ghost use Prim.Native.Nat.{_<_};
+ghost use lib.ListN.{take};
 ghost use Rattle.lists.specs.Lists.{find, bind};
-ghost use Rattle.lists.specs.Block.{blocks, block};
+ghost use Rattle.page.specs.Entries.{entriesOf};
 ghost use Rattle.page.specs.Rule.{Sorted};
 ghost use Rattle.model.specs.Index.{entriesAt, oldBucket};
 ghost use Rattle.image.specs.Decode.{decode};
-ghost use Rattle.chain.specs.Walk.{blocksOf};
 ghost use Rattle.chain.specs.Within.{entriesOn, PagesOk, Within};
 ghost use Rattle.view.specs.Reads.{Reads};
 ghost use Rattle.split.specs.Mover.{movable, moverOf};
@@ -44,12 +43,11 @@ fn is_movable(store: &[u8], m: Meta, copying: bool, e: Entry) -> bool
     }
 }
 
-fn first_in_page(store: &[u8], m: Meta, copying: bool, k: u32) -> Mover
-    requires { ⌜ (Reads (now store) m) × (k < blocks (now store)) × (Sorted (block (now store) k)) ⌝ }
+fn first_in_page(page: &[u8], store: &[u8], m: Meta, copying: bool) -> Mover
+    requires { ⌜ (Sorted (now page)) × (Reads (now store) m) ⌝ }
     ensures { λ r. ⌜ r ≡ moverOf (find (movable copying (decode (now (store .entry))))
-        (entriesOn (now (store .entry)) k)) ⌝ }
+        (entriesOf (now (page .entry)))) ⌝ }
 {
-    let page = block_at(store, k as usize);
     let n = count_entries(page);
     let mut i = 0;
     while i < n {
@@ -62,16 +60,21 @@ fn first_in_page(store: &[u8], m: Meta, copying: bool, k: u32) -> Mover
     Mover::Nothing
 }
 
-fn first_in_walk(store: &[u8], m: Meta, copying: bool, walk: Walk) -> Mover
-    requires { ⌜ (Reads (now store) m) × (Within (now store) walk) × (PagesOk (now store) (blocksOf walk)) ⌝ }
+fn first_in_walk(
+    store: &[u8],
+    blocks: &[u32; MAX_BLOCKS + 1],
+    count: usize,
+    m: Meta,
+    copying: bool,
+) -> Mover
+    requires { ⌜ (Within (now store) (now blocks) count) × (PagesOk (now store) (take count (now blocks)))
+        × (Reads (now store) m) ⌝ }
     ensures { λ r. ⌜ r ≡ moverOf (find (movable copying (decode (now (store .entry))))
-        (bind (blocksOf walk) (entriesOn (now (store .entry))))) ⌝ }
+        (bind (take count (now (blocks .entry))) (entriesOn (now (store .entry))))) ⌝ }
 {
-    let blocks = walk.blocks;
-    let count = walk.count;
     let mut i = 0;
     while i < count {
-        let found = first_in_page(store, m, copying, blocks[i]);
+        let found = first_in_page(page_on(store, blocks, count, i), store, m, copying);
         if let Mover::At(e) = found {
             return Mover::At(e);
         }
@@ -86,5 +89,8 @@ pub fn first_mover(store: &[u8], m: Meta, copying: bool) -> Mover
     ensures { λ r. ⌜ r ≡ moverOf (find (movable copying (decode (now (store .entry))))
         (entriesAt (decode (now (store .entry))) (oldBucket (decode (now (store .entry)))))) ⌝ }
 {
-    first_in_walk(store, m, copying, walk_bucket(store, m, parent_of(m.max)))
+    let walk = walk_bucket(store, m, parent_of(m.max));
+    let blocks = walk.blocks;
+    let count = walk.count;
+    first_in_walk(store, &blocks, count, m, copying)
 }

@@ -4,7 +4,7 @@ use mathlib.Core.Bool.{Bool, true}
 use mathlib.Core.List.{List, [], _∷_, map}
 use Prim.Native.Nat.{ℕ, zero, suc, _≤_, _<_}
 use native.Mathlib.Omega.{arith}
-use lib.ListN.{length, getD, length-map}
+use lib.ListN.{length, getD, take, length-map}
 use Rattle.lists.specs.Lists.{all, bind, Each}
 use Rattle.lists.specs.RunLaws.{all-get}
 use Rattle.lists.specs.Block.{blocks, block}
@@ -30,7 +30,6 @@ use Rattle.chain.specs.Within.{entriesOn, PagesOk, Within}
 use Rattle.chain.specs.WithinLaws.{walked-within}
 use Rattle.chain.specs.DecodeLaws.{chain-decode, entries-walk}
 use Rattle.view.specs.Reads.{Reads}
-use Rattle.view.specs.Places.{Walks}
 use Rattle.view.specs.ReadsLaws.{reads-laid, reads-sized, reads-size, reads-max}
 
 module _ {s : List ℕ} {m : Meta} (r : Reads s m) (b : ℕ) (made : b ≤ m .max) where
@@ -93,20 +92,33 @@ module _ {s : List ℕ} {m : Meta} (r : Reads s m) (b : ℕ) (made : b ≤ m .ma
           (omega (arith, length-map (trail s b) (readPage s)))
           ∙ ap (λ (g : Page). g .entries) (getD-map (readPage s) (trail s b) j noLink (readPage s noLink) l))
 
-  -- ---- a Walk of it
+  -- ---- its blocks, the first n of bs
 
-  pub walked-walks : (w : Walk) → Walked s (blockOf s b) w → Walks (decode s) b w
-  walked-walks w h = record { blocks = h .blocks ∙ walk-read; count = h .count ∙ ap length (sym (h .blocks)) }
-
-  module _ {w : Walk} (h : Walks (decode s) b w) where
-    pub walks-within : Within s w
-    walks-within =
-        let e : blocksOf w ≡ walk s (blockOf s b) = h .blocks ∙ sym walk-read in
-        walked-within (record { blocks = e; count = h .count ∙ ap length e }) (reads-sized r)
+  module _ (bs : List ℕ) (n : ℕ) (e : take n bs ≡ chainBlocks (decode s) b (chain (decode s) b))
+      (number : n ≡ length (take n bs)) where
+    pub blocks-within : Within s bs n
+    blocks-within =
+        let w : take n bs ≡ walk s (blockOf s b) = e ∙ sym walk-read in
+        walked-within (record { blocks = w; count = number ∙ ap length w }) (reads-sized r)
         (subst (Each (λ k. k < blocks s)) (sym walk-read) blocks-inside)
 
+    pub blocks-pages : PagesOk s (take n bs)
+    blocks-pages = subst (PagesOk s) (sym e) pages-read
+
+  -- ---- a Walk of it
+
+  module _ {w : Walk} (held : Walked s (blockOf s b) w) where
+    pub walks-blocks : blocksOf w ≡ chainBlocks (decode s) b (chain (decode s) b)
+    walks-blocks = held .blocks ∙ walk-read
+
+    pub walks-count : w .count ≡ length (blocksOf w)
+    walks-count = held .count ∙ ap length (sym (held .blocks))
+
+    pub walks-within : Within s (w .blocks) (w .count)
+    walks-within = blocks-within (w .blocks) (w .count) walks-blocks walks-count
+
     pub walks-pages : PagesOk s (blocksOf w)
-    walks-pages = subst (PagesOk s) (sym (h .blocks)) pages-read
+    walks-pages = blocks-pages (w .blocks) (w .count) walks-blocks walks-count
 
     pub walks-entries : bind (blocksOf w) (entriesOn s) ≡ entriesAt (decode s) b
-    walks-entries = ap (λ (ks : List ℕ). bind ks (entriesOn s)) (h .blocks) ∙ entries-read
+    walks-entries = ap (λ (ks : List ℕ). bind ks (entriesOn s)) walks-blocks ∙ entries-read

@@ -16,8 +16,9 @@ use Rattle.model.specs.HeldLaws.{is-parts, stands-none, held-is}
 use Rattle.frame.specs.Frame.{pageBlock, pageEntries, pairPlace}
 use Rattle.chain.specs.declared.Found.{Found}
 use Rattle.chain.specs.Search.{isFound}
+use Rattle.chain.specs.Along.{orElse}
 use Rattle.view.specs.declared.Sources.{Sources}
-use Rattle.view.specs.Places.{findAt, sourcesOf, orElse, heldBy, heldAt}
+use Rattle.view.specs.Places.{findAt, sourcesOf, heldBy, heldAt}
 use Rattle.view.specs.SourcesLaws.{entriesBy, sources-by, sources-both}
 
 -- ---- in a chain
@@ -122,13 +123,3 @@ module _ (x : Index) (p : Pair) where
   pub held-home : (b : ℕ) → sourcesOf x (p .hash) ≡ Sources.Home b → findAt x b p ≡ heldAt x p
   unfolding heldAt
   held-home b e = ap (heldBy x p) (sym e)
-
-  module _ (new old : ℕ) (both : sourcesOf x (p .hash) ≡ Sources.Both new old) where
-    pub held-old : (k n : ℕ) → findAt x old p ≡ Found.At k n → findAt x old p ≡ heldAt x p
-    unfolding heldAt
-    held-old k n f =
-        f ∙ ap (λ (g : Found). orElse g (findAt x new p)) (sym f) ∙ ap (heldBy x p) (sym both)
-
-    pub held-new : findAt x old p ≡ Found.Nothing → findAt x new p ≡ heldAt x p
-    unfolding heldAt
-    held-new f = ap (λ (g : Found). orElse g (findAt x new p)) (sym f) ∙ ap (heldBy x p) (sym both)

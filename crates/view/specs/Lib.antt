@@ -6,7 +6,8 @@ pub mod ChainLaws
 pub mod PlacesLaws
 pub mod SourcesLaws
 pub mod HeldLaws
-pub mod Next
-pub mod NextLaws
-pub mod PairsLaws
+pub mod SourcePairsLaws
+pub mod SourcedLaws
+pub mod Lookup
+pub mod AfterLaws
 pub mod LookupLaws

@@ -1,20 +1,20 @@
--- The matches of a hash code one after the other: they ascend from the lowest pair of the code, which is none of them, and each
--- is the next match after the one before it.
+-- The matches of a hash code ascend from the lowest pair of the code, which is none of them; and the answer, by their
+-- number.
 use mathlib.Core.Path.{_≡_, refl, sym, ap, _∙_}
 use mathlib.Core.Bool.{Bool, true, false}
 use mathlib.Core.List.{List, _∷_}
-use Prim.Native.Nat.{ℕ, suc, _/_, _≤_, _<_}
+use Prim.Native.Nat.{ℕ, _/_, _≤_, _<_}
 use native.Mathlib.Omega.{arith}
 use borrow.Author.Tests.{eq-eqb, le-ltb, le-leb, lt-leb}
 use lib.Dec.{eqb}
-use lib.ListN.{length, getD, drop}
+use lib.ListN.{length, take}
 use Rattle.lists.specs.Lists.{Each}
 use Rattle.lists.specs.ListsLaws.{eqb-eq}
 use Rattle.page.specs.declared.Pair.{Pair}
 use Rattle.page.specs.declared.Entry.{Entry}
 use Rattle.page.specs.Pair.{same, before, badPair, ascending}
 use Rattle.page.specs.PairLaws.{no-way, same-eq, before-other, before-hash}
-use Rattle.page.specs.SublistLaws.{each-getD, each-map}
+use Rattle.page.specs.SublistLaws.{each-map}
 use Rattle.page.specs.AscendingLaws.{ascending-cons}
 use Rattle.page.specs.RunLaws.{lowest}
 use Rattle.model.specs.Index.{Index, chain, entriesAt}
@@ -23,12 +23,16 @@ use Rattle.model.specs.declared.Refusal.{Refusal}
 use Rattle.model.specs.declared.LookupAnswer.{LookupAnswer}
 use Rattle.model.specs.Calls.{Looked, lookup}
 use Rattle.model.specs.WellFormed.{EntryOk, WF}
+use Rattle.image.specs.declared.Meta.{Meta}
+use Rattle.image.specs.Decode.{decode}
 use Rattle.model.specs.ChainOkLaws.{entries-ok}
 use Rattle.model.specs.MatchesLaws.{matches-ascending}
-use Rattle.view.specs.declared.Next.{Next}
-use Rattle.view.specs.Next.{nextAfter, nextMatch, written}
-use Rattle.view.specs.NextLaws.{headOf, next-skip, next-getD}
-use Rattle.view.specs.PairsLaws.{each-matches}
+use Rattle.chain.specs.Along.{pairsAlong}
+use Rattle.view.specs.Reads.{Reads}
+use Rattle.view.specs.Places.{Sourced}
+use Rattle.view.specs.Lookup.{written, Listable}
+use Rattle.view.specs.SourcedLaws.{sourced-matches}
+use Rattle.view.specs.SourcePairsLaws.{each-matches}
 
 -- the lowest pair of a hash code stands before every pair that an entry may have
 lowest-before : (p : Pair) (h : ℕ) → p .hash ≡ h → badPair p ≡ false → before (lowest h) p ≡ true
@@ -43,10 +47,6 @@ lowest-before p h e good =
         let t : badPair p ≡ true = rw (eq-eqb (p .offset) 0 (sym o)) in
         no-way t good
 
--- the lowest pair of a hash code, and then the matches
-abbrev pub fromLowest : Index → ℕ → List Pair
-fromLowest x h = lowest h ∷ matches x h
-
 module _ (x : Index) (w : WF x) (h : ℕ) where
   each-of : (P : Pair → Type 0) → ((p : Pair) → p .hash ≡ h → badPair p ≡ false → P p) → Each P (matches x h)
   each-of P f =
@@ -55,24 +55,23 @@ module _ (x : Index) (w : WF x) (h : ℕ) where
       (λ e ok m. f (e .pair) (eqb-eq (e .pair .hash) h m) (ok .good)) (entriesAt x b)
       (entries-ok (chain x b) (w .laid .pages b)))
 
-  from-ascending : ascending self (fromLowest x h) ≡ true
-  from-ascending =
+  pub matches-listed : ascending self (lowest h ∷ matches x h) ≡ true
+  matches-listed =
       ascending-cons self (lowest h) (matches x h)
       (each-of (λ p. before (lowest h) p ≡ true) (λ p e g. lowest-before p h e g)) (matches-ascending x w h)
 
-  module _ (i : ℕ) (d : Pair) (inside : i ≤ length (matches x h)) where
-    hash-is : getD (fromLowest x h) i d .hash ≡ h
-    hash-is =
-        each-getD (λ p. p .hash ≡ h) (fromLowest x h) i d (refl, each-of (λ p. p .hash ≡ h) (λ p e g. e)) (omega arith)
-
-    -- after the pair at place i of these comes the match i
-    pub next-listed : nextMatch x (getD (fromLowest x h) i d) ≡ headOf (drop i (matches x h))
-    unfolding nextMatch
-    next-listed =
-        let a : Pair = getD (fromLowest x h) i d in
-        ap (λ (k : ℕ). nextAfter a (matches x k)) hash-is
-        ∙ sym (next-skip a (lowest h) (matches x h) (before-hash a h ∙ le-ltb (a .hash) h (omega (arith, hash-is))))
-        ∙ next-getD (fromLowest x h) i d from-ascending (omega arith)
+-- where there is room for them, the pairs along the walks of the sources can be written
+module _ {s : List ℕ} {m : Meta} (r : Reads s m) (h : ℕ) {own : List ℕ} {n : ℕ} {old : List ℕ} {k : ℕ} {fresh : Bool}
+    (w : Sourced (decode s) h own n old k fresh) (out : List ℕ) where
+  pub sourced-listable : (c : ℕ) → c ≡ length (pairsAlong s (take n own) (take k old) h fresh) → c ≤ length out / 6
+      → Listable (pairsAlong s (take n own) (take k old) h fresh) h out
+  sourced-listable c e l =
+      record {
+        ascends =
+            ap (λ (ps : List Pair). ascending self (lowest h ∷ ps)) (sourced-matches r h w)
+            ∙ matches-listed (decode s) (r .wf) h;
+        room = omega (arith, e);
+      }
 
 -- ---- the answer, by the number of matches
 

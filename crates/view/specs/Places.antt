@@ -1,10 +1,10 @@
--- Where code finds things in an index: a chain's blocks in a Walk, a pair, the page that an insert takes, a held pair.
+-- Where code finds things in an index: a pair, the page that an insert takes, the sources of a hash code, a held pair.
 use mathlib.Core.Path.{_≡_}
 use mathlib.Core.Bool.{Bool, true, false, cond}
-use mathlib.Core.List.{List}
+use mathlib.Core.List.{List, []}
 use Prim.Native.Nat.{ℕ}
 use lib.Dec.{eqb}
-use lib.ListN.{length}
+use lib.ListN.{length, take}
 use Rattle.lists.specs.Lists.{any}
 use Rattle.address.specs.Address.{bucketOf}
 use Rattle.page.specs.declared.Pair.{Pair}
@@ -13,16 +13,10 @@ use Rattle.page.specs.Entries.{placeOf}
 use Rattle.model.specs.Index.{Job, idle, copying, clearing, Index, chain, entriesAt, newBucket, oldBucket}
 use Rattle.model.specs.Pages.{chainRoom}
 use Rattle.frame.specs.Frame.{chainBlocks, pageBlock, pageEntries, pairPlace, roomPlace, lastPlace}
-use Rattle.chain.specs.declared.Walk.{Walk}
 use Rattle.chain.specs.declared.Found.{Found}
 use Rattle.chain.specs.declared.Room.{Room}
-use Rattle.chain.specs.Walk.{blocksOf}
+use Rattle.chain.specs.Along.{orElse}
 use Rattle.view.specs.declared.Sources.{Sources}
-
--- the Walk has the blocks of bucket b's chain
-pub record Walks (x : Index) (b : ℕ) (w : Walk) : Type 0 where
-  pub blocks : blocksOf w ≡ chainBlocks x b (chain x b)
-  pub count : w .count ≡ length (blocksOf w)
 
 -- the block and slot of a pair in the chain of bucket b
 unfoldable pub findAt : Index → (b : ℕ) → Pair → Found
@@ -46,9 +40,26 @@ sourcesIn copying old home false = Sources.Home home
 unfoldable pub sourcesOf : Index → (hash : ℕ) → Sources
 sourcesOf x h = let b = bucketOf (x .maxBucket) h in sourcesIn (x .job) (oldBucket x) b (eqb b (newBucket x))
 
-abbrev pub orElse : Found → Found → Found
-orElse (Found.At k n) other = Found.At k n
-orElse Found.Nothing other = other
+-- the blocks of the chains of the sources: of the own bucket's chain, and of the old one's
+abbrev pub ownBlocks : Index → Sources → List ℕ
+ownBlocks x (Sources.Home b) = chainBlocks x b (chain x b)
+ownBlocks x (Sources.Both new old) = chainBlocks x new (chain x new)
+
+abbrev pub oldBlocks : Index → Sources → List ℕ
+oldBlocks x (Sources.Home b) = []
+oldBlocks x (Sources.Both new old) = chainBlocks x old (chain x old)
+
+abbrev pub isBoth : Sources → Bool
+isBoth (Sources.Home b) = false
+isBoth (Sources.Both new old) = true
+
+-- the first n of `own` and the first k of `old` are the blocks of the sources of a hash code
+pub record Sourced (x : Index) (hash : ℕ) (own : List ℕ) (n : ℕ) (old : List ℕ) (k : ℕ) (fresh : Bool) : Type 0 where
+  pub own-blocks : take n own ≡ ownBlocks x (sourcesOf x hash)
+  pub own-count : n ≡ length (take n own)
+  pub old-blocks : take k old ≡ oldBlocks x (sourcesOf x hash)
+  pub old-count : k ≡ length (take k old)
+  pub both : fresh ≡ isBoth (sourcesOf x hash)
 
 -- what stands in the new chain and not in the old one is unmoved
 abbrev pub heldBy : Index → Pair → Sources → Found

@@ -17,7 +17,10 @@ pub fn find_in(store: &[u8], m: Meta, b: u32, pair: Pair) -> Found
     requires { ⌜ (Reads (now store) m) × (b ≤ m .max) ⌝ }
     ensures { λ r. ⌜ r ≡ findAt (decode (now (store .entry))) b pair ⌝ }
 {
-    find_pair(store, walk_bucket(store, m, b), pair)
+    let walk = walk_bucket(store, m, b);
+    let blocks = walk.blocks;
+    let count = walk.count;
+    find_pair(store, &blocks, count, pair)
 }
 
 // The first page with room in bucket `b`'s chain, else the chain's last block.
@@ -25,5 +28,8 @@ pub fn room_in(store: &[u8], m: Meta, b: u32) -> Room
     requires { ⌜ (Reads (now store) m) × (b ≤ m .max) ⌝ }
     ensures { λ r. ⌜ r ≡ roomAt (decode (now (store .entry))) b ⌝ }
 {
-    first_room(store, walk_bucket(store, m, b))
+    let walk = walk_bucket(store, m, b);
+    let blocks = walk.blocks;
+    let count = walk.count;
+    first_room(store, &blocks, count)
 }

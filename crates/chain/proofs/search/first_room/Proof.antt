@@ -19,16 +19,16 @@ loop-holds : tie.Need-loop-holds Inv-loop μ-loop
 loop-holds c = refl
 
 page-on-requires : tie.Need-page-on-requires Inv-loop μ-loop
-page-on-requires c κs = (c .before .before .before .pre, c .loop-test .taken)
+page-on-requires c κs = (c .before .before .before .pre .0, c .loop-test .taken)
 
 count-entries-requires : tie.Need-count-entries-requires Inv-loop μ-loop
 count-entries-requires c κs = omega (arith, c .page-on .ensures .whole)
 
 mul-t8 : tie.Need-mul-t8 Inv-loop μ-loop
-mul-t8 c = omega (arith, c .before .before .before .before .before .before .pre .few)
+mul-t8 c = omega (arith, c .before .before .before .before .before .before .pre .0 .few)
 
 element-copy-out-t11 : tie.Need-element-copy-out-t11 Inv-loop μ-loop
-element-copy-out-t11 c = omega (arith, c .before .before .before .before .before .before .pre .few)
+element-copy-out-t11 c = omega (arith, c .before .before .before .before .before .before .pre .0 .few)
 
 returns : tie.Need-returns Inv-loop μ-loop
 returns c =
@@ -36,7 +36,7 @@ returns c =
     let l = n .before .before .before in
     let s = l .before .before in
     sym
-    (room-here (s .pre) (l .loop .i) (n .before .before .loop-test .taken) (n .before .page-on .ensures)
+    (room-here (s .pre .0) (l .loop .i) (n .before .before .loop-test .taken) (n .before .page-on .ensures)
     (omega (arith, n .count-entries .ensures, c .before .if1 .taken)) (l .loop .inv))
 
 add-i : tie.Need-add-i Inv-loop μ-loop
@@ -51,25 +51,25 @@ loop-again c =
     let l = n .before .before .before in
     let s = l .before .before in
     l .loop .inv
-    ∙ room-later (s .pre) (l .loop .i) (n .before .before .loop-test .taken) (n .before .page-on .ensures)
+    ∙ room-later (s .pre .0) (l .loop .i) (n .before .before .loop-test .taken) (n .before .page-on .ensures)
     (omega (arith, n .count-entries .ensures, c .if1 .left))
 
 sub-t12 : tie.Need-sub-t12 Inv-loop μ-loop
-sub-t12 c = omega (arith, c .before .before .before .pre .some)
+sub-t12 c = omega (arith, c .before .before .before .pre .1)
 
 mul-t13 : tie.Need-mul-t13 Inv-loop μ-loop
-mul-t13 c = omega (arith, c .before .before .before .pre .few)
+mul-t13 c = omega (arith, c .before .before .before .pre .0 .few)
 
 element-copy-out-t16 : tie.Need-element-copy-out-t16 Inv-loop μ-loop
 element-copy-out-t16 c =
     let s = c .before .before .before in
-    omega (arith, s .pre .some, s .pre .few)
+    omega (arith, s .pre .1, s .pre .0 .few)
 
 returns-2 : tie.Need-returns-2 Inv-loop μ-loop
 returns-2 c =
     let l = c .before .before in
     let s = l .before .before in
-    sym (room-nowhere (s .pre) (l .loop .i) (c .before .loop-test .left) (l .loop .inv))
+    sym (room-nowhere (s .pre .0) (l .loop .i) (c .before .loop-test .left) (s .pre .1) (l .loop .inv))
 
 pub first-room-spec : {M : Type 1} → statement M
 first-room-spec =

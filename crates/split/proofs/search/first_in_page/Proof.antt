@@ -1,15 +1,12 @@
 use mathlib.Core.Path.{_≡_, refl, sym, ap, _∙_}
-use mathlib.Core.List.{List}
-use Prim.Native.Nat.{ℕ, _-_, _<_}
+use Prim.Native.Nat.{_-_, _<_}
 use native.Mathlib.Omega.{arith}
-use lib.ListN.{length, drop}
+use lib.ListN.{drop}
 use Rattle.lists.specs.Lists.{find}
-use Rattle.lists.specs.Block.{block}
 use Rattle.endian.specs.Endian.{u16At}
 use Rattle.page.specs.Entries.{entryAt, entriesOf}
 use Rattle.page.specs.RuleLaws.{number-le}
 use Rattle.image.specs.Decode.{decode}
-use Rattle.view.specs.ReadsLaws.{reads-whole}
 use Rattle.split.specs.declared.Mover.{Mover}
 use Rattle.split.specs.Mover.{movable, moverOf}
 use Rattle.split.specs.MoverLaws.{slot-here, slot-later, slot-end}
@@ -17,61 +14,39 @@ use Rattle.split.proofs.search.first_in_page.Statement.{statement}
 use Rattle.split.proofs.search.first_in_page.Tie as tie
 
 abbrev Inv-loop : tie.InvT-loop
-Inv-loop store m copying k page n i₀ i =
-    find (movable copying (decode store)) (entriesOf (block store k))
-    ≡ find (movable copying (decode store)) (drop i (entriesOf (block store k)))
+Inv-loop page store m copying n i₀ i =
+    find (movable copying (decode store)) (entriesOf page)
+    ≡ find (movable copying (decode store)) (drop i (entriesOf page))
 
 abbrev μ-loop : tie.MeasureT-loop
-μ-loop store m copying k page n i₀ i = n - i
-
-block-at-requires : tie.Need-block-at-requires Inv-loop μ-loop
-block-at-requires c κs =
-    let s = c .before in
-    reads-whole (s .pre .0) (s .args .k) (s .pre .1)
+μ-loop page store m copying n i₀ i = n - i
 
 count-entries-requires : tie.Need-count-entries-requires Inv-loop μ-loop
-count-entries-requires c κs = ap length (c .block-at .ensures) ∙ c .before .before .pre .2 .whole
+count-entries-requires c κs = omega (arith, c .before .before .pre .0 .whole)
 
 loop-holds : tie.Need-loop-holds Inv-loop μ-loop
 loop-holds c = refl
 
-number : (c : tie.After-count-entries Inv-loop μ-loop)
-    → let s = c .before .before .before in
-    c .count-entries .result ≡ u16At (block (s .args .store .now) (s .args .k)) 0
-number c = c .count-entries .ensures ∙ ap (λ (l : List ℕ). u16At l 0) (c .before .block-at .ensures)
-
 inside : (c : tie.In-loop Inv-loop μ-loop)
-    → let a = c .before .before .before .before .before .args in
-    c .before .loop .i < u16At (block (a .store .now) (a .k)) 0
-inside c = omega (arith, c .loop-test .taken, number (c .before .before))
+    → c .before .loop .i < u16At (c .before .before .before .before .before .args .page .now) 0
+inside c = omega (arith, c .loop-test .taken, c .before .before .count-entries .ensures)
 
 get-entry-requires : tie.Need-get-entry-requires Inv-loop μ-loop
 get-entry-requires c κs =
-    let b = c .before .before .before in
-    let s = b .before .before in (
-      omega (arith, inside c, number-le (block (s .args .store .now) (s .args .k)) (s .pre .2 .number)),
-      ap length (b .block-at .ensures) ∙ s .pre .2 .whole,
-    )
+    let s = c .before .before .before .before .before in
+    (omega (arith, inside c, number-le (s .args .page .now) (s .pre .0 .number)), s .pre .0 .whole)
 
 is-movable-requires : tie.Need-is-movable-requires Inv-loop μ-loop
-is-movable-requires c κs = c .before .before .before .before .before .before .pre .0
+is-movable-requires c κs = c .before .before .before .before .before .before .pre .1
 
--- the entry in slot i, and its test
-entry : (c : tie.After-get-entry Inv-loop μ-loop)
-    → let l = c .before .before in
-    let s = l .before .before .before .before in
-    c .get-entry .result ≡ entryAt (block (s .args .store .now) (s .args .k)) (l .loop .i)
-entry c = c .get-entry .ensures ∙ ap (λ (p : List ℕ). entryAt p (c .before .before .loop .i))
-    (c .before .before .before .before .block-at .ensures)
-
+-- the test of the entry in slot i
 tested : (c : tie.After-is-movable Inv-loop μ-loop)
     → let l = c .before .before .before in
     let a = l .before .before .before .before .args in
-    c .is-movable .result ≡ movable (a .copying) (decode (a .store .now))
-    (entryAt (block (a .store .now) (a .k)) (l .loop .i))
+    c .is-movable .result ≡ movable (a .copying) (decode (a .store .now)) (entryAt (a .page .now) (l .loop .i))
 tested c =
     let a = c .before .before .before .before .before .before .before .args in
-    c .is-movable .ensures ∙ ap (movable (a .copying) (decode (a .store .now))) (entry (c .before))
+    c .is-movable .ensures ∙ ap (movable (a .copying) (decode (a .store .now))) (c .before .get-entry .ensures)
 
 returns : tie.Need-returns Inv-loop μ-loop
 returns c =
@@ -80,9 +55,9 @@ returns c =
     let a = l .before .before .before .before .args in
     sym
     (ap moverOf (l .loop .inv
-    ∙ slot-here (movable (a .copying) (decode (a .store .now))) (block (a .store .now) (a .k)) (l .loop .i)
+    ∙ slot-here (movable (a .copying) (decode (a .store .now))) (a .page .now) (l .loop .i)
     (inside (v .before .before)) (sym (tested v) ∙ c .if1 .taken))
-    ∙ ap Mover.At (sym (entry (v .before))))
+    ∙ ap Mover.At (sym (v .before .get-entry .ensures)))
 
 add-i : tie.Need-add-i Inv-loop μ-loop
 add-i c = omega arith
@@ -96,7 +71,7 @@ loop-again c =
     let l = v .before .before .before in
     let a = l .before .before .before .before .args in
     l .loop .inv
-    ∙ slot-later (movable (a .copying) (decode (a .store .now))) (block (a .store .now) (a .k)) (l .loop .i)
+    ∙ slot-later (movable (a .copying) (decode (a .store .now))) (a .page .now) (l .loop .i)
     (inside (v .before .before)) (sym (tested v) ∙ c .if1 .left)
 
 returns-2 : tie.Need-returns-2 Inv-loop μ-loop
@@ -105,8 +80,8 @@ returns-2 c =
     let a = l .before .before .before .before .args in
     sym
     (ap moverOf (l .loop .inv
-    ∙ slot-end (movable (a .copying) (decode (a .store .now))) (block (a .store .now) (a .k)) (l .loop .i)
-    (omega (arith, c .loop-test .left, number (l .before)))))
+    ∙ slot-end (movable (a .copying) (decode (a .store .now))) (a .page .now) (l .loop .i)
+    (omega (arith, c .loop-test .left, l .before .count-entries .ensures))))
 
 pub first-in-page-spec : {M : Type 1} → statement M
 first-in-page-spec =
@@ -114,7 +89,6 @@ first-in-page-spec =
     (tie.spec
     Inv-loop
     μ-loop
-    block-at-requires
     count-entries-requires
     loop-holds
     get-entry-requires

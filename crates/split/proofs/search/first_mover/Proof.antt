@@ -9,7 +9,7 @@ use Rattle.model.specs.Index.{entriesAt}
 use Rattle.image.specs.Decode.{decode}
 use Rattle.reader.specs.JobLaws.{old-low}
 use Rattle.view.specs.ReadsLaws.{reads-known, reads-max}
-use Rattle.view.specs.ChainLaws.{walked-walks, walks-within, walks-pages, walks-entries}
+use Rattle.view.specs.ChainLaws.{walks-within, walks-pages, walks-entries}
 use Rattle.split.specs.Mover.{movable, moverOf}
 use Rattle.split.proofs.search.first_mover.Statement.{statement}
 use Rattle.split.proofs.search.first_mover.Tie as tie
@@ -25,23 +25,24 @@ walk-bucket-requires c κs = (reads-known (c .before .before .pre), old c)
 
 first-in-walk-requires : tie.Need-first-in-walk-requires
 first-in-walk-requires c κs =
-    let p = c .before in
+    let b = c .before .before in
+    let p = b .before in
     let s = p .before .before in
-    let w = walked-walks (s .pre) (p .parent-of .result) (old p) _ (c .walk-bucket .ensures) in (
-      s .pre,
+    let w = b .walk-bucket .ensures in (
       walks-within (s .pre) (p .parent-of .result) (old p) w,
       walks-pages (s .pre) (p .parent-of .result) (old p) w,
+      s .pre,
     )
 
 returns : tie.Need-returns
 returns c =
-    let p = c .before .before in
+    let b = c .before .before .before in
+    let p = b .before in
     let s = p .before .before in
     let x = decode (s .args .store .now) in
     c .first-in-walk .ensures
     ∙ ap (λ (es : List Entry). moverOf (find (movable (s .args .copying) x) es))
-    (walks-entries (s .pre) (p .parent-of .result) (old p)
-    (walked-walks (s .pre) (p .parent-of .result) (old p) _ (c .before .walk-bucket .ensures))
+    (walks-entries (s .pre) (p .parent-of .result) (old p) (b .walk-bucket .ensures)
     ∙ ap (entriesAt x) (p .parent-of .ensures ∙ ap splitFrom (reads-max (s .pre))))
 
 pub first-mover-spec : {M : Type 1} → statement M

@@ -1,7 +1,8 @@
 use mathlib.Core.Path.{ap, _∙_}
+use Rattle.chain.specs.WithinLaws.{walked-some}
 use Rattle.chain.specs.Search.{roomIn}
 use Rattle.view.specs.ReadsLaws.{reads-known}
-use Rattle.view.specs.ChainLaws.{walked-walks, walks-within}
+use Rattle.view.specs.ChainLaws.{walks-blocks, walks-within}
 use Rattle.view.specs.PlacesLaws.{room-read}
 use Rattle.view.proofs.chains.room_in.Statement.{statement}
 use Rattle.view.proofs.chains.room_in.Tie as tie
@@ -11,16 +12,17 @@ walk-bucket-requires c κs = (reads-known (c .before .pre .0), c .before .pre .1
 
 first-room-requires : tie.Need-first-room-requires
 first-room-requires c κs =
-    let s = c .before .before in
-    walks-within (s .pre .0) (s .args .b) (s .pre .1)
-    (walked-walks (s .pre .0) (s .args .b) (s .pre .1) _ (c .walk-bucket .ensures))
+    let w = c .before .before in
+    let s = w .before .before in
+    let h = w .walk-bucket .ensures in
+    (walks-within (s .pre .0) (s .args .b) (s .pre .1) h, walked-some h)
 
 returns : tie.Need-returns
 returns c =
-    let s = c .before .before .before in
+    let w = c .before .before .before in
+    let s = w .before .before in
     c .first-room .ensures
-    ∙ ap (roomIn (s .args .store .now))
-    (walked-walks (s .pre .0) (s .args .b) (s .pre .1) _ (c .before .walk-bucket .ensures) .blocks)
+    ∙ ap (roomIn (s .args .store .now)) (walks-blocks (s .pre .0) (s .args .b) (s .pre .1) (w .walk-bucket .ensures))
     ∙ room-read (s .pre .0) (s .args .b) (s .pre .1)
 
 pub room-in-spec : {M : Type 1} → statement M

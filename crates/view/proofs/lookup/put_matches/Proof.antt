@@ -1,26 +1,28 @@
-use mathlib.Core.Path.{_≡_, sym, ap, _∙_}
 use Prim.Native.Nat.{_+_, _-_, _≤_}
 use native.Mathlib.Omega.{arith}
 use borrow.Author.Needs.{needs}
-use lib.ListN.{length}
-use Rattle.image.specs.Decode.{decode}
+use lib.ListN.{length, take}
+use Rattle.model.specs.Held.{sorted}
+use Rattle.chain.specs.Along.{pairsAlong}
 use Rattle.view.proofs.Listing.{Listed, list-start, list-end, list-room, list-turn}
 use Rattle.view.proofs.lookup.put_matches.Statement.{statement}
 use Rattle.view.proofs.lookup.put_matches.Tie as tie
 
 abbrev Inv-loop : tie.InvT-loop
-Inv-loop store m hash output₀ after₀ at₀ output after at = Listed (decode store) hash output₀ output after at
+Inv-loop store own n old k output₀ hash fresh after₀ at₀ output after at =
+    Listed (sorted (pairsAlong store (take n own) (take k old) hash fresh)) hash output₀ output after at
 
 abbrev μ-loop : tie.MeasureT-loop
-μ-loop store m hash output₀ after₀ at₀ output after at = length output - at
+μ-loop store own n old k output₀ hash fresh after₀ at₀ output after at = length output - at
 
 loop-holds : tie.Need-loop-holds Inv-loop μ-loop
 loop-holds c =
     let s = c .before .before in
-    list-start (decode (s .args .store .now)) (s .pre .0 .wf) (s .args .hash) (s .args .output .now) (s .pre .1)
+    list-start (s .args .store .now) (take (s .args .n) (s .args .own .now)) (take (s .args .k) (s .args .old .now))
+    (s .args .fresh) (s .args .hash) (s .args .output .now) (s .pre .1 .1)
 
-next-match-requires : tie.Need-next-match-requires Inv-loop μ-loop
-next-match-requires c κs = c .before .before .before .pre .0
+next-along-requires : tie.Need-next-along-requires Inv-loop μ-loop
+next-along-requires c κs = let s = c .before .before .before in (s .pre .0, s .pre .1 .0)
 
 enum-known-next : tie.Need-enum-known-next Inv-loop μ-loop
 enum-known-next c = search needs
@@ -36,8 +38,9 @@ returns c =
     let n = c .before .before in
     let l = n .before in
     let s = l .before .before .before in
-    list-end (decode (s .args .store .now)) (s .pre .0 .wf) (s .args .hash) (s .args .output .now) (s .pre .1) (l .loop .inv)
-    (n .next-match .result) (n .next-match .ensures) (c .enum-told .given .1)
+    list-end (s .args .store .now) (take (s .args .n) (s .args .own .now)) (take (s .args .k) (s .args .old .now))
+    (s .args .fresh) (s .args .hash) (s .args .output .now) (s .pre .1 .1) (l .loop .inv)
+    (n .next-along .result) (n .next-along .ensures) (c .enum-told .given .1)
 
 -- a match that is found has room
 room : (c : tie.After-put-place-arg Inv-loop μ-loop)
@@ -47,8 +50,9 @@ room c =
     let n = k .before .before in
     let l = n .before in
     let s = l .before .before .before in
-    list-room (decode (s .args .store .now)) (s .pre .0 .wf) (s .args .hash) (s .args .output .now) (s .pre .1) (l .loop .inv)
-    (n .next-match .result) (n .next-match .ensures) _ (k .next .given .1)
+    list-room (s .args .store .now) (take (s .args .n) (s .args .own .now)) (take (s .args .k) (s .args .old .now))
+    (s .args .fresh) (s .args .hash) (s .args .output .now) (s .pre .1 .1) (l .loop .inv)
+    (n .next-along .result) (n .next-along .ensures) _ (k .next .given .1)
 
 put-place-requires : tie.Need-put-place-requires Inv-loop μ-loop
 put-place-requires c κs = room c
@@ -68,8 +72,9 @@ loop-again c =
     let n = k .before .before in
     let l = n .before in
     let s = l .before .before .before in
-    list-turn (decode (s .args .store .now)) (s .pre .0 .wf) (s .args .hash) (s .args .output .now) (s .pre .1) (l .loop .inv)
-    (n .next-match .result) (n .next-match .ensures) _ (k .next .given .1) _ (p .put-place .ensures)
+    list-turn (s .args .store .now) (take (s .args .n) (s .args .own .now)) (take (s .args .k) (s .args .old .now))
+    (s .args .fresh) (s .args .hash) (s .args .output .now) (s .pre .1 .1) (l .loop .inv)
+    (n .next-along .result) (n .next-along .ensures) _ (k .next .given .1) _ (p .put-place .ensures)
 
 pub put-matches-spec : {M : Type 1} → statement M
 put-matches-spec =
@@ -78,7 +83,7 @@ put-matches-spec =
     Inv-loop
     μ-loop
     loop-holds
-    next-match-requires
+    next-along-requires
     enum-known-next
     enum-told
     same-length
