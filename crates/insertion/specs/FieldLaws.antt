@@ -15,8 +15,8 @@ use Rattle.image.specs.Decode.{decode}
 use Rattle.frame.specs.FreshLaws.{moreSpares}
 use Rattle.view.specs.Reads.{Reads}
 use Rattle.view.specs.ReadsLaws.{reads-laid, reads-meta}
+use Rattle.plan.specs.Fields.{fieldsOf}
 use Rattle.plan.specs.FieldLaws.{read-point, read-spares}
-use Rattle.insertion.specs.Put.{fieldsOf}
 
 module _ {s : List ℕ} {m : Meta} (r : Reads s m) where
   abbrev x : Index
@@ -41,15 +41,4 @@ module _ {s : List ℕ} {m : Meta} (r : Reads s m) where
       → fieldsOf m n free spares ≡ metaOf (setChain (decode s) sp b c)
   unfolding metaOf
   fields-set sp b c n free spares held first same =
-      let q = reads-meta r in
-      λ i. record {
-        count = sym held i;
-        fill = q i .fill;
-        max = q i .max;
-        high = q i .high;
-        low = q i .low;
-        point = q i .point;
-        free = first i;
-        size = q i .size;
-        spares = same i;
-      }
+      let q = reads-meta r in λ i. fieldsOf (q i) (sym held i) (first i) (same i)

@@ -36,13 +36,14 @@ use Rattle.view.specs.ReadsLaws.{reads-laid, reads-size, reads-max}
 use Rattle.draft.specs.Bits.{putBit}
 use Rattle.draft.specs.Draft.{Draft, Ready, Edited}
 use Rattle.draft.specs.Trim.{Trimmed}
+use Rattle.plan.specs.Fields.{fieldsOf}
 use Rattle.plan.specs.Plan.{Plans}
 use Rattle.plan.specs.Shape.{Shaped}
 use Rattle.plan.specs.ShapeLaws.{shaped-length, shaped-covered, shaped-bit}
 use Rattle.plan.specs.Sketch.{Sketch}
 use Rattle.plan.specs.SketchLaws.{ready, sketch-here, sketch-there, sketch-more, edited}
 use Rattle.plan.specs.StoreLaws.{map-inside, map-shape}
-use Rattle.insertion.specs.Put.{lastBlock, extended, fieldsOf, AtEnd, Linked}
+use Rattle.insertion.specs.Put.{lastBlock, extended, AtEnd, Linked}
 use Rattle.plan.specs.FieldLaws.{read-spares}
 use Rattle.insertion.specs.FieldLaws.{fields-set}
 use Rattle.insertion.specs.FreeLaws.{bits-shaped, bits-put, first-read}

@@ -32,10 +32,11 @@ use Rattle.view.specs.Reads.{Reads}
 use Rattle.view.specs.ReadsLaws.{reads-laid, reads-max}
 use Rattle.draft.specs.Draft.{Draft, Ready, Edited}
 use Rattle.draft.specs.Trim.{Trimmed}
+use Rattle.plan.specs.Fields.{fieldsOf}
 use Rattle.plan.specs.Plan.{Plans}
 use Rattle.plan.specs.ShapeLaws.{shaped-paged}
 use Rattle.plan.specs.StoreLaws.{block-is, map-inside, block-full}
-use Rattle.insertion.specs.Put.{lastBlock, extended, fieldsOf, AtEnd, Linked}
+use Rattle.insertion.specs.Put.{lastBlock, extended, AtEnd, Linked}
 use Rattle.plan.specs.FieldLaws.{read-made}
 use Rattle.insertion.specs.FieldLaws.{more-spares, fields-set}
 use Rattle.insertion.specs.FreeLaws.{bits-shaped, first-read}

@@ -38,21 +38,6 @@ entered x b e = setChain x (x .spares) b (addEntry e (chain x b))
 abbrev pub extended : Index → (sp : List ℕ) → (b n : ℕ) → Entry → Index
 extended x sp b n e = setChain x sp b (addPage n e (chain x b))
 
--- the fields of m with another count, first free and spares
-abbrev pub fieldsOf : Meta → (count free : ℕ) → (spares : List ℕ) → Meta
-fieldsOf m count free spares =
-    record {
-      count = count;
-      fill = m .fill;
-      max = m .max;
-      high = m .high;
-      low = m .low;
-      point = m .point;
-      free = free;
-      size = m .size;
-      spares = spares;
-    }
-
 -- a put into bucket b's chain of the store s leaves the index y, in which n pairs are held
 pub record Leaves (s : List ℕ) (m : Meta) (b n : ℕ) (y : Index) : Type 0 where
   pub reads : Reads s m

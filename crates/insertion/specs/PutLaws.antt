@@ -41,13 +41,14 @@ use Rattle.view.specs.ChainLaws.{pages-read, page-read}
 use Rattle.draft.specs.Draft.{Draft, Ready, Edited, PageEdited}
 use Rattle.draft.specs.ShapeLaws.{room-page}
 use Rattle.draft.specs.Trim.{Trimmed}
+use Rattle.plan.specs.Fields.{fieldsOf}
 use Rattle.plan.specs.Plan.{Plans}
 use Rattle.plan.specs.Shape.{Shaped}
 use Rattle.plan.specs.ShapeLaws.{shaped-length, shaped-page, shaped-entries, covered-entries}
 use Rattle.plan.specs.Sketch.{Sketch}
 use Rattle.plan.specs.SketchLaws.{sketch-none, ready, sketch-here, sketch-more, page-edited}
 use Rattle.plan.specs.StoreLaws.{map-shape, page-under, page-shape}
-use Rattle.insertion.specs.Put.{entered, extended, fieldsOf, Leaves, InRoom}
+use Rattle.insertion.specs.Put.{entered, extended, Leaves, InRoom}
 use Rattle.plan.specs.FieldLaws.{read-free, read-spares}
 use Rattle.insertion.specs.FieldLaws.{fields-set}
 use Rattle.insertion.specs.FreeLaws.{bits-shaped, first-read}

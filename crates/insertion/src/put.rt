@@ -16,6 +16,7 @@ use image::Meta;
 use page::Entry;
 use page::search::find_place;
 use plan::PutPlan;
+use plan::with_fields;
 use store::Change;
 use store::block_at;
 use store::flags::NO_LINK;
@@ -43,24 +44,7 @@ ghost use Rattle.chain.specs.Bitmap.{freeOr, lowestFree};
 ghost use Rattle.draft.specs.Bits.{putBit};
 ghost use Rattle.view.specs.Reads.{Reads};
 ghost use Rattle.plan.specs.Plan.{Plans, Places};
-ghost use Rattle.insertion.specs.Put.{lastBlock, entered, extended, fieldsOf, InRoom, AtEnd, Linked};
-
-// The fields with another count, first free and spares.
-fn with_fields(m: Meta, count: u32, free: u32, spares: [u32; 16]) -> Meta
-    ensures { λ r. ⌜ r ≡ fieldsOf m count free spares ⌝ }
-{
-    Meta {
-        count,
-        fill: m.fill,
-        max: m.max,
-        high: m.high,
-        low: m.low,
-        point: m.point,
-        free,
-        size: m.size,
-        spares,
-    }
-}
+ghost use Rattle.insertion.specs.Put.{lastBlock, entered, extended, InRoom, AtEnd, Linked};
 
 // Puts the entry into the page in block `k`, the first with room in a chain.
 fn put_in_page(store: &[u8], m: Meta, k: u32, e: Entry, held: u32, images: &mut [u8]) -> Change

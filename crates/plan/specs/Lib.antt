@@ -1,3 +1,4 @@
+pub mod Fields
 pub mod Plan
 pub mod Shape
 pub mod ShapeLaws

@@ -1,5 +1,6 @@
 // What a call or a step would change, as a change of some blocks: planning reads the store and writes nothing to it.
 use draft::new_draft;
+use image::Meta;
 use model::Answer;
 use model::Refusal;
 use model::Stop;
@@ -7,6 +8,7 @@ use store::Change;
 ghost use mathlib.Core.Path.{_≡_};
 ghost use Rattle.model.specs.declared.Answer.{Answer};
 ghost use Rattle.plan.specs.declared.Advance.{Advance};
+ghost use Rattle.plan.specs.Fields.{fieldsOf};
 
 // A planned call: its answer, and its change; a refusal changes nothing.
 pub struct Plan {
@@ -50,4 +52,15 @@ pub fn halt(stop: Stop) -> StepPlan
         advance: Advance::Stopped(stop),
         change: new_draft(),
     }
+}
+
+// The meta block's fields with another count, first free and spares.
+pub fn with_fields(m: Meta, count: u32, free: u32, spares: [u32; 16]) -> Meta
+    ensures { λ r. ⌜ r ≡ fieldsOf m count free spares ⌝ }
+{
+    let mut n = m;
+    n.count = count;
+    n.free = free;
+    n.spares = spares;
+    n
 }

@@ -27,6 +27,7 @@ use Rattle.frame.specs.ImagesLaws.{meta-image, map-image}
 use Rattle.view.specs.ReadsLaws.{reads-laid, reads-size}
 use Rattle.draft.specs.Draft.{Draft, Ready, Edited}
 use Rattle.draft.specs.Trim.{Trimmed}
+use Rattle.plan.specs.Fields.{fieldsAfter}
 use Rattle.plan.specs.Plan.{Plans}
 use Rattle.plan.specs.Shape.{Shaped}
 use Rattle.plan.specs.ShapeLaws.{shaped-length, shaped-covered, shaped-front}
@@ -36,7 +37,7 @@ use Rattle.plan.specs.StoreLaws.{map-inside, meta-shape, map-shape}
 use Rattle.plan.specs.PlanLaws.{plans-of}
 use Rattle.removal.specs.declared.Freed.{Freed}
 use Rattle.removal.specs.Freeing.{clears, lowers}
-use Rattle.removal.specs.Ending.{fieldsAfter, MapSketch, Cleared, Ending}
+use Rattle.removal.specs.Ending.{MapSketch, Cleared, Ending}
 use Rattle.removal.proofs.Clearing.{map-sketch}
 
 module _ {s : List ℕ} {m : Meta} {c : Change} {images : List ℕ} {held : ℕ} {f g : Freed} {y : Index}

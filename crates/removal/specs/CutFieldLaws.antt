@@ -22,9 +22,9 @@ use Rattle.frame.specs.ImagesLaws.{noPage, page-made}
 use Rattle.frame.specs.CutLaws.{frees-none}
 use Rattle.frame.specs.FreedLaws.{freed-map}
 use Rattle.frame.specs.MetaLaws.{thin-free}
+use Rattle.plan.specs.Fields.{fieldsAfter}
 use Rattle.removal.specs.declared.Freed.{Freed}
 use Rattle.removal.specs.Freeing.{freedIf, freedAt, clears, lowers, Below}
-use Rattle.removal.specs.Ending.{fieldsAfter}
 use Rattle.removal.specs.PairLaws.{pair-at}
 use Rattle.removal.specs.CutLaws.{freed-some}
 use Rattle.removal.specs.FirstFreeLaws.{first-freed}

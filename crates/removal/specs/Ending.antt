@@ -14,25 +14,12 @@ use Rattle.image.specs.Decode.{decode}
 use Rattle.frame.specs.Frame.{Apart, mapBlock}
 use Rattle.draft.specs.Draft.{Listed}
 use Rattle.view.specs.Reads.{Reads}
+use Rattle.plan.specs.Fields.{fieldsAfter}
 use Rattle.plan.specs.Shape.{Shaped}
 use Rattle.plan.specs.Sketch.{Sketch}
 use Rattle.removal.specs.declared.Freed.{Freed}
 use Rattle.removal.specs.Freeing.{clears, lowers, Below}
 use Rattle.removal.specs.Cutting.{Sketches}
-
-abbrev pub fieldsAfter : Meta → (held free : ℕ) → Meta
-fieldsAfter m held free =
-    record {
-      count = held;
-      fill = m .fill;
-      max = m .max;
-      high = m .high;
-      low = m .low;
-      point = m .point;
-      free = free;
-      size = m .size;
-      spares = m .spares;
-    }
 
 -- the draft d has the bitmap of these bits in block k, and room for it and for the meta block
 pub record MapSketch (s : List ℕ) (c : Change) (images : List ℕ) (k : ℕ) (bit : ℕ → ℕ) (d : List ℕ) : Type 0 where

@@ -24,12 +24,13 @@ use Rattle.frame.specs.RemoveLaws.{stands-once, frame-cut}
 use Rattle.view.specs.Reads.{Reads}
 use Rattle.view.specs.ReadsLaws.{reads-laid, reads-max, reads-meta}
 use Rattle.draft.specs.Draft.{Draft}
+use Rattle.plan.specs.Fields.{fieldsAfter}
 use Rattle.plan.specs.SketchLaws.{sketch-none}
 use Rattle.plan.specs.StoreLaws.{block-is}
 use Rattle.removal.specs.declared.Freed.{Freed}
 use Rattle.removal.specs.Freeing.{freedAt, clears, lowers, Below}
 use Rattle.removal.specs.Cutting.{Sketches, Findable}
-use Rattle.removal.specs.Ending.{fieldsAfter, Ending}
+use Rattle.removal.specs.Ending.{Ending}
 use Rattle.plan.specs.FieldLaws.{read-free}
 use Rattle.removal.specs.ShowLaws.{sketch-wider}
 use Rattle.removal.specs.CutFieldLaws.{clears-same, cut-bits, cut-below, cut-free, cut-meta}

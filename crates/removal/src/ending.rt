@@ -5,6 +5,7 @@ use draft::edit::put_bit;
 use draft::edit::put_fields;
 use draft::trim::drop_unchanged;
 use image::Meta;
+use plan::with_fields;
 use store::Change;
 ghost use mathlib.Core.Path.{_≡_};
 ghost use mathlib.Core.List.{List};
@@ -12,7 +13,7 @@ ghost use Prim.Native.Nat.{ℕ};
 ghost use Rattle.model.specs.Index.{Index};
 ghost use Rattle.plan.specs.Plan.{Plans};
 ghost use Rattle.removal.specs.Freeing.{clears, lowers, Below};
-ghost use Rattle.removal.specs.Ending.{fieldsAfter, MapSketch, Cleared, Ending};
+ghost use Rattle.removal.specs.Ending.{MapSketch, Cleared, Ending};
 
 // Sets the bit of a freed page to 0, in the bitmap in block `k`.
 fn clear_bit(store: &[u8], change: Change, images: &mut [u8], k: u32, freed: Freed) -> Change
@@ -37,24 +38,6 @@ fn lower_free(free: u32, freed: Freed) -> u32
     if n < free { n } else { free }
 }
 
-// The meta block's fields with another count and first free bit.
-fn fields_after(m: Meta, held: u32, free: u32) -> Meta
-    ensures { λ r. ⌜ r ≡ fieldsAfter m held free ⌝ }
-{
-    let spares = m.spares;
-    Meta {
-        count: held,
-        fill: m.fill,
-        max: m.max,
-        high: m.high,
-        low: m.low,
-        point: m.point,
-        free,
-        size: m.size,
-        spares,
-    }
-}
-
 // Ends a change that cut pairs out of pages: frees the bits, and writes the count of held pairs and the first free
 // bit.
 pub fn end_cut(
@@ -75,6 +58,6 @@ pub fn end_cut(
     let once = clear_bit(store, change, images, map, first);
     let twice = clear_bit(store, once, images, map, second);
     let free = lower_free(lower_free(m.free, first), second);
-    let ended = put_fields(store, twice, images, fields_after(m, held, free));
+    let ended = put_fields(store, twice, images, with_fields(m, held, free, spares));
     drop_unchanged(store, ended, images)
 }

@@ -35,6 +35,7 @@ use Rattle.image.specs.BoundLaws.{max-under}
 use Rattle.image.specs.EncodeLaws.{bucket-inside}
 use Rattle.frame.specs.BeginLaws.{Stays, stays-point, stays-more}
 use Rattle.chain.specs.FindLaws.{isSome}
+use Rattle.plan.specs.Fields.{fieldsWith}
 
 module _ (x : Index) (l : Laid x) where
   abbrev m : ℕ
@@ -156,17 +157,7 @@ module _ (x : Index) (l : Laid x) where
     -- the fields of the meta block, where f are those of x
     pub next-meta : (f : Meta) → f ≡ metaOf x → count y ≡ count x
         → (max high low p : ℕ) → max ≡ suc (x .maxBucket) → high ≡ highMask max → low ≡ lowMask max → p ≡ point max
-        → _≡_ {A = Meta} (record {
-          count = f .count;
-          fill = f .fill;
-          max = max;
-          high = high;
-          low = low;
-          point = p;
-          free = f .free;
-          size = f .size;
-          spares = set (f .spares) p (getD (f .spares) (f .point) 0);
-        }) (metaOf y)
+        → fieldsWith f (f .count) max high low p (f .free) (set (f .spares) p (getD (f .spares) (f .point) 0)) ≡ metaOf y
     unfolding metaOf
     next-meta f e n max high low p q h k t =
         let w = sym (widens begins) in
@@ -175,24 +166,21 @@ module _ (x : Index) (l : Laid x) where
         let top : getD (f .spares) (f .point) 0 ≡ topBit x = field-top e in
         let mx : max ≡ y .maxBucket = q ∙ ap (λ (z : Index). z .maxBucket) w in
         let cn : f .count ≡ count y = ap (λ (g : Meta). g .count) e ∙ sym n in
-        let fl : f .fill ≡ y .fill = ap (λ (g : Meta). g .fill) e ∙ ap (λ (z : Index). z .fill) w in
-        let sz : f .size ≡ y .size = field-size e ∙ ap (λ (z : Index). z .size) w in
         let hi : high ≡ highMask (y .maxBucket) = h ∙ ap highMask mx in
         let lo : low ≡ lowMask (y .maxBucket) = k ∙ ap lowMask mx in
         let pt : p ≡ point (y .maxBucket) = t ∙ ap point mx in
         let sp : set (f .spares) p (getD (f .spares) (f .point) 0) ≡ padded (y .spares) =
         (λ i. set (e i .spares) ((t ∙ ap point q) i) (top i)) ∙ spares-next begins in
-        λ i. record {
-          count = cn i;
-          fill = fl i;
-          max = mx i;
-          high = hi i;
-          low = lo i;
-          point = pt i;
-          free = free i;
-          size = sz i;
-          spares = sp i;
-        }
+        let between : Meta =
+        fieldsWith (metaOf x) (count y) (y .maxBucket) (highMask (y .maxBucket)) (lowMask (y .maxBucket))
+        (point (y .maxBucket)) (firstFree y) (padded (y .spares)) in
+        let first : fieldsWith f (f .count) max high low p (f .free)
+        (set (f .spares) p (getD (f .spares) (f .point) 0)) ≡ between =
+        λ i. fieldsWith (e i) (cn i) (mx i) (hi i) (lo i) (pt i) (free i) (sp i) in
+        let last : between ≡ metaOf y =
+        λ i. fieldsWith (metaOf (w i)) (count y) (y .maxBucket) (highMask (y .maxBucket)) (lowMask (y .maxBucket))
+        (point (y .maxBucket)) (firstFree y) (padded (y .spares)) in
+        first ∙ last
 
     -- ---- where the pages stand
 

@@ -52,17 +52,13 @@ fn begin_fields(m: Meta) -> Meta
     let mut spares = m.spares;
     let top = spares[m.point as usize];
     spares[point as usize] = top;
-    Meta {
-        count: m.count,
-        fill: m.fill,
-        max,
-        high: high_mask(max),
-        low: low_mask(max),
-        point,
-        free: m.free,
-        size: m.size,
-        spares,
-    }
+    let mut n = m;
+    n.max = max;
+    n.high = high_mask(max);
+    n.low = low_mask(max);
+    n.point = point;
+    n.spares = spares;
+    n
 }
 
 // The new bucket's page, without entries and being populated, and the old one's, being split.

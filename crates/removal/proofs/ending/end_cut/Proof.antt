@@ -5,8 +5,9 @@ use Rattle.model.specs.Index.{Index}
 use Rattle.image.specs.Decode.{decode}
 use Rattle.frame.specs.Frame.{mapBlock}
 use Rattle.view.specs.ReadsLaws.{reads-laid}
+use Rattle.plan.specs.Fields.{fieldsAfter}
 use Rattle.plan.specs.StoreLaws.{map-inside}
-use Rattle.removal.specs.Ending.{fieldsAfter, Ending}
+use Rattle.removal.specs.Ending.{Ending}
 use Rattle.removal.specs.Freeing.{lowers}
 use Rattle.plan.specs.FieldLaws.{read-bit}
 use Rattle.removal.specs.FieldLaws.{reads-addressed}
@@ -51,8 +52,8 @@ lower-free-requires c κs = search needs
 lower-free-requires-2 : tie.Need-lower-free-requires-2
 lower-free-requires-2 c κs = search needs
 
-fields-after-requires : tie.Need-fields-after-requires
-fields-after-requires c κs = search needs
+with-fields-requires : tie.Need-with-fields-requires
+with-fields-requires c κs = search needs
 
 put-fields-requires : tie.Need-put-fields-requires
 put-fields-requires c κs =
@@ -72,12 +73,12 @@ from c =
     .before .before .before
 
 -- the fields that are written
-fields : (c : tie.After-put-fields) → c .before .fields-after .result
+fields : (c : tie.After-put-fields) → c .before .with-fields .result
     ≡ fieldsAfter (from c .args .m) (from c .args .held)
     (lowers (from c .args .second) (lowers (from c .args .first) (from c .args .m .free)))
 fields c =
     let l = c .before .before .before in
-    c .before .fields-after .ensures
+    c .before .with-fields .ensures
     ∙ ap (fieldsAfter (from c .args .m) (from c .args .held))
     (l .lower-free2 .ensures ∙ ap (lowers (from c .args .second)) (l .before .lower-free .ensures))
 
@@ -92,7 +93,7 @@ drop-unchanged-requires c κs =
     let q = map-at k (s .pre .0) e in
     let a = o .clear-bit .ensures _ _ (map-start e q) in
     let b = t .clear-bit2 .ensures _ _ (a .sketch) in
-    let d = last-draft e q a b (f .before .fields-after .result) (fields f) (f .put-fields .ensures) in
+    let d = last-draft e q a b (f .before .with-fields .result) (fields f) (f .put-fields .ensures) in
     (d .fits, d .eight)
 
 same-length : tie.Need-same-length
@@ -108,7 +109,7 @@ returns c y e =
     let q = map-at k y e in
     let a = o .clear-bit .ensures _ _ (map-start e q) in
     let b = t .clear-bit2 .ensures _ _ (a .sketch) in
-    let n = f .before .fields-after .result in
+    let n = f .before .with-fields .result in
     planned e q a b n (fields f) (f .put-fields .ensures)
     (u .drop-unchanged .ensures _ (last-draft e q a b n (fields f) (f .put-fields .ensures)))
 
@@ -121,7 +122,7 @@ end-cut-spec =
     clear-bit-requires-2
     lower-free-requires
     lower-free-requires-2
-    fields-after-requires
+    with-fields-requires
     put-fields-requires
     drop-unchanged-requires
     same-length
