@@ -12,11 +12,14 @@ use Rattle.text.specs.Digits.{digits}
 abbrev pub lineOutput : ℕ
 lineOutput = 85006
 
+-- two numbers, each after a word
+abbrev pub twoText : (first : List ℕ) (a : ℕ) (second : List ℕ) (b : ℕ) → List ℕ
+twoText first a second b = first ++ digits a ++ second ++ digits b ++ (10 ∷ [])
+
 -- `store N fill F`
 unfoldable pub storeText : (blocks fill : ℕ) → List ℕ
 storeText n fill =
-    (115 ∷ 116 ∷ 111 ∷ 114 ∷ 101 ∷ 32 ∷ []) ++ digits n ++ (32 ∷ 102 ∷ 105 ∷ 108 ∷ 108 ∷ 32 ∷ []) ++ digits fill ++
-    (10 ∷ [])
+    twoText (115 ∷ 116 ∷ 111 ∷ 114 ∷ 101 ∷ 32 ∷ []) n (32 ∷ 102 ∷ 105 ∷ 108 ∷ 108 ∷ 32 ∷ []) fill
 
 -- `ok`
 unfoldable pub okText : List ℕ
@@ -25,14 +28,13 @@ okText = 111 ∷ 107 ∷ 10 ∷ []
 -- `line L: refused R`
 unfoldable pub refusedText : (line number : ℕ) → List ℕ
 refusedText line number =
-    (108 ∷ 105 ∷ 110 ∷ 101 ∷ 32 ∷ []) ++ digits line
-    ++ (58 ∷ 32 ∷ 114 ∷ 101 ∷ 102 ∷ 117 ∷ 115 ∷ 101 ∷ 100 ∷ 32 ∷ []) ++ digits number ++ (10 ∷ [])
+    twoText (108 ∷ 105 ∷ 110 ∷ 101 ∷ 32 ∷ []) line
+    (58 ∷ 32 ∷ 114 ∷ 101 ∷ 102 ∷ 117 ∷ 115 ∷ 101 ∷ 100 ∷ 32 ∷ []) number
 
 -- `steps S stop T`
 unfoldable pub stepsText : (steps stop : ℕ) → List ℕ
 stepsText steps stop =
-    (115 ∷ 116 ∷ 101 ∷ 112 ∷ 115 ∷ 32 ∷ []) ++ digits steps ++
-    (32 ∷ 115 ∷ 116 ∷ 111 ∷ 112 ∷ 32 ∷ []) ++ digits stop ++ (10 ∷ [])
+    twoText (115 ∷ 116 ∷ 101 ∷ 112 ∷ 115 ∷ 32 ∷ []) steps (32 ∷ 115 ∷ 116 ∷ 111 ∷ 112 ∷ 32 ∷ []) stop
 
 -- ` b/o`, the i-th match of a lookup's output
 unfoldable pub placeText : (output : List ℕ) (i : ℕ) → List ℕ

@@ -9,7 +9,7 @@ ghost use lib.ListN.{length, drop};
 ghost use Rattle.lists.specs.Lists.{bind, upFrom};
 ghost use Rattle.text.specs.Digits.{digits};
 ghost use Rattle.text.specs.Text.{Wrote, lineOutput, storeText, okText, refusedText};
-ghost use Rattle.text.specs.Text.{stepsText, placeText, foundText};
+ghost use Rattle.text.specs.Text.{twoText, stepsText, placeText, foundText};
 
 // The bytes that one line of output can need: 5,000 matches of 17 bytes, their number, a colon and LF.
 pub const LINE_OUTPUT: usize = 85006;
@@ -49,16 +49,25 @@ fn put_number(output: &mut [u8], at: usize, n: u64) -> usize
     put_bytes(output, at, &space[from..])
 }
 
+// A line of two numbers, each after a word.
+fn put_two(output: &mut [u8], first: &[u8], a: u64, second: &[u8], b: u64) -> usize
+    requires { ⌜ (length (now first) ≤ 10) × (length (now second) ≤ 10) × (lineOutput ≤ length (now output)) ⌝ }
+    ensures { λ r. ⌜ Wrote (now (output .entry)) 0 (twoText (now (first .entry)) a (now (second .entry)) b)
+        (now (output .exit)) r ⌝ }
+{
+    let c = put_bytes(output, 0, first);
+    let d = put_number(output, c, a);
+    let e = put_bytes(output, d, second);
+    let f = put_number(output, e, b);
+    put_bytes(output, f, b"\n")
+}
+
 // The answer to a format that is accepted.
 pub fn put_store(output: &mut [u8], blocks: u32, fill: u32) -> usize
     requires { ⌜ lineOutput ≤ length (now output) ⌝ }
     ensures { λ r. ⌜ Wrote (now (output .entry)) 0 (storeText blocks fill) (now (output .exit)) r ⌝ }
 {
-    let a = put_bytes(output, 0, b"store ");
-    let b = put_number(output, a, blocks as u64);
-    let c = put_bytes(output, b, b" fill ");
-    let d = put_number(output, c, fill as u64);
-    put_bytes(output, d, b"\n")
+    put_two(output, b"store ", blocks as u64, b" fill ", fill as u64)
 }
 
 // The answer to an insert or a removal that is accepted.
@@ -74,11 +83,7 @@ pub fn put_refused(output: &mut [u8], line: u64, number: u32) -> usize
     requires { ⌜ lineOutput ≤ length (now output) ⌝ }
     ensures { λ r. ⌜ Wrote (now (output .entry)) 0 (refusedText line number) (now (output .exit)) r ⌝ }
 {
-    let a = put_bytes(output, 0, b"line ");
-    let b = put_number(output, a, line);
-    let c = put_bytes(output, b, b": refused ");
-    let d = put_number(output, c, number as u64);
-    put_bytes(output, d, b"\n")
+    put_two(output, b"line ", line, b": refused ", number as u64)
 }
 
 // The answer to a work call that is accepted.
@@ -86,11 +91,7 @@ pub fn put_steps(output: &mut [u8], steps: u32, stop: u32) -> usize
     requires { ⌜ lineOutput ≤ length (now output) ⌝ }
     ensures { λ r. ⌜ Wrote (now (output .entry)) 0 (stepsText steps stop) (now (output .exit)) r ⌝ }
 {
-    let a = put_bytes(output, 0, b"steps ");
-    let b = put_number(output, a, steps as u64);
-    let c = put_bytes(output, b, b" stop ");
-    let d = put_number(output, c, stop as u64);
-    put_bytes(output, d, b"\n")
+    put_two(output, b"steps ", steps as u64, b" stop ", stop as u64)
 }
 
 // The `i`-th match.

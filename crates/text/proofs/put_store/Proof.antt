@@ -1,70 +1,24 @@
-use native.Mathlib.Omega.{arith}
 use Rattle.text.specs.Text.{storeText}
-use Rattle.text.specs.TextLaws.{then-wrote, digits-32}
 use borrow.Author.Needs.{needs}
 use Rattle.text.proofs.put_store.Statement.{statement}
 use Rattle.text.proofs.put_store.Tie as tie
 
-slice-aggregate-put-bytes : tie.Need-slice-aggregate-put-bytes
-slice-aggregate-put-bytes c = search needs
+slice-aggregate-put-two : tie.Need-slice-aggregate-put-two
+slice-aggregate-put-two c = search needs
 
-put-bytes-requires : tie.Need-put-bytes-requires
-put-bytes-requires c κs = search needs
+slice-aggregate-put-two-2 : tie.Need-slice-aggregate-put-two-2
+slice-aggregate-put-two-2 c = search needs
 
-put-number-requires : tie.Need-put-number-requires
-put-number-requires c κs =
-    let s = c .before .before .before .before .before .before .before in
-    omega (arith, digits-32 (s .args .blocks) (s .fits .blocks .fits))
-
-slice-aggregate-put-bytes-2 : tie.Need-slice-aggregate-put-bytes-2
-slice-aggregate-put-bytes-2 c = search needs
-
-put-bytes-requires-2 : tie.Need-put-bytes-requires-2
-put-bytes-requires-2 c κs =
-    let s = c .before .before .before .before .before .before .before .before .before .before .before .before in
-    omega (arith, digits-32 (s .args .blocks) (s .fits .blocks .fits))
-
-put-number-requires-2 : tie.Need-put-number-requires-2
-put-number-requires-2 c κs =
-    let s = c .before .before .before .before .before .before .before .before .before .before .before .before .before
-    .before .before .before in
-    omega (arith, digits-32 (s .args .blocks) (s .fits .blocks .fits), digits-32 (s .args .fill) (s .fits .fill .fits))
-
-slice-aggregate-put-bytes-3 : tie.Need-slice-aggregate-put-bytes-3
-slice-aggregate-put-bytes-3 c = search needs
-
-put-bytes-requires-3 : tie.Need-put-bytes-requires-3
-put-bytes-requires-3 c κs =
-    let s = c .before .before .before .before .before .before .before .before .before .before .before .before .before
-    .before .before .before .before .before .before .before .before in
-    omega (arith, digits-32 (s .args .blocks) (s .fits .blocks .fits), digits-32 (s .args .fill) (s .fits .fill .fits))
+put-two-requires : tie.Need-put-two-requires
+put-two-requires c κs = search needs
 
 same-length : tie.Need-same-length
 same-length c = search needs
 
 returns : tie.Need-returns
 unfolding storeText
-returns c =
-    let p5 = c .before .before in
-    let p4 = p5 .before .before .before .before .before in
-    let p3 = p4 .before .before .before .before in
-    let p2 = p3 .before .before .before .before .before in
-    let p1 = p2 .before .before .before .before in
-    then-wrote (then-wrote (then-wrote (then-wrote (p1 .put-bytes .ensures) (p2 .put-number .ensures))
-    (p3 .put-bytes2 .ensures))
-    (p4 .put-number2 .ensures)) (p5 .put-bytes3 .ensures)
+returns c = c .before .before .put-two .ensures
 
 pub put-store-spec : {M : Type 1} → statement M
 put-store-spec =
-    tie.close
-    (tie.spec
-    slice-aggregate-put-bytes
-    put-bytes-requires
-    put-number-requires
-    slice-aggregate-put-bytes-2
-    put-bytes-requires-2
-    put-number-requires-2
-    slice-aggregate-put-bytes-3
-    put-bytes-requires-3
-    same-length
-    returns)
+    tie.close (tie.spec slice-aggregate-put-two slice-aggregate-put-two-2 put-two-requires same-length returns)
