@@ -2,7 +2,7 @@
 mod parse;
 mod show;
 
-use parse::line_end;
+use cases::line_end;
 use show::show_line;
 
 fn run_lines(text: &[u8]) {

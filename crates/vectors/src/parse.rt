@@ -1,23 +1,9 @@
-// Lines, decimal numbers and hexadecimal bytes; every input is taken.
+// Decimal numbers and spares; every input is taken.
+use cases::digit_of;
 ghost use Prim.Native.Nat.{_+_, _≤_, _<_};
 ghost use lib.ListN.{length};
-ghost use Rattle.io.specs.Counts.{Counts};
-ghost use Rattle.vectors.specs.Small.{Small, Within};
-
-// Where the line that starts at `at` ends.
-pub fn line_end(text: &[u8], at: usize) -> usize
-    requires { ⌜ at ≤ length (now text) ⌝ }
-    ensures { λ r. ⌜ Within at r (now (text .entry)) ⌝ }
-{
-    let mut end = at;
-    while end < text.len() {
-        if text[end] == b'\n' {
-            return end;
-        }
-        end += 1;
-    }
-    end
-}
+ghost use Rattle.cases.specs.Within.{Within};
+ghost use Rattle.vectors.specs.Small.{Small};
 
 // Past `byte` if it stands at `at`.
 pub fn skip_byte(line: &[u8], at: usize, byte: u8) -> usize
@@ -30,17 +16,6 @@ pub fn skip_byte(line: &[u8], at: usize, byte: u8) -> usize
         }
     }
     at
-}
-
-// The value of a hexadecimal digit in lower case; 16 for any other byte.
-fn digit_of(byte: u8) -> u32
-    ensures { λ r. ⌜ r ≤ 16 ⌝ }
-{
-    match byte {
-        b'0'..=b'9' => (byte - b'0') as u32,
-        b'a'..=b'f' => (byte - b'a' + 10) as u32,
-        _ => 16,
-    }
 }
 
 pub struct Number {
@@ -84,39 +59,4 @@ pub fn read_spares(line: &[u8], at: usize) -> Spares
         next = skip_byte(line, number.next, b' ');
     }
     Spares { values, next }
-}
-
-// The byte whose two hexadecimal digits stand at `at`; 256 if they do not stand there.
-fn byte_at(line: &[u8], at: usize) -> u32
-    requires { ⌜ at ≤ length (now line) ⌝ }
-    ensures { λ r. ⌜ (r ≤ 256) × (r < 256 → at + 2 ≤ length (now (line .entry))) ⌝ }
-{
-    if line.len() - at < 2 {
-        return 256;
-    }
-    let high = digit_of(line[at]);
-    let low = digit_of(line[at + 1]);
-    if high > 15 || low > 15 {
-        return 256;
-    }
-    high * 16 + low
-}
-
-// Puts the bytes of the line from `at` on into `out`, and answers their number.
-pub fn read_bytes(line: &[u8], at: usize, out: &mut [u8]) -> usize
-    requires { ⌜ at ≤ length (now line) ⌝ }
-    ensures { λ r. ⌜ Counts r (now (out .exit)) ⌝ }
-{
-    let mut next = at;
-    let mut n = 0;
-    while n < out.len() {
-        let byte = byte_at(line, next);
-        if byte > 255 {
-            break;
-        }
-        out[n] = byte as u8;
-        next += 2;
-        n += 1;
-    }
-    n
 }

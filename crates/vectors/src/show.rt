@@ -1,11 +1,12 @@
 // What the crates compute for an example, on a line of standard output.
 ghost use Prim.Native.Nat.{_≤_, _<_};
 ghost use lib.ListN.{length};
-ghost use Rattle.vectors.specs.Small.{Small, Within};
-use crate::parse::read_bytes;
+ghost use Rattle.cases.specs.Within.{Within};
+ghost use Rattle.vectors.specs.Small.{Small};
 use crate::parse::read_number;
 use crate::parse::read_spares;
 use crate::parse::skip_byte;
+use cases::read_bytes;
 
 fn put_number(before: &[u8], number: u64) {
     io::write_all(1, before);

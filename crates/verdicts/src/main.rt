@@ -1,10 +1,8 @@
 // Reads stores from standard input, one on a line in hexadecimal, and writes the verdict on each (README.md).
-mod parse;
-
 use address::limits::MAX_BLOCKS;
+use cases::line_end;
+use cases::read_bytes;
 use image::Verdict;
-use parse::line_end;
-use parse::read_bytes;
 use verify::verify;
 
 fn put_numbers(code: u64, besides: u64) {
@@ -27,7 +25,7 @@ fn show_verdict(verdict: Verdict) {
 // A line is cut one block past the largest N, which is too many already.
 fn show_store(line: &[u8]) {
     let mut store = [0u8; 512 * (MAX_BLOCKS + 1)];
-    let n = read_bytes(line, &mut store);
+    let n = read_bytes(line, 0, &mut store);
     show_verdict(verify(&store[..n]));
 }
 

@@ -2,7 +2,7 @@ use Prim.Native.Nat.{_-_, _<_}
 use native.Mathlib.Omega.{arith}
 use borrow.Author.Tests.{ltb-false}
 use lib.ListN.{length}
-use Rattle.vectors.specs.Small.{Within}
+use Rattle.cases.specs.Within.{Within}
 use Rattle.vectors.proofs.parse.read_number.Statement.{statement}
 use Rattle.vectors.proofs.parse.read_number.Tie as tie
 

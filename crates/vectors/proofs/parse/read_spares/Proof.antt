@@ -1,6 +1,7 @@
 use Prim.Native.Nat.{_-_, _≤_}
 use native.Mathlib.Omega.{arith}
-use Rattle.vectors.specs.Small.{Small, Within}
+use Rattle.cases.specs.Within.{Within}
+use Rattle.vectors.specs.Small.{Small}
 use Rattle.vectors.proofs.Fits.{small-set, small-zeros}
 use Rattle.vectors.proofs.parse.read_spares.Statement.{statement}
 use Rattle.vectors.proofs.parse.read_spares.Tie as tie

@@ -2,7 +2,7 @@ use mathlib.Core.Path.{refl}
 use Prim.Native.Nat.{_-_}
 use native.Mathlib.Omega.{arith}
 use lib.ListN.{length}
-use Rattle.vectors.specs.Small.{Within}
+use Rattle.cases.specs.Within.{Within}
 use Rattle.address.specs.LimitLaws.{buckets-sixteen}
 use Rattle.vectors.proofs.Fits.{bucket-fits}
 use Rattle.vectors.proofs.show.show_buckets.Statement.{statement}

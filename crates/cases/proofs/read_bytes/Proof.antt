@@ -3,14 +3,14 @@ use Prim.Native.Nat.{_-_, _≤_}
 use native.Mathlib.Omega.{arith}
 use lib.ListN.{length, length-set}
 use lib.Seq.{length-take-le}
-use Rattle.verdicts.proofs.parse.read_bytes.Statement.{statement}
-use Rattle.verdicts.proofs.parse.read_bytes.Tie as tie
+use Rattle.cases.proofs.read_bytes.Statement.{statement}
+use Rattle.cases.proofs.read_bytes.Tie as tie
 
 abbrev Inv-loop : tie.InvT-loop
-Inv-loop line out₀ next₀ n₀ out next n = (n ≤ length out) × (next ≤ length line) × (length out ≡ length out₀)
+Inv-loop line at out₀ next₀ n₀ out next n = (n ≤ length out) × (next ≤ length line) × (length out ≡ length out₀)
 
 abbrev μ-loop : tie.MeasureT-loop
-μ-loop line out₀ next₀ n₀ out next n = length out - n
+μ-loop line at out₀ next₀ n₀ out next n = length out - n
 
 loop-holds : tie.Need-loop-holds Inv-loop μ-loop
 loop-holds c = (omega arith, omega arith, omega arith)

@@ -1,17 +1,18 @@
-use Prim.Native.Nat.{_-_, _≤_}
+use Prim.Native.Nat.{_-_}
 use native.Mathlib.Omega.{arith}
 use lib.ListN.{length}
-use Rattle.verdicts.proofs.parse.line_end.Statement.{statement}
-use Rattle.verdicts.proofs.parse.line_end.Tie as tie
+use Rattle.cases.specs.Within.{Within}
+use Rattle.cases.proofs.line_end.Statement.{statement}
+use Rattle.cases.proofs.line_end.Tie as tie
 
 abbrev Inv-loop : tie.InvT-loop
-Inv-loop text at end₀ end = (at ≤ end) × (end ≤ length text)
+Inv-loop text at end₀ end = Within at end text
 
 abbrev μ-loop : tie.MeasureT-loop
 μ-loop text at end₀ end = length text - end
 
 loop-holds : tie.Need-loop-holds Inv-loop μ-loop
-loop-holds c = (omega arith, omega arith)
+loop-holds c = record { from = omega arith; upto = omega arith }
 
 shared-slice-read-if1 : tie.Need-shared-slice-read-if1 Inv-loop μ-loop
 shared-slice-read-if1 c = omega arith
@@ -26,7 +27,7 @@ loop-less : tie.Need-loop-less Inv-loop μ-loop
 loop-less c = omega arith
 
 loop-again : tie.Need-loop-again Inv-loop μ-loop
-loop-again c = (omega arith, omega arith)
+loop-again c = record { from = omega arith; upto = omega arith }
 
 returns-2 : tie.Need-returns-2 Inv-loop μ-loop
 returns-2 c = c .before .loop .inv

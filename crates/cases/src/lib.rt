@@ -1,12 +1,13 @@
-// Lines, and bytes in hexadecimal; every input is taken.
+// Cases that a program reads from its input, one on a line, with bytes in hexadecimal; every input is taken.
 ghost use Prim.Native.Nat.{_+_, _≤_, _<_};
 ghost use lib.ListN.{length};
 ghost use Rattle.io.specs.Counts.{Counts};
+ghost use Rattle.cases.specs.Within.{Within};
 
 // Where the line that starts at `at` ends.
 pub fn line_end(text: &[u8], at: usize) -> usize
     requires { ⌜ at ≤ length (now text) ⌝ }
-    ensures { λ r. ⌜ (at ≤ r) × (r ≤ length (now (text .entry))) ⌝ }
+    ensures { λ r. ⌜ Within at r (now (text .entry)) ⌝ }
 {
     let mut end = at;
     while end < text.len() {
@@ -19,7 +20,7 @@ pub fn line_end(text: &[u8], at: usize) -> usize
 }
 
 // The value of a hexadecimal digit in lower case; 16 for any other byte.
-fn digit_of(byte: u8) -> u32
+pub fn digit_of(byte: u8) -> u32
     ensures { λ r. ⌜ r ≤ 16 ⌝ }
 {
     match byte {
@@ -29,7 +30,7 @@ fn digit_of(byte: u8) -> u32
     }
 }
 
-// The byte whose two digits stand at `at`; 256 if they do not stand there.
+// The byte whose two hexadecimal digits stand at `at`; 256 if they do not stand there.
 fn byte_at(line: &[u8], at: usize) -> u32
     requires { ⌜ at ≤ length (now line) ⌝ }
     ensures { λ r. ⌜ (r ≤ 256) × (r < 256 → at + 2 ≤ length (now (line .entry))) ⌝ }
@@ -45,11 +46,13 @@ fn byte_at(line: &[u8], at: usize) -> u32
     high * 16 + low
 }
 
-// Puts the bytes of the line into `out`, as many as it has room for, and answers their number.
-pub fn read_bytes(line: &[u8], out: &mut [u8]) -> usize
+// Puts the bytes of the line from `at` on into `out`, as many as it has room for, and answers
+// their number.
+pub fn read_bytes(line: &[u8], at: usize, out: &mut [u8]) -> usize
+    requires { ⌜ at ≤ length (now line) ⌝ }
     ensures { λ r. ⌜ Counts r (now (out .exit)) ⌝ }
 {
-    let mut next = 0;
+    let mut next = at;
     let mut n = 0;
     while n < out.len() {
         let byte = byte_at(line, next);
