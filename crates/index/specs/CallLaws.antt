@@ -1,5 +1,5 @@
 -- What the outcomes of insert, remove and work are, by what the tests find.
-use mathlib.Core.Path.{_≡_, ap}
+use mathlib.Core.Path.{_≡_, sym, ap, _∙_, subst}
 use mathlib.Core.Bool.{true, not}
 use mathlib.Core.List.{List}
 use Prim.Native.Nat.{ℕ, _≤_}
@@ -14,28 +14,41 @@ use Rattle.model.specs.Calls.{pairOk, budgetOk, insert, remove}
 use Rattle.image.specs.Decode.{decode}
 use Rattle.outcomes.specs.Outcomes.{Tested, passed, failed, tested, refusing, changed, insertOn, insertOutcome}
 use Rattle.outcomes.specs.Outcomes.{removeOn, removeOutcome, stepOutcome, workOn, workOutcome}
+use Rattle.index.specs.declared.PairTest.{PairTest}
 use Rattle.index.specs.Sound.{workedBy}
+use Rattle.index.specs.Tested.{PairTested}
 
 -- a pair whose offset fits its field
 pub pair-offset : (p : Pair) → pairOk p ≡ true → p .offset ≤ 65535
 pair-offset p h = leb-true (p .offset) 65535 (and-right (not (badPair p)) (leb (p .offset) 65535) h)
 
-module _ (s : List ℕ) (p : Pair) where
-  pub insert-fails : (r : Refusal) → tested (pairOk p) s ≡ failed r → insertOutcome s p ≡ refusing s r
+module _ (s : List ℕ) (p : Pair) {t : PairTest} (found : PairTested s p t) where
+  -- what the tests found
+  refusal : {r : Refusal} → t ≡ PairTest.Failed r → tested (pairOk p) s ≡ failed r
+  refusal e = subst (PairTested s p) e found
+
+  pub pair-sound : {q : Pair} → t ≡ PairTest.Passed q → PairTested s p (PairTest.Passed q)
+  pair-sound e = subst (PairTested s p) e found
+
+  pub insert-fails : {r : Refusal} → t ≡ PairTest.Failed r → insertOutcome s p ≡ refusing s r
   unfolding insertOutcome
-  insert-fails r e = ap (λ (t : Tested). insertOn t s p) e
+  insert-fails e = ap (λ (x : Tested). insertOn x s p) (refusal e)
 
-  pub insert-passes : tested (pairOk p) s ≡ passed (decode s) → insertOutcome s p ≡ changed s (insert (decode s) p)
+  pub insert-passes : {q : Pair} → t ≡ PairTest.Passed q → insertOutcome s p ≡ changed s (insert (decode s) q)
   unfolding insertOutcome
-  insert-passes e = ap (λ (t : Tested). insertOn t s p) e
+  insert-passes e =
+      let g = pair-sound e in
+      ap (λ (x : Tested). insertOn x s p) (g .3) ∙ ap (λ (x : Pair). changed s (insert (decode s) x)) (sym (g .0))
 
-  pub remove-fails : (r : Refusal) → tested (pairOk p) s ≡ failed r → removeOutcome s p ≡ refusing s r
+  pub remove-fails : {r : Refusal} → t ≡ PairTest.Failed r → removeOutcome s p ≡ refusing s r
   unfolding removeOutcome
-  remove-fails r e = ap (λ (t : Tested). removeOn t s p) e
+  remove-fails e = ap (λ (x : Tested). removeOn x s p) (refusal e)
 
-  pub remove-passes : tested (pairOk p) s ≡ passed (decode s) → removeOutcome s p ≡ changed s (remove (decode s) p)
+  pub remove-passes : {q : Pair} → t ≡ PairTest.Passed q → removeOutcome s p ≡ changed s (remove (decode s) q)
   unfolding removeOutcome
-  remove-passes e = ap (λ (t : Tested). removeOn t s p) e
+  remove-passes e =
+      let g = pair-sound e in
+      ap (λ (x : Tested). removeOn x s p) (g .3) ∙ ap (λ (x : Pair). changed s (remove (decode s) x)) (sym (g .0))
 
 module _ (s : List ℕ) (budget : ℕ) where
   abbrev steps : Worked (List ℕ)

@@ -11,6 +11,8 @@ use Rattle.lists.specs.ListsLaws.{and-left, and-right}
 use Rattle.lists.specs.Bytes.{Bytes}
 use Rattle.lists.specs.Block.{blocks}
 use Rattle.model.specs.declared.Refusal.{Refusal}
+use Rattle.page.specs.declared.Pair.{Pair}
+use Rattle.model.specs.Calls.{pairOk}
 use Rattle.address.specs.Limits.{maxBlocks}
 use Rattle.model.specs.MachineLaws.{never}
 use Rattle.image.specs.declared.Meta.{Meta}
@@ -24,7 +26,8 @@ use Rattle.chain.specs.WalkLaws.{lengthOk-sized}
 use Rattle.view.specs.Reads.{Reads}
 use Rattle.view.specs.ReadsLaws.{sound-reads}
 use Rattle.index.specs.declared.Test.{Test}
-use Rattle.index.specs.Tested.{testOf}
+use Rattle.index.specs.declared.PairTest.{PairTest}
+use Rattle.index.specs.Tested.{testOf, PairTested}
 use Rattle.index.specs.Sound.{Sound}
 
 -- the test that a verdict gives
@@ -106,3 +109,19 @@ passes-index n s b h =
 -- a sound store, with the fields of its meta block
 pub passes-sound : {s : List ℕ} → Passes s → Sound s
 passes-sound {s} p = p .reads (metaAt s) refl
+
+-- ---- a call with a pair
+
+pub pair-fails : (s : List ℕ) (p : Pair) (t : Test) (r : Refusal) → t ≡ testOf (tested (pairOk p) s) → t ≡ Test.Failed r
+    → PairTested s p (PairTest.Failed r)
+pair-fails s p t r e h = fails (pairOk p) s r (sym e ∙ h)
+
+pub pair-passes : (s : List ℕ) (p : Pair) (t : Test) → Bytes s → t ≡ testOf (tested (pairOk p) s) → t ≡ Test.Passed
+    → PairTested s p (PairTest.Passed p)
+pair-passes s p t b e h =
+    let g : testOf (tested (pairOk p) s) ≡ Test.Passed = sym e ∙ h in (
+      refl,
+      passes-sound (passes-call (pairOk p) s b g),
+      passes-numbers (pairOk p) s g,
+      passes-index (pairOk p) s b g,
+    )

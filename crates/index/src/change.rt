@@ -1,4 +1,5 @@
 // The calls that put a pair in and take one out.
+use crate::PairTest;
 use crate::Test;
 use crate::sound::insert_sound;
 use crate::sound::remove_sound;
@@ -9,6 +10,7 @@ ghost use mathlib.Core.Path.{_≡_};
 ghost use Prim.Native.Nat.{ℕ};
 ghost use Rattle.model.specs.Calls.{pairOk};
 ghost use Rattle.outcomes.specs.Outcomes.{insertOutcome, removeOutcome};
+ghost use Rattle.index.specs.Tested.{PairTested};
 
 // Refusal 2 of a pair.
 fn check_pair(block: u32, offset: u32) -> bool
@@ -23,6 +25,21 @@ fn check_pair(block: u32, offset: u32) -> bool
     offset <= 65535
 }
 
+// The tests before a call with a pair.
+fn test_pair(store: &[u8], hash: u32, block: u32, offset: u32) -> PairTest
+    ensures { λ r. ⌜ PairTested (now (store .entry)) (record { hash = hash; block = block; offset = offset }) r ⌝ }
+{
+    let test = test_call(store, check_pair(block, offset));
+    match test {
+        Test::Failed(refusal) => PairTest::Failed(refusal),
+        Test::Passed => PairTest::Passed(Pair {
+            hash,
+            block,
+            offset: offset as u16,
+        }),
+    }
+}
+
 // Puts a pair in.
 pub fn insert(store: &mut [u8], hash: u32, block: u32, offset: u32) -> Answer
     ensures { λ r. ⌜ r ≡ insertOutcome (now (store .entry)) (record { hash = hash; block = block; offset = offset })
@@ -30,17 +47,10 @@ pub fn insert(store: &mut [u8], hash: u32, block: u32, offset: u32) -> Answer
     ensures { λ _. ⌜ now (store .exit)
         ≡ insertOutcome (now (store .entry)) (record { hash = hash; block = block; offset = offset }) .store ⌝ }
 {
-    let test = test_call(store, check_pair(block, offset));
+    let test = test_pair(store, hash, block, offset);
     match test {
-        Test::Failed(refusal) => Answer::Refused(refusal),
-        Test::Passed => insert_sound(
-            store,
-            Pair {
-                hash,
-                block,
-                offset: offset as u16,
-            },
-        ),
+        PairTest::Failed(refusal) => Answer::Refused(refusal),
+        PairTest::Passed(pair) => insert_sound(store, pair),
     }
 }
 
@@ -51,16 +61,9 @@ pub fn remove(store: &mut [u8], hash: u32, block: u32, offset: u32) -> Answer
     ensures { λ _. ⌜ now (store .exit)
         ≡ removeOutcome (now (store .entry)) (record { hash = hash; block = block; offset = offset }) .store ⌝ }
 {
-    let test = test_call(store, check_pair(block, offset));
+    let test = test_pair(store, hash, block, offset);
     match test {
-        Test::Failed(refusal) => Answer::Refused(refusal),
-        Test::Passed => remove_sound(
-            store,
-            Pair {
-                hash,
-                block,
-                offset: offset as u16,
-            },
-        ),
+        PairTest::Failed(refusal) => Answer::Refused(refusal),
+        PairTest::Passed(pair) => remove_sound(store, pair),
     }
 }

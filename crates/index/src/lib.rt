@@ -7,9 +7,16 @@ pub mod change; // change.rt: insert and remove
 pub mod work; // work.rt: the steps of splits
 
 use model::Refusal;
+use page::Pair;
 
 // What the tests before a call find: a sound store, or the refusal.
 enum Test {
     Passed,
+    Failed(Refusal),
+}
+
+// What those before a call with a pair find: the pair, for a sound store, or the refusal.
+enum PairTest {
+    Passed(Pair),
     Failed(Refusal),
 }

@@ -16,7 +16,7 @@ use Rattle.page.specs.declared.Entry.{Entry}
 use Rattle.page.specs.Pair.{is}
 use Rattle.page.specs.Entries.{entryAt, entriesOf}
 use Rattle.page.specs.EntriesLaws.{length-entriesOf, getD-entriesOf}
-use Rattle.model.specs.Index.{Index, entriesAt, newBucket}
+use Rattle.model.specs.Index.{Index, entriesAt, newBucket, oldBucket}
 use Rattle.model.specs.Steps.{moves}
 use Rattle.model.specs.MachineLaws.{never}
 use Rattle.image.specs.declared.Meta.{Meta}
@@ -86,10 +86,20 @@ module _ (t : Entry → Bool) (l : List ℕ) (i : ℕ) where
 
 -- ---- what was found
 
-pub mover-at : (o : Option Entry) (e : Entry) → Mover.At e ≡ moverOf o → o ≡ some e
-mover-at none e q = never (cc)
-mover-at (some d) e q = cc
+module _ (s : List ℕ) (copying : Bool) {r : Mover}
+    (q : r ≡ moverOf (find (movable copying (decode s)) (entriesAt (decode s) (oldBucket (decode s))))) where
+  pub mover-at : {e : Entry} → r ≡ Mover.At e
+      → find (movable copying (decode s)) (entriesAt (decode s) (oldBucket (decode s))) ≡ some e
+  mover-at {e} h = go (find (movable copying (decode s)) (entriesAt (decode s) (oldBucket (decode s)))) (sym h ∙ q)
+    where
+      go : (o : Option Entry) → Mover.At e ≡ moverOf o → o ≡ some e
+      go none k = never (cc)
+      go (some d) k = cc
 
-pub mover-none : (o : Option Entry) → Mover.Nothing ≡ moverOf o → o ≡ none
-mover-none none q = refl
-mover-none (some d) q = never (cc)
+  pub mover-none : r ≡ Mover.Nothing
+      → find (movable copying (decode s)) (entriesAt (decode s) (oldBucket (decode s))) ≡ none
+  mover-none h = go (find (movable copying (decode s)) (entriesAt (decode s) (oldBucket (decode s)))) (sym h ∙ q)
+    where
+      go : (o : Option Entry) → Mover.Nothing ≡ moverOf o → o ≡ none
+      go none k = refl
+      go (some d) k = never (cc)

@@ -1,9 +1,6 @@
-use mathlib.Core.Path.{_≡_, refl, sym, _∙_}
-use mathlib.Core.Option.{none, some}
+use mathlib.Core.Path.{refl}
+use mathlib.Core.Bool.{false}
 use borrow.Author.Needs.{needs}
-use Rattle.lists.specs.Lists.{find}
-use Rattle.model.specs.Index.{entriesAt, oldBucket}
-use Rattle.model.specs.Steps.{moves}
 use Rattle.image.specs.Decode.{decode}
 use Rattle.plan.specs.Plan.{advanced}
 use Rattle.split.specs.MoverLaws.{mover-at, mover-none}
@@ -21,19 +18,12 @@ enum-known-mover c = search needs
 enum-told : tie.Need-enum-told
 enum-told c = search needs
 
--- nothing is left to clear
-left : (c : tie.After-enum-told)
-    → let x = decode (c .before .before .before .before .before .args .store .now) in
-    find (moves x) (entriesAt x (oldBucket x)) ≡ none
-left c =
-    let x = decode (c .before .before .before .before .before .args .store .now) in
-    mover-none (find (moves x) (entriesAt x (oldBucket x)))
-    (sym (c .enum-told .given .1) ∙ c .before .before .first-mover .ensures)
-
 plan-cleared-requires : tie.Need-plan-cleared-requires
 plan-cleared-requires c κs =
-    let s = c .before .before .before .before .before .before in
-    (s .pre .0, (s .pre .1, left (c .before)))
+    let t = c .before in
+    let s = t .before .before .before .before .before in
+    let none = mover-none (s .args .store .now) false (t .before .before .first-mover .ensures) (t .enum-told .given .1) in
+    (s .pre .0, (s .pre .1, none))
 
 same-length : tie.Need-same-length
 same-length c = search needs
@@ -43,17 +33,9 @@ returns c =
     let p = c .before .before in
     let t = p .before .before in
     let s = t .before .before .before .before .before in
+    let none = mover-none (s .args .store .now) false (t .before .before .first-mover .ensures) (t .enum-told .given .1) in
     advances-as (advanced (p .plan-cleared .ensures)) refl refl
-    (step-clears (decode (s .args .store .now)) (s .pre .1) (left t))
-
--- the first entry to clear
-first : (c : tie.After-mover)
-    → let x = decode (c .before .before .before .before .before .args .store .now) in
-    find (moves x) (entriesAt x (oldBucket x)) ≡ some (c .mover .given .0 .0)
-first c =
-    let x = decode (c .before .before .before .before .before .args .store .now) in
-    mover-at (find (moves x) (entriesAt x (oldBucket x))) (c .mover .given .0 .0)
-    (sym (c .mover .given .1) ∙ c .before .before .first-mover .ensures)
+    (step-clears (decode (s .args .store .now)) (s .pre .1) none)
 
 clear-pair-requires : tie.Need-clear-pair-requires
 clear-pair-requires c κs =
@@ -61,7 +43,8 @@ clear-pair-requires c κs =
     let s = v .before .before .before .before .before in
     let r = s .pre .0 .0 in
     let e = v .mover .given .0 .0 in
-    (s .pre .0, (clear-stands r (s .pre .1) e (first v), clear-next r (s .pre .1) e (first v)))
+    let first = mover-at (s .args .store .now) false (v .before .before .first-mover .ensures) (v .mover .given .1) in
+    (s .pre .0, (clear-stands r (s .pre .1) e first, clear-next r (s .pre .1) e first))
 
 same-length-2 : tie.Need-same-length-2
 same-length-2 c = search needs
@@ -71,8 +54,9 @@ returns-2 c =
     let k = c .before .before in
     let v = k .before .before .before .before in
     let s = v .before .before .before .before .before in
+    let first = mover-at (s .args .store .now) false (v .before .before .first-mover .ensures) (v .mover .given .1) in
     advances-as (advanced (k .clear-pair .ensures)) refl refl
-    (step-clears (decode (s .args .store .now)) (s .pre .1) (first v))
+    (step-clears (decode (s .args .store .now)) (s .pre .1) first)
 
 pub step-clearing-spec : {M : Type 1} → statement M
 step-clearing-spec =

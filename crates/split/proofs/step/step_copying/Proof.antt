@@ -1,10 +1,7 @@
-use mathlib.Core.Path.{_≡_, refl, sym, _∙_}
-use mathlib.Core.Option.{none, some}
+use mathlib.Core.Path.{refl}
 use native.Mathlib.Omega.{arith}
+use mathlib.Core.Bool.{true}
 use borrow.Author.Needs.{needs}
-use Rattle.lists.specs.Lists.{find}
-use Rattle.model.specs.Index.{entriesAt, oldBucket}
-use Rattle.model.specs.Steps.{toCopy}
 use Rattle.image.specs.Decode.{decode}
 use Rattle.plan.specs.Plan.{advanced}
 use Rattle.split.specs.MoverLaws.{mover-at, mover-none}
@@ -22,19 +19,12 @@ enum-known-mover c = search needs
 enum-told : tie.Need-enum-told
 enum-told c = search needs
 
--- nothing is left to copy
-left : (c : tie.After-enum-told)
-    → let x = decode (c .before .before .before .before .before .args .store .now) in
-    find (toCopy x) (entriesAt x (oldBucket x)) ≡ none
-left c =
-    let x = decode (c .before .before .before .before .before .args .store .now) in
-    mover-none (find (toCopy x) (entriesAt x (oldBucket x)))
-    (sym (c .enum-told .given .1) ∙ c .before .before .first-mover .ensures)
-
 plan-copied-requires : tie.Need-plan-copied-requires
 plan-copied-requires c κs =
-    let s = c .before .before .before .before .before .before in
-    (s .pre .0, (s .pre .1, left (c .before)))
+    let t = c .before in
+    let s = t .before .before .before .before .before in
+    let none = mover-none (s .args .store .now) true (t .before .before .first-mover .ensures) (t .enum-told .given .1) in
+    (s .pre .0, (s .pre .1, none))
 
 same-length : tie.Need-same-length
 same-length c = search needs
@@ -44,17 +34,9 @@ returns c =
     let p = c .before .before in
     let t = p .before .before in
     let s = t .before .before .before .before .before in
+    let none = mover-none (s .args .store .now) true (t .before .before .first-mover .ensures) (t .enum-told .given .1) in
     advances-as (advanced (p .plan-copied .ensures)) refl refl
-    (step-copies (decode (s .args .store .now)) (s .pre .1) (left t))
-
--- the first entry to copy
-first : (c : tie.After-mover)
-    → let x = decode (c .before .before .before .before .before .args .store .now) in
-    find (toCopy x) (entriesAt x (oldBucket x)) ≡ some (c .mover .given .0 .0)
-first c =
-    let x = decode (c .before .before .before .before .before .args .store .now) in
-    mover-at (find (toCopy x) (entriesAt x (oldBucket x))) (c .mover .given .0 .0)
-    (sym (c .mover .given .1) ∙ c .before .before .first-mover .ensures)
+    (step-copies (decode (s .args .store .now)) (s .pre .1) none)
 
 plan-put-requires : tie.Need-plan-put-requires
 plan-put-requires c κs =
@@ -62,7 +44,8 @@ plan-put-requires c κs =
     let s = v .before .before .before .before .before in
     let r = s .pre .0 .0 in
     let e = v .mover .given .0 .0 in
-    ((r, omega arith, s .pre .0 .1), (copy-absent r (s .pre .1) e (first v), copy-next r (s .pre .1) e (first v)))
+    let first = mover-at (s .args .store .now) true (v .before .before .first-mover .ensures) (v .mover .given .1) in
+    ((r, omega arith, s .pre .0 .1), (copy-absent r (s .pre .1) e first, copy-next r (s .pre .1) e first))
 
 or-full-requires : tie.Need-or-full-requires
 or-full-requires c κs = search needs
@@ -75,8 +58,9 @@ returns-2 c =
     let p = c .before .before .before in
     let v = p .before .before .before .before in
     let s = v .before .before .before .before .before in
+    let first = mover-at (s .args .store .now) true (v .before .before .first-mover .ensures) (v .mover .given .1) in
     advances-as (places-advances (p .plan-put .ensures)) (c .or-full .ensures .0) (c .or-full .ensures .1)
-    (copy-step (s .pre .0 .0) (s .pre .1) (v .mover .given .0 .0) (first v))
+    (copy-step (s .pre .0 .0) (s .pre .1) (v .mover .given .0 .0) first)
 
 pub step-copying-spec : {M : Type 1} → statement M
 step-copying-spec =
