@@ -4,11 +4,11 @@ use model::Answer;
 use model::LookupAnswer;
 use model::Refusal;
 use model::StandingAnswer;
-use model::Stop;
 use model::WorkAnswer;
+use model::numbers::refusal_gives;
+use model::numbers::refusal_number;
+use model::numbers::stop_number;
 ghost use mathlib.Core.Path.{_≡_};
-ghost use Prim.Native.Nat.{_≤_};
-ghost use Rattle.model.specs.Answers.{stopNo};
 ghost use Rattle.amiqsovik.specs.Words.{packed, refusalWord, answerWord, lookupWord};
 ghost use Rattle.amiqsovik.specs.Words.{workWord, standingWord, verdictWord};
 
@@ -22,16 +22,7 @@ pub fn pack(number: u32, gives: u32) -> u64
 fn refusal_word(refusal: Refusal) -> u64
     ensures { λ r. ⌜ r ≡ refusalWord refusal ⌝ }
 {
-    match refusal {
-        Refusal::Length => 1,
-        Refusal::Number => 2,
-        Refusal::Damaged { block } => pack(3, block),
-        Refusal::NotIndex { rule } => pack(4, rule),
-        Refusal::HeldAlready => 5,
-        Refusal::NotHeld => 6,
-        Refusal::NoRoom => 7,
-        Refusal::OutputShort { matches } => pack(8, matches),
-    }
+    pack(refusal_number(refusal), refusal_gives(refusal))
 }
 
 // The word of a format, an insert or a removal.
@@ -62,21 +53,11 @@ pub fn standing_word(answer: StandingAnswer) -> u64
     }
 }
 
-fn stop_no(stop: Stop) -> u64
-    ensures { λ r. ⌜ (r ≡ stopNo stop) × (r ≤ 255) ⌝ }
-{
-    match stop {
-        Stop::Spent => 0,
-        Stop::Idle => 9,
-        Stop::NoRoom => 7,
-    }
-}
-
 pub fn work_word(answer: WorkAnswer) -> u64
     ensures { λ r. ⌜ r ≡ workWord answer ⌝ }
 {
     match answer {
-        WorkAnswer::Worked { steps, stop } => 256 * stop_no(stop) + 65536 * steps as u64,
+        WorkAnswer::Worked { steps, stop } => 256 * stop_number(stop) as u64 + 65536 * steps as u64,
         WorkAnswer::Refused(refusal) => refusal_word(refusal),
     }
 }
@@ -85,9 +66,9 @@ pub fn verdict_word(verdict: Verdict) -> u64
     ensures { λ r. ⌜ r ≡ verdictWord verdict ⌝ }
 {
     match verdict {
-        Verdict::BadLength => 1,
-        Verdict::Damaged { block } => pack(3, block),
-        Verdict::NotIndex { rule } => pack(4, rule),
+        Verdict::BadLength => refusal_word(Refusal::Length),
+        Verdict::Damaged { block } => refusal_word(Refusal::Damaged { block }),
+        Verdict::NotIndex { rule } => refusal_word(Refusal::NotIndex { rule }),
         Verdict::Sound => 0,
     }
 }

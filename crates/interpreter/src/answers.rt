@@ -1,9 +1,9 @@
 // Answers as text. Each function writes from the output's start on, and answers how many bytes.
 use model::Answer;
 use model::LookupAnswer;
-use model::Refusal;
-use model::Stop;
 use model::WorkAnswer;
+use model::numbers::refusal_number;
+use model::numbers::stop_number;
 use text::put_found;
 use text::put_ok;
 use text::put_refused;
@@ -12,36 +12,8 @@ ghost use mathlib.Core.Path.{_≡_};
 ghost use Prim.Native.Nat.{_*_, _≤_};
 ghost use lib.ListN.{length};
 ghost use Rattle.text.specs.Text.{Wrote, lineOutput};
-ghost use Rattle.model.specs.Answers.{refusalNo, stopNo};
 ghost use Rattle.interpreter.specs.Script.{answerText, lookupText, workText};
 ghost use Rattle.interpreter.specs.Runs.{Roomy};
-
-// Document 01's number of a refusal.
-pub fn refusal_number(refusal: Refusal) -> u32
-    ensures { λ r. ⌜ r ≡ refusalNo refusal ⌝ }
-{
-    match refusal {
-        Refusal::Length => 1,
-        Refusal::Number => 2,
-        Refusal::Damaged { block: _ } => 3,
-        Refusal::NotIndex { rule: _ } => 4,
-        Refusal::HeldAlready => 5,
-        Refusal::NotHeld => 6,
-        Refusal::NoRoom => 7,
-        Refusal::OutputShort { matches: _ } => 8,
-    }
-}
-
-// Document 01's number of a stop.
-fn stop_number(stop: Stop) -> u32
-    ensures { λ r. ⌜ r ≡ stopNo stop ⌝ }
-{
-    match stop {
-        Stop::Spent => 0,
-        Stop::Idle => 9,
-        Stop::NoRoom => 7,
-    }
-}
 
 pub fn put_answer(output: &mut [u8], line: u64, answer: Answer) -> usize
     requires { ⌜ lineOutput ≤ length (now output) ⌝ }

@@ -1,4 +1,5 @@
 // The types that the calls' answers are made of. Document 01's number of each case is a definition in specs/Answers.antt.
+pub mod numbers; // numbers.rt: those numbers in code
 
 // Why a call was refused, with what the refusal gives besides.
 pub enum Refusal {

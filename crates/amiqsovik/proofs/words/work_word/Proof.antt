@@ -8,14 +8,17 @@ use Rattle.amiqsovik.proofs.words.work_word.Tie as tie
 enum-known-answer : tie.Need-enum-known-answer
 enum-known-answer c = search needs
 
-stop-no-requires : tie.Need-stop-no-requires
-stop-no-requires c κs = search needs
+stop-number-requires : tie.Need-stop-number-requires
+stop-number-requires c κs = search needs
+
+cast-result : tie.Need-cast-result
+cast-result c = search needs
 
 mul-result : tie.Need-mul-result
 mul-result c = search needs
 
-cast-result : tie.Need-cast-result
-cast-result c = search needs
+cast-result-2 : tie.Need-cast-result-2
+cast-result-2 c = search needs
 
 mul-result-2 : tie.Need-mul-result-2
 mul-result-2 c = search needs
@@ -32,7 +35,7 @@ refusal-word-requires c κs = search needs
 returns : tie.Need-returns
 returns c =
     let a = c .before .before .answer .given in
-    omega (arith, c .stop-no .ensures .0, ap workWord (a .1))
+    omega (arith, c .stop-number .ensures, ap workWord (a .1))
 
 returns-2 : tie.Need-returns-2
 returns-2 c = c .refusal-word .ensures ∙ sym (ap workWord (c .before .before .answer2 .given .1))
@@ -42,9 +45,10 @@ work-word-spec =
     tie.close
     (tie.spec
     enum-known-answer
-    stop-no-requires
-    mul-result
+    stop-number-requires
     cast-result
+    mul-result
+    cast-result-2
     mul-result-2
     add-result
     enum-known-answer-2
