@@ -8,6 +8,7 @@ use index::format::format;
 use index::read::lookup;
 use index::read::standing;
 use index::work::work;
+use model::Order;
 use result::show;
 use verify::verify;
 use words::answer_word;
@@ -32,10 +33,10 @@ pub extern "C" fn amiqsovik_verify(store: &[u8]) -> u64
 
 #[no_mangle]
 pub extern "C" fn amiqsovik_format(store: &mut [u8], fill: u32) -> u64
-    ensures { λ r. ⌜ r ≡ answerWord (formatOutcome (now (store .entry)) fill .answer) ⌝ }
-    ensures { λ _. ⌜ now (store .exit) ≡ formatOutcome (now (store .entry)) fill .store ⌝ }
+    ensures { λ r. ⌜ r ≡ answerWord (formatOutcome (now (store .entry)) (record { fill = fill }) .answer) ⌝ }
+    ensures { λ _. ⌜ now (store .exit) ≡ formatOutcome (now (store .entry)) (record { fill = fill }) .store ⌝ }
 {
-    answer_word(format(store, fill))
+    answer_word(format(store, Order { fill }))
 }
 
 #[no_mangle]

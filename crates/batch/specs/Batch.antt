@@ -25,7 +25,7 @@ askingIn false = some asking
 -- so many bytes from the start of the output, or all of it.
 unfoldable pub callOf : (kind a b c : ℕ) → (output : List ℕ) → Option Call
 callOf kind a b c out =
-    cond (eqb kind 0) (some (formatting a))
+    cond (eqb kind 0) (some (formatting (record { fill = a })))
     (cond (eqb kind 1) (some (inserting (record { hash = a; block = b; offset = c })))
     (cond (eqb kind 2) (some (removing (record { hash = a; block = b; offset = c })))
     (cond (eqb kind 3) (some (looking a (take b out)))

@@ -31,7 +31,8 @@ fits-call kind a b c out ha hb hc =
     go (eqb kind 0) (eqb kind 1) (eqb kind 2) (eqb kind 3) (eqb kind 4) (ltb (length (take b out)) 28)
   where
     go : (p q r s t u : Bool)
-        → MayFit (cond p (some (formatting a)) (cond q (some (inserting (record { hash = a; block = b; offset = c })))
+        → MayFit (cond p (some (formatting (record { fill = a })))
+        (cond q (some (inserting (record { hash = a; block = b; offset = c })))
         (cond r (some (removing (record { hash = a; block = b; offset = c }))) (cond s (some (looking a (take b out)))
         (cond t (some (working a)) (askingIn u))))))
     go true q r s t u = ha
@@ -72,11 +73,12 @@ module _ (s : List ℕ) (kind a b c : ℕ) (out : List ℕ) where
       → Batched (callOf kind a b c out) b s out w s′ out′
   of d e {w} {s′} {out′} r = subst (λ (d : Option Call). Batched d b s out w s′ out′) (sym e) r
 
-  pub ran-format : {w : ℕ} {s′ : List ℕ} → kind ≡ 0 → w ≡ answerWord (formatOutcome s a .answer)
-      → s′ ≡ formatOutcome s a .store → Batched (callOf kind a b c out) b s out w s′ out
+  pub ran-format : {w : ℕ} {s′ : List ℕ} → kind ≡ 0 → w ≡ answerWord (formatOutcome s (record { fill = a }) .answer)
+      → s′ ≡ formatOutcome s (record { fill = a }) .store → Batched (callOf kind a b c out) b s out w s′ out
   unfolding callOf runStore
   ran-format k e f =
-      of (some (formatting a)) (ap (λ (n : ℕ). callOf n a b c out) k) (record { word = e; store = f; output = refl })
+      of (some (formatting (record { fill = a }))) (ap (λ (n : ℕ). callOf n a b c out) k)
+      (record { word = e; store = f; output = refl })
 
   pub ran-insert : {w : ℕ} {s′ : List ℕ} → kind ≡ 1
       → w ≡ answerWord (insertOutcome s (record { hash = a; block = b; offset = c }) .answer)

@@ -9,7 +9,8 @@ use mathlib.Core.Option.{Option, some}
 use Prim.Native.Nat.{ℕ, suc, _+_, _≤_, _<_}
 use lib.ListN.{length, getD, set}
 use Rattle.lists.specs.Lists.{Each}
-use Rattle.model.specs.Machine.{Call, formatting, accepted}
+use Rattle.model.specs.declared.Order.{Order}
+use Rattle.model.specs.Machine.{Call, formatting, CallFits, accepted}
 use Rattle.model.specs.History.{Moment, start}
 use Rattle.model.specs.Demand.{Holds}
 use Rattle.image.specs.Decode.{decode}
@@ -20,13 +21,13 @@ use Rattle.batch.specs.Batch.{callsIn, momentsIn, momentAfter}
 use Rattle.batch.specs.BatchLaws.{fits-calls, runs-next, last-each, moments-split, moment-store, runs-word}
 
 -- after an accepted format, n calls of any list, from call i on
-module _ (s : List ℕ) (fill : ℕ) (ok : accepted (runStore (formatting fill) s .reply) ≡ true)
-    (ws : List ℕ) (small : Small ws) (i n : ℕ) (output words : List ℕ) where
+module _ (s : List ℕ) (o : Order) (fit : CallFits (formatting o))
+    (ok : accepted (runStore (formatting o) s .reply) ≡ true) (ws : List ℕ) (small : Small ws) (i n : ℕ) (output words : List ℕ) where
   abbrev first : Kept
-  first = record { store = runStore (formatting fill) s .state; output = output; words = words }
+  first = record { store = runStore (formatting o) s .state; output = output; words = words }
 
   abbrev opening : Moment onStore
-  opening = start onStore (runStore (formatting fill) s .state) fill
+  opening = start onStore (runStore (formatting o) s .state) o
 
   -- what the first m calls leave, the moment after them, and the call that comes next
   abbrev left : (m : ℕ) → Kept
@@ -40,13 +41,13 @@ module _ (s : List ℕ) (fill : ℕ) (ok : accepted (runStore (formatting fill) 
 
   -- demand 3 holds at every moment of the calls
   pub demand3-batch : Each (Holds onStore decode) (opening ∷ momentsIn ws n i first opening)
-  demand3-batch = demand3-stores s fill ok (callsIn ws n i first) (fits-calls ws small n i first)
+  demand3-batch = demand3-stores s o fit ok (callsIn ws n i first) (fits-calls ws small n i first)
 
   -- so it does after the first m calls
   pub batch-moment : (m : ℕ) → Holds onStore decode (reached m)
   batch-moment m =
       last-each (Holds onStore decode) opening (momentsIn ws m i first opening)
-      (demand3-stores s fill ok (callsIn ws m i first) (fits-calls ws small m i first))
+      (demand3-stores s o fit ok (callsIn ws m i first) (fits-calls ws small m i first))
 
   -- and its store is the one that these calls leave
   pub batch-store : (m : ℕ) → reached m .state ≡ left m .store
@@ -71,14 +72,14 @@ module _ (s : List ℕ) (fill : ℕ) (ok : accepted (runStore (formatting fill) 
   batch-splits m = moments-split ws m n i first opening
 
 -- a batch whose first call is the format: from call 1 on it is one that follows it
-pub batch-format : (ws : List ℕ) (n fill : ℕ) (k : Kept) → callAt ws 0 (k .output) ≡ some (formatting fill)
+pub batch-format : (ws : List ℕ) (n : ℕ) (o : Order) (k : Kept) → callAt ws 0 (k .output) ≡ some (formatting o)
     → runs ws (suc n) 0 k ≡ runs ws n 1 (record {
-      store = runStore (formatting fill) (k .store) .state;
+      store = runStore (formatting o) (k .store) .state;
       output = k .output;
-      words = set (k .words) 0 (wordOf (some (formatting fill)) (k .store));
+      words = set (k .words) 0 (wordOf (some (formatting o)) (k .store));
     })
 unfolding ranAt runStore
-batch-format ws n fill k e =
+batch-format ws n o k e =
     ap (λ (c : Option Call). runs ws n 1 (record {
       store = storeAfter c (k .store);
       output = outputAfter c (lentAt ws 0) (k .store) (k .output);

@@ -3,6 +3,7 @@ use endian::raw::copy_over;
 use image::Meta;
 use meta::put_meta;
 use model::Answer;
+use model::Order;
 use model::Refusal;
 use store::Change;
 use store::finish;
@@ -125,16 +126,16 @@ fn format_blocks(store: &mut [u8], fill: u16)
 }
 
 // Makes a store new: two empty buckets, the bitmap, and all other blocks unused.
-pub fn format(store: &mut [u8], fill: u32) -> Answer
-    ensures { λ r. ⌜ r ≡ formatOutcome (now (store .entry)) fill .answer ⌝ }
-    ensures { λ _. ⌜ now (store .exit) ≡ formatOutcome (now (store .entry)) fill .store ⌝ }
+pub fn format(store: &mut [u8], order: Order) -> Answer
+    ensures { λ r. ⌜ r ≡ formatOutcome (now (store .entry)) order .answer ⌝ }
+    ensures { λ _. ⌜ now (store .exit) ≡ formatOutcome (now (store .entry)) order .store ⌝ }
 {
     if !check_length(store) {
         return Answer::Refused(Refusal::Length);
     }
-    if !check_fill(fill) {
+    if !check_fill(order.fill) {
         return Answer::Refused(Refusal::Number);
     }
-    format_blocks(store, fill as u16);
+    format_blocks(store, order.fill as u16);
     Answer::Done
 }

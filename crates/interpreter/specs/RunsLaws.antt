@@ -12,15 +12,16 @@ use Rattle.lists.specs.Block.{blocks}
 use Rattle.page.specs.declared.Pair.{Pair}
 use Rattle.line.specs.declared.Command.{Command}
 use Rattle.text.specs.Text.{storeText, refusedText}
+use Rattle.model.specs.declared.Order.{Order}
 use Rattle.model.specs.declared.Refusal.{Refusal}
 use Rattle.model.specs.declared.Answer.{Answer}
 use Rattle.model.specs.declared.LookupAnswer.{LookupAnswer}
 use Rattle.model.specs.Answers.{refusalNo}
 use Rattle.model.specs.Index.{Index}
 use Rattle.model.specs.Held.{matches}
-use Rattle.model.specs.Calls.{sizeOk, fillOk, format, listed, lookup}
+use Rattle.model.specs.Calls.{sizeOk, orderOk, format, listed, lookup}
 use Rattle.image.specs.Layout.{encode}
-use Rattle.outcomes.specs.Outcomes.{Tested, passed, failed, tested, formatOn, formatOutcome}
+use Rattle.outcomes.specs.Outcomes.{Tested, passed, failed, tested, Changed, formatOn, formatOutcome}
 use Rattle.image.specs.Rules.{lengthOk}
 use Rattle.outcomes.specs.Outcomes.{lookupOn, lookupOutcome}
 use Rattle.interpreter.specs.Script.{Turn, formatTurn, formatLine, runCommand}
@@ -80,44 +81,50 @@ lookup-roomy s h lent out r l m e = subst (λ (a : LookupAnswer). Roomy a out) e
 
 -- ---- format: what it makes goes by the length of the store alone
 
-format-turn : (s t : List ℕ) (line n fill : ℕ) (old : List ℕ) → length s ≡ length t
-    → formatTurn line n fill (formatOutcome s fill .answer) old (formatOutcome s fill .store)
-    ≡ formatTurn line n fill (formatOutcome t fill .answer) old (formatOutcome t fill .store)
+format-turn : (s t : List ℕ) (line n : ℕ) (o : Order) (old : List ℕ) → length s ≡ length t
+    → formatTurn line n (o .fill) (formatOutcome s o .answer) old (formatOutcome s o .store)
+    ≡ formatTurn line n (o .fill) (formatOutcome t o .answer) old (formatOutcome t o .store)
 unfolding formatOutcome lengthOk blocks
-format-turn s t line n fill old e =
-    both (lengthOk s) (fillOk fill) (encode (format (blocks s) fill))
-    ∙ ap (λ (k : ℕ). turn (eqb (k % 512) 0 && sizeOk (k / 512)) (fillOk fill) t (encode (format (k / 512) fill))) e
+format-turn s t line n o old e =
+    both (lengthOk s) (orderOk o) (encode (format (blocks s) o))
+    ∙ ap (λ (k : ℕ). turn (eqb (k % 512) 0 && sizeOk (k / 512)) (orderOk o) t (encode (format (k / 512) o))) e
   where
     turn : (l f : Bool) → List ℕ → List ℕ → Turn
-    turn l f x y = let c = formatOn l f x y in formatTurn line n fill (c .answer) old (c .store)
+    turn l f x y = let c = formatOn l f x y in formatTurn line n (o .fill) (c .answer) old (c .store)
 
     both : (l f : Bool) (y : List ℕ) → turn l f s y ≡ turn l f t y
     both false f y = refl
     both true false y = refl
     both true true y = refl
 
+-- the order of a line
+abbrev pub orderOf : ℕ → Order
+orderOf fill = record { fill = fill }
+
 module _ (s : List ℕ) (line n fill : ℕ) (old : List ℕ) (size : length s ≡ 512 * n) (few : n ≤ scriptBlocks) where
-  same : formatTurn line n fill (formatOutcome s fill .answer) old (formatOutcome s fill .store)
-      ≡ runCommand (Command.Format n fill) line old
+  abbrev d : Changed
+  d = formatOutcome s (orderOf fill)
+
+  same : formatTurn line n fill (d .answer) old (d .store) ≡ runCommand (Command.Format n fill) line old
   unfolding runCommand
   same =
-      format-turn s (replicate (512 * n) 0) line n fill old (size ∙ sym (length-replicate (512 * n) 0))
+      format-turn s (replicate (512 * n) 0) line n (orderOf fill) old (size ∙ sym (length-replicate (512 * n) 0))
       ∙ ap (λ (b : Bool). formatLine b n fill line old) (sym (le-leb n scriptBlocks few))
 
-  pub format-done : formatOutcome s fill .answer ≡ Answer.Done
-      → record { text = storeText n fill; store = formatOutcome s fill .store }
+  pub format-done : formatOutcome s (orderOf fill) .answer ≡ Answer.Done
+      → record { text = storeText n fill; store = formatOutcome s (orderOf fill) .store }
       ≡ runCommand (Command.Format n fill) line old
-  format-done e = sym (ap (λ (a : Answer). formatTurn line n fill a old (formatOutcome s fill .store)) e) ∙ same
+  format-done e = sym (ap (λ (a : Answer). formatTurn line n fill a old (d .store)) e) ∙ same
 
-  pub format-refused : (r : Refusal) → formatOutcome s fill .answer ≡ Answer.Refused r
+  pub format-refused : (r : Refusal) → formatOutcome s (orderOf fill) .answer ≡ Answer.Refused r
       → record { text = refusedText line (refusalNo r); store = old } ≡ runCommand (Command.Format n fill) line old
-  format-refused r e = sym (ap (λ (a : Answer). formatTurn line n fill a old (formatOutcome s fill .store)) e) ∙ same
+  format-refused r e = sym (ap (λ (a : Answer). formatTurn line n fill a old (d .store)) e) ∙ same
 
 -- a refused one changes nothing
-pub format-kept : (s : List ℕ) (fill : ℕ) (r : Refusal) → formatOutcome s fill .answer ≡ Answer.Refused r
-    → formatOutcome s fill .store ≡ s
+pub format-kept : (s : List ℕ) (o : Order) (r : Refusal) → formatOutcome s o .answer ≡ Answer.Refused r
+    → formatOutcome s o .store ≡ s
 unfolding formatOutcome
-format-kept s fill r e = go (lengthOk s) (fillOk fill) (encode (format (blocks s) fill)) e
+format-kept s o r e = go (lengthOk s) (orderOk o) (encode (format (blocks s) o)) e
   where
     go : (l f : Bool) (y : List ℕ) → formatOn l f s y .answer ≡ Answer.Refused r → formatOn l f s y .store ≡ s
     go false f y q = refl

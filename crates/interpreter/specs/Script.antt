@@ -47,7 +47,8 @@ scriptBlocks = 128
 -- an f, by whether N is at most that: "A number that is outside its field gets 2, N gets 1."
 abbrev pub formatLine : (small : Bool) → (blocks fill line : ℕ) → (store : List ℕ) → Turn
 formatLine true n fill line s =
-    let c = formatOutcome (replicate (512 * n) 0) fill in formatTurn line n fill (c .answer) s (c .store)
+    let c = formatOutcome (replicate (512 * n) 0) (record { fill = fill }) in
+    formatTurn line n fill (c .answer) s (c .store)
 formatLine false n fill line s = record { text = refusedText line 1; store = s }
 
 -- "A lookup lends 30,000 bytes"

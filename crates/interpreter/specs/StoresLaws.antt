@@ -11,22 +11,24 @@ use lib.ListN.{length, replicate, length-replicate}
 use Rattle.lists.specs.Block.{blocks}
 use Rattle.line.specs.declared.Command.{Command}
 use Rattle.line.specs.FitsLaws.{CommandFits}
+use Rattle.model.specs.declared.Order.{Order}
 use Rattle.model.specs.Index.{Job, idle, copying, clearing, Index}
 use Rattle.model.specs.Steps.{next, step}
-use Rattle.model.specs.Calls.{Result, done, refused, sizeOk, fillOk, budgetOk, format, formatted, insert, remove, work}
-use Rattle.model.specs.Machine.{Call, formatting, inserting, removing, looking, working, asking, CallFits, Ran}
-use Rattle.model.specs.Machine.{settled, workedIn, runIndex}
+use Rattle.model.specs.Calls.{sizeOk, orderOk, format}
+use Rattle.model.specs.Machine.{Call, inserting, removing, working, CallFits, Ran, runIndex}
 use Rattle.model.specs.FormatLaws.{format-wf}
 use Rattle.model.specs.FrameLaws.{SameJob, insert-frame, remove-frame, begin-frame, job-frame}
+use Rattle.model.specs.InsertLaws.{insert-wf}
+use Rattle.model.specs.RemoveLaws.{remove-wf}
 use Rattle.model.specs.StepLaws.{step-wf}
-use Rattle.model.specs.WorkLaws.{iterate-keeps}
+use Rattle.model.specs.RunLaws.{run-keeps}
 use Rattle.model.specs.MachineLaws.{never}
 use Rattle.image.specs.Layout.{encode}
 use Rattle.image.specs.BridgeTheorem.{encoding-is-sound}
 use Rattle.outcomes.specs.Outcomes.{tested, formatOn, formatOutcome, insertOutcome, removeOutcome}
 use Rattle.image.specs.Rules.{lengthOk}
 use Rattle.outcomes.specs.Outcomes.{workOutcome, runStore}
-use Rattle.outcomes.specs.OutcomeIndexLaws.{run-encode, run-wf}
+use Rattle.outcomes.specs.OutcomeIndexLaws.{run-encode}
 use Rattle.outcomes.specs.OutcomeSoundLaws.{legal-size}
 use Rattle.interpreter.specs.Script.{scriptBlocks, formatTurn, formatLine, runCommand}
 use Rattle.interpreter.specs.Stores.{Made, ScriptStore, empty, bytes}
@@ -66,65 +68,29 @@ made-step x y m e =
       small = omega (arith, size-step x y e, m .small);
     }
 
--- format of the model, by its tests
-abbrev formatAs : (size fill : Bool) → Index → Result
-formatAs = Rattle.model.specs.Calls.formatIn
-
-size-format : (x : Index) (fill : ℕ) (y : Index) → formatted x fill ≡ done y → y .size ≡ x .size
-unfolding formatted format
-size-format x fill y e = go (sizeOk (x .size)) (fillOk fill) e
-  where
-    go : (a b : Bool) → formatAs a b (format (x .size) fill) ≡ done y → y .size ≡ x .size
-    go false b e = never (cc)
-    go true false e = never (cc)
-    go true true e = let q : format (x .size) fill ≡ y = cc in ap (λ (z : Index). z .size) (sym q)
-
-begun-format : (x : Index) (fill : ℕ) (y : Index) → formatted x fill ≡ done y → Begun y
-unfolding formatted format
-begun-format x fill y e = go (sizeOk (x .size)) (fillOk fill) e
-  where
-    go : (a b : Bool) → formatAs a b (format (x .size) fill) ≡ done y → Begun y
-    go false b e = never (cc)
-    go true false e = never (cc)
-    go true true e =
-        let q : format (x .size) fill ≡ y = cc in λ n. absurd (n (ap (λ (z : Index). z .job) (sym q)))
-
-made-settled : (x : Index) (r : Result) → Begun x → ((y : Index) → r ≡ done y → Begun y) → Begun (settled x r .state)
-made-settled x (done y) h f = f y refl
-made-settled x (refused r) h f = h
-
-size-settled : (x : Index) (r : Result) → x .size ≤ scriptBlocks → ((y : Index) → r ≡ done y → y .size ≡ x .size)
-    → settled x r .state .size ≤ scriptBlocks
-size-settled x (done y) h f = omega (arith, f y refl)
-size-settled x (refused r) h f = h
+made-format : (n : ℕ) (o : Order) → sizeOk n ≡ true → orderOk o ≡ true → n ≤ scriptBlocks → Made (format n o)
+unfolding format
+made-format n o so oo few = record { wf = format-wf n o so oo; begun = λ ne. absurd (ne refl); small = few }
 
 made-run : (c : Call) → CallFits c → (x : Index) → Made x → Made (runIndex c x .state)
-unfolding runIndex work
-made-run (formatting fill) f x m =
-    record {
-      wf = run-wf (formatting fill) f x (m .wf);
-      begun = made-settled x (formatted x fill) (m .begun) (λ y e. begun-format x fill y e);
-      small = size-settled x (formatted x fill) (m .small) (λ y e. size-format x fill y e);
-    }
-made-run (inserting p) f x m =
-    record {
-      wf = run-wf (inserting p) f x (m .wf);
-      begun = made-settled x (insert x p) (m .begun) (λ y e. begun-same (insert-frame x p y e) (m .begun));
-      small = size-settled x (insert x p) (m .small) (λ y e. insert-frame x p y e .frame .size);
-    }
-made-run (removing p) f x m =
-    record {
-      wf = run-wf (removing p) f x (m .wf);
-      begun = made-settled x (remove x p) (m .begun) (λ y e. begun-same (remove-frame x p y e) (m .begun));
-      small = size-settled x (remove x p) (m .small) (λ y e. remove-frame x p y e .frame .size);
-    }
-made-run (looking h out) f x m = m
-made-run (working budget) f x m = go (budgetOk budget)
-  where
-    go : (b : Bool) → Made (workedIn b x (work budget x) .state)
-    go true = iterate-keeps step Made made-step budget x m
-    go false = m
-made-run asking f x m = m
+made-run =
+    run-keeps Made
+    (record {
+      formats = λ x o so oo m. made-format (x .size) o so oo (m .small);
+      inserts =
+          λ x p y m f e. record {
+            wf = insert-wf x p y (m .wf) f e;
+            begun = begun-same (insert-frame x p y e) (m .begun);
+            small = omega (arith, insert-frame x p y e .frame .size, m .small);
+          };
+      removes =
+          λ x p y m e. record {
+            wf = remove-wf x p y (m .wf) e;
+            begun = begun-same (remove-frame x p y e) (m .begun);
+            small = omega (arith, remove-frame x p y e .frame .size, m .small);
+          };
+      steps = made-step;
+    })
 
 -- ---- the stores of a script
 
@@ -137,19 +103,17 @@ call-store c f s (bytes x m) e =
     (bytes (runIndex c x .state) (made-run c f x m))
 
 -- an accepted f makes one, and a refused one leaves what stands
-format-store : (line n fill : ℕ) (z s : List ℕ) → blocks z ≤ scriptBlocks → ScriptStore s
-    → let c = formatOutcome z fill in ScriptStore (formatTurn line n fill (c .answer) s (c .store) .store)
-unfolding formatOutcome format
-format-store line n fill z s few p = go (lengthOk z) refl (fillOk fill) refl
+format-store : (line n fill : ℕ) (o : Order) (z s : List ℕ) → blocks z ≤ scriptBlocks → ScriptStore s
+    → let c = formatOutcome z o in ScriptStore (formatTurn line n fill (c .answer) s (c .store) .store)
+unfolding formatOutcome
+format-store line n fill o z s few p = go (lengthOk z) refl (orderOk o) refl
   where
-    go : (l : Bool) → lengthOk z ≡ l → (f : Bool) → fillOk fill ≡ f
-        → let c = formatOn l f z (encode (format (blocks z) fill)) in
+    go : (l : Bool) → lengthOk z ≡ l → (f : Bool) → orderOk o ≡ f
+        → let c = formatOn l f z (encode (format (blocks z) o)) in
         ScriptStore (formatTurn line n fill (c .answer) s (c .store) .store)
     go false h f k = p
     go true h false k = p
-    go true h true k =
-        bytes (format (blocks z) fill)
-        (record { wf = format-wf (blocks z) fill (legal-size z h) k; begun = λ n. absurd (n refl); small = few })
+    go true h true k = bytes (format (blocks z) o) (made-format (blocks z) o (legal-size z h) k few)
 
 -- N of the script's, or refusal 1
 line-store : (line n fill : ℕ) (s : List ℕ) → ScriptStore s
@@ -159,7 +123,7 @@ line-store line n fill s p = go (leb n scriptBlocks) refl
   where
     go : (t : Bool) → leb n scriptBlocks ≡ t → ScriptStore (formatLine t n fill line s .store)
     go true e =
-        format-store line n fill (replicate (512 * n) 0) s
+        format-store line n fill (record { fill = fill }) (replicate (512 * n) 0) s
         (omega (arith, leb-true n scriptBlocks e, length-replicate {A = ℕ} (512 * n) 0)) p
     go false e = p
 

@@ -11,6 +11,7 @@ use index::read::lookup;
 use index::work::work;
 use line::Command;
 use model::Answer;
+use model::Order;
 use model::numbers::refusal_number;
 use text::put_refused;
 use text::put_store;
@@ -42,7 +43,7 @@ fn run_format(
         };
     }
     let end = 512 * blocks as usize;
-    let answer = format(&mut store[..end], fill);
+    let answer = format(&mut store[..end], Order { fill });
     match answer {
         Answer::Done => {
             let written = put_store(output, blocks, fill);

@@ -9,6 +9,7 @@ use Rattle.lists.specs.Lists.{any, keep}
 use Rattle.address.specs.Address.{bucketOf}
 use Rattle.page.specs.declared.Pair.{Pair}
 use Rattle.page.specs.Pair.{same, enter}
+use Rattle.model.specs.declared.Order.{Order}
 use Rattle.model.specs.Held.{self, hasHash}
 use Rattle.model.specs.Machine.{Call, formatting, inserting, removing, looking, working, asking}
 
@@ -22,13 +23,13 @@ has bk p = any (same p) bk
 
 -- What an accepted call does to the book. A call that is new to the list is one line of `effect`.
 pub data Effect : Type 0 where
-  empties : (fill : ℕ) → Effect
+  empties : Order → Effect
   puts takes : Pair → Effect
   leaves : Effect
   hasSteps : (budget : ℕ) → Effect
 
 abbrev pub effect : Call → Effect
-effect (formatting fill) = empties fill
+effect (formatting o) = empties o
 effect (inserting p) = puts p
 effect (removing p) = takes p
 effect (looking h out) = leaves
@@ -36,7 +37,7 @@ effect (working budget) = hasSteps budget
 effect asking = leaves
 
 abbrev pub noted : Effect → Book → Book
-noted (empties fill) bk = []
+noted (empties o) bk = []
 noted (puts p) bk = cond (has bk p) bk (enter self p bk)
 noted (takes p) bk = keep (λ q. not (same p q)) bk
 noted leaves bk = bk
@@ -67,7 +68,7 @@ stirred (since c m k) = since false m k
 
 -- an accepted format forgets the splits, an insert or removal stirs the last one, and other calls leave it alone
 abbrev pub counted : Effect → Split → Split
-counted (empties fill) k = noSplit
+counted (empties o) k = noSplit
 counted (puts p) k = stirred k
 counted (takes p) k = stirred k
 counted leaves k = k
@@ -75,14 +76,14 @@ counted (hasSteps budget) k = k
 
 -- the fill of the last accepted format, and the begins since
 abbrev pub filled : Effect → ℕ → ℕ
-filled (empties fill) f = fill
+filled (empties o) f = o .fill
 filled (puts p) f = f
 filled (takes p) f = f
 filled leaves f = f
 filled (hasSteps budget) f = f
 
 abbrev pub begun : Effect → ℕ → ℕ
-begun (empties fill) n = 0
+begun (empties o) n = 0
 begun (puts p) n = n
 begun (takes p) n = n
 begun leaves n = n

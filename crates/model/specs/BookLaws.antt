@@ -9,12 +9,13 @@ use Rattle.page.specs.Pair.{same, before, enter, ascending}
 use Rattle.page.specs.PairLaws.{same-eq, same-sym}
 use Rattle.page.specs.SublistLaws.{sublist-keep}
 use Rattle.page.specs.AscendingLaws.{ascending-enter, ascending-sublist}
+use Rattle.model.specs.declared.Order.{Order}
 use Rattle.model.specs.Held.{self}
 use Rattle.model.specs.SortedLaws.{any-keep-pair}
 use Rattle.model.specs.Book.{Book, has, Effect, empties, puts, takes, leaves, hasSteps, noted}
 
 pub noted-ascending : (e : Effect) (bk : Book) → ascending self bk ≡ true → ascending self (noted e bk) ≡ true
-noted-ascending (empties fill) bk h = refl
+noted-ascending (empties o) bk h = refl
 noted-ascending (puts p) bk h = go (has bk p) refl
   where
     go : (b : Bool) → has bk p ≡ b → ascending self (cond b bk (enter self p bk)) ≡ true
@@ -54,5 +55,5 @@ has-puts p q bk = go (has bk p) refl
 pub has-takes : (p q : Pair) (bk : Book) → has (noted (takes p) bk) q ≡ not (same q p) && has bk q
 has-takes p q bk = any-keep-pair (λ r. not (same p r)) q bk ∙ ap (λ (b : Bool). not b && has bk q) (same-sym p q)
 
-pub has-empties : (fill : ℕ) (q : Pair) (bk : Book) → has (noted (empties fill) bk) q ≡ false
-has-empties fill q bk = refl
+pub has-empties : (o : Order) (q : Pair) (bk : Book) → has (noted (empties o) bk) q ≡ false
+has-empties o q bk = refl

@@ -11,6 +11,7 @@ use Rattle.address.specs.Limits.{maxBlocks}
 use Rattle.page.specs.declared.Pair.{Pair}
 use Rattle.page.specs.declared.Entry.{Entry}
 use Rattle.page.specs.Pair.{badPair}
+use Rattle.model.specs.declared.Order.{Order}
 use Rattle.model.specs.declared.Refusal.{Refusal}
 use Rattle.model.specs.declared.Answer.{Answer}
 use Rattle.model.specs.declared.LookupAnswer.{LookupAnswer}
@@ -33,6 +34,10 @@ sizeOk n = leb 4 n && leb n maxBlocks
 abbrev pub fillOk : ℕ → Bool
 fillOk fill = leb 1 fill && leb fill 40
 
+-- the numbers of a format
+abbrev pub orderOk : Order → Bool
+orderOk o = fillOk (o .fill)
+
 -- "offset 0; reading block 4294967295": an offset is a 16-bit number, so a larger one is outside its field
 abbrev pub pairOk : Pair → Bool
 pairOk p = not (badPair p) && leb (p .offset) 65535
@@ -44,11 +49,11 @@ budgetOk budget = leb budget 65535
 -- ---- format, insert, remove
 
 -- "meta, buckets 0 and 1 .., spares[1] = 1, .. no entries"
-unfoldable pub format : (size fill : ℕ) → Index
-format n fill =
+unfoldable pub format : (size : ℕ) → Order → Index
+format n o =
     record {
       size = n;
-      fill = fill;
+      fill = o .fill;
       maxBucket = 1;
       spares = 0 ∷ 1 ∷ [];
       job = idle;
@@ -64,14 +69,14 @@ abbrev pub orNoRoom : Option Index → Result
 orNoRoom (some y) = done y
 orNoRoom none = refused Refusal.NoRoom
 
-abbrev pub formatIn : (size fill : Bool) → Index → Result
+abbrev pub formatIn : (size order : Bool) → Index → Result
 formatIn false f y = refused Refusal.Length
 formatIn true false y = refused Refusal.Number
 formatIn true true y = done y
 
 -- "Format tests 1 and 2 only."
-unfoldable pub formatted : Index → (fill : ℕ) → Result
-formatted x fill = formatIn (sizeOk (x .size)) (fillOk fill) (format (x .size) fill)
+unfoldable pub formatted : Index → Order → Result
+formatted x o = formatIn (sizeOk (x .size)) (orderOk o) (format (x .size) o)
 
 abbrev pub insertIn : (numbers holds : Bool) → Index → Pair → Result
 insertIn false h x p = refused Refusal.Number

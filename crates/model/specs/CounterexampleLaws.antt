@@ -3,6 +3,7 @@
 use mathlib.Core.Path.{_≡_, refl}
 use mathlib.Core.List.{[]}
 use Prim.Native.Nat.{ℕ, _*_}
+use native.Mathlib.Omega.{arith}
 use lib.IntN.{subℕ}
 use Rattle.address.specs.Address.{splitFrom}
 use Rattle.model.specs.declared.Refusal.{Refusal}
@@ -22,7 +23,7 @@ use Rattle.model.specs.Demand.{Demand3}
 
 -- its state is the fill
 abbrev wrongRun : Call → ℕ → Ran ℕ
-wrongRun (formatting fill) s = record { reply = plain Answer.Done; state = fill }
+wrongRun (formatting o) s = record { reply = plain Answer.Done; state = o .fill }
 wrongRun (inserting p) s = record { reply = plain (Answer.Refused Refusal.NoRoom); state = s }
 wrongRun (removing p) s = record { reply = plain (Answer.Refused Refusal.NotHeld); state = s }
 wrongRun (looking h out) s =
@@ -44,4 +45,4 @@ wrong = record { State = ℕ; run = wrongRun; step = λ s. next s; stored = λ s
 
 -- standing gives phase copying before any begin
 pub wrong-fails : (index : ℕ → Index) → Demand3 wrong index → ⊥
-wrong-fails index d = let none : phaseAt wrong 1 ≡ Phase.None = d 1 1 refl [] tt .0 .0 .splits in never (cc)
+wrong-fails index d = let none : phaseAt wrong 1 ≡ Phase.None = d 1 (record { fill = 1 }) (omega arith) refl [] tt .0 .0 .splits in never (cc)

@@ -6,10 +6,11 @@ use Prim.Native.Nat.{ℕ, suc, _+_, _*_}
 use native.Mathlib.Omega.{arith}
 use Rattle.page.specs.declared.Pair.{Pair}
 use Rattle.page.specs.Pair.{same, ascending}
+use Rattle.model.specs.declared.Order.{Order}
 use Rattle.model.specs.Index.{Job, idle, copying, clearing, Index, oldBucket, newBucket}
 use Rattle.model.specs.Held.{self, held}
 use Rattle.model.specs.Steps.{next, step}
-use Rattle.model.specs.Calls.{sizeOk, fillOk, format, formatIn, formatted, done, insert, remove, phaseIn}
+use Rattle.model.specs.Calls.{sizeOk, orderOk, format, formatIn, formatted, done, insert, remove, phaseIn}
 use Rattle.model.specs.Machine.{formatting, inserting, CallFits, accepted, settled, runIndex, onIndex}
 use Rattle.model.specs.MachineLaws.{never}
 use Rattle.model.specs.Book.{has, puts, takes, movers, Split, noSplit, since, oneStep, stirred}
@@ -47,28 +48,28 @@ stir x y (since c m k) e u = tt
 
 -- ---- a format, an insert, a removal
 
-pub start-inv : (x : Index) (fill : ℕ) → sizeOk (x .size) ≡ true → fillOk fill ≡ true
-    → Inv (start onIndex (format (x .size) fill) fill)
+pub start-inv : (x : Index) (o : Order) → sizeOk (x .size) ≡ true → orderOk o ≡ true
+    → Inv (start onIndex (format (x .size) o) o)
 unfolding format
-start-inv x fill s f =
+start-inv x o s f =
     record {
-      wf = format-wf (x .size) fill s f;
+      wf = format-wf (x .size) o s f;
       set = refl;
-      agree = λ p. sym (format-held (x .size) fill s f p);
+      agree = λ p. sym (format-held (x .size) o s f p);
       newest = refl;
       fill = refl;
       track = refl;
     }
 
-pub format-inv : (x : Index) (fill : ℕ) → accepted (runIndex (formatting fill) x .reply) ≡ true
-    → Inv (start onIndex (runIndex (formatting fill) x .state) fill)
+pub format-inv : (x : Index) (o : Order) → accepted (runIndex (formatting o) x .reply) ≡ true
+    → Inv (start onIndex (runIndex (formatting o) x .state) o)
 unfolding runIndex formatted
-format-inv x fill h = go (sizeOk (x .size)) (fillOk fill) refl refl h
+format-inv x o h = go (sizeOk (x .size)) (orderOk o) refl refl h
   where
-    go : (s f : Bool) → sizeOk (x .size) ≡ s → fillOk fill ≡ f
-        → accepted (settled x (formatIn s f (format (x .size) fill)) .reply) ≡ true
-        → Inv (start onIndex (settled x (formatIn s f (format (x .size) fill)) .state) fill)
-    go true true e k h = start-inv x fill e k
+    go : (s f : Bool) → sizeOk (x .size) ≡ s → orderOk o ≡ f
+        → accepted (settled x (formatIn s f (format (x .size) o)) .reply) ≡ true
+        → Inv (start onIndex (settled x (formatIn s f (format (x .size) o)) .state) o)
+    go true true e k h = start-inv x o e k
     go true false e k h = never (cc)
     go false f e k h = never (cc)
 

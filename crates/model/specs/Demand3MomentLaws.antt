@@ -51,7 +51,7 @@ stages-end (suc n) t = go (step (t .state)) refl (λ y. stages-end n (stepped on
 
 within-inv : (a : Bool) (e : Effect) (t : Moment onIndex) → Inv t → Each Inv (within onIndex a e t)
 within-inv false e t i = tt
-within-inv true (empties fill) t i = tt
+within-inv true (empties o) t i = tt
 within-inv true (puts p) t i = tt
 within-inv true (takes p) t i = tt
 within-inv true leaves t i = tt
@@ -80,7 +80,7 @@ after-inv c fits t i = go (run-view c fits (t .state))
         → let a = accepted (r .reply) in
         Inv (marked onIndex a e (lastOf onIndex t (within onIndex a e t)) (r .state))
     go (refuses {e = e} {r = r} h) = refusal (accepted r) e h
-    go (formats {fill = fill} s f) = start-inv (t .state) fill s f
+    go (formats {o = o} s f) = start-inv (t .state) o s f
     go (inserts {p = p} {y = y} f e) = insert-inv p y f t i e
     go (removes {p = p} {y = y} e) = remove-inv p y t i e
     go (reads {r = r}) = reading (accepted r)
@@ -95,6 +95,6 @@ history-inv (c ∷ cs) fits t i =
     (j, history-inv cs (fits .1) (after onIndex c t) j)
 
 pub always-inv : Always onIndex Inv
-always-inv x fill ok cs fits =
-    let i = format-inv x fill ok in
-    (i, history-inv cs fits (start onIndex (runIndex (formatting fill) x .state) fill) i)
+always-inv x o fit ok cs fits =
+    let i = format-inv x o ok in
+    (i, history-inv cs fits (start onIndex (runIndex (formatting o) x .state) o) i)

@@ -7,6 +7,7 @@ use mathlib.Core.Option.{Option, none, some, Option·getD}
 use Prim.Native.Nat.{ℕ}
 use Rattle.page.specs.declared.Pair.{Pair}
 use Rattle.page.specs.Pair.{same}
+use Rattle.model.specs.declared.Order.{Order}
 use Rattle.model.specs.Machine.{Call, accepted, Machine}
 use Rattle.model.specs.Book.{Book, has, Effect, empties, puts, takes, leaves, hasSteps, effect, noted}
 use Rattle.model.specs.BookLaws.{has-puts, has-takes}
@@ -19,7 +20,7 @@ use Rattle.model.specs.Events.{Event, events, bookAfter, bears, latest}
 one-event : (p : Pair) (a : Bool) (e : Effect) (bk : Book)
     → has (cond a (noted e bk) bk) p ≡ Option·getD (bears p a e) (has bk p)
 one-event p false e bk = refl
-one-event p true (empties fill) bk = refl
+one-event p true (empties o) bk = refl
 one-event p true (puts q) bk = has-puts q p bk ∙ go (same p q)
   where
     go : (b : Bool) → b || has bk p ≡ Option·getD (cond b (some true) none) (has bk p)
@@ -62,8 +63,8 @@ module _ (M : Machine) where
 
   -- the book has a pair exactly when, since the last accepted format, its latest accepted insert or removal is an
   -- insert
-  pub book-latest : (cs : List Call) (s : M .State) (fill : ℕ) (p : Pair)
-      → let t = start M s fill in
+  pub book-latest : (cs : List Call) (s : M .State) (o : Order) (p : Pair)
+      → let t = start M s o in
       has (lastOf M t (history M cs t) .book) p ≡ Option·getD (latest p (events M cs s)) false
-  book-latest cs s fill p =
-      ap (λ bk. has bk p) (history-book cs (start M s fill)) ∙ has-after p (events M cs s) []
+  book-latest cs s o p =
+      ap (λ bk. has bk p) (history-book cs (start M s o)) ∙ has-after p (events M cs s) []

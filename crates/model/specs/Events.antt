@@ -26,7 +26,7 @@ bookAfter (e ∷ es) bk = bookAfter es (cond (e .accepted) (noted (effect (e .ca
 -- whether a call of an effect bears on a pair: it puts it in, it leaves it out, or neither
 abbrev pub bears : Pair → (accepted : Bool) → Effect → Option Bool
 bears p false e = none
-bears p true (empties fill) = some false
+bears p true (empties o) = some false
 bears p true (puts q) = cond (same p q) (some true) none
 bears p true (takes q) = cond (same p q) (some false) none
 bears p true leaves = none

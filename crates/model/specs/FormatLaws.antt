@@ -12,9 +12,10 @@ use Rattle.address.specs.Role.{SparesOk}
 use Rattle.address.specs.AgreeLaws.{spares-wider}
 use Rattle.address.specs.FormatLaws.{point-first, spares-first}
 use Rattle.page.specs.declared.Pair.{Pair}
+use Rattle.model.specs.declared.Order.{Order}
 use Rattle.model.specs.Index.{noChain, chain, bucket}
 use Rattle.model.specs.Held.{held}
-use Rattle.model.specs.Calls.{sizeOk, fillOk, format}
+use Rattle.model.specs.Calls.{sizeOk, orderOk, format}
 use Rattle.address.specs.Limits.{maxBlocks}
 use Rattle.model.specs.WellFormed.{unmovedAt, movedAt, PlacedIn, Laid, WF}
 use Rattle.model.specs.HeldIn.{heldIn}
@@ -22,25 +23,25 @@ use Rattle.model.specs.PlacedLaws.{idle-copying}
 use Rattle.model.specs.ChainOkLaws.{noChain-ok}
 use Rattle.model.specs.HeldLaws.{held-is}
 
-module _ (n fill : ℕ) (so : sizeOk n ≡ true) (fo : fillOk fill ≡ true) where
+module _ (n : ℕ) (o : Order) (so : sizeOk n ≡ true) (oo : orderOk o ≡ true) where
   format-spares : SparesOk (0 ∷ 1 ∷ []) (point 1) n
   format-spares =
       rw point-first
       (spares-wider (0 ∷ 1 ∷ []) 1 4 n (leb-true 4 n (and-left (leb 4 n) (leb n maxBlocks) so)) spares-first)
 
-  format-chain : (b : ℕ) → chain (format n fill) b ≡ noChain
+  format-chain : (b : ℕ) → chain (format n o) b ≡ noChain
   unfolding format
   format-chain zero = refl
   format-chain (suc zero) = refl
   format-chain (suc (suc b)) = refl
 
-  format-laid : Laid (format n fill)
+  format-laid : Laid (format n o)
   unfolding format
   format-laid =
       record {
         size = leb-true n maxBlocks (and-right (leb 4 n) (leb n maxBlocks) so);
-        fillLow = leb-true 1 fill (and-left (leb 1 fill) (leb fill 40) fo);
-        fillHigh = leb-true fill 40 (and-right (leb 1 fill) (leb fill 40) fo);
+        fillLow = leb-true 1 (o .fill) (and-left (leb 1 (o .fill)) (leb (o .fill) 40) oo);
+        fillHigh = leb-true (o .fill) 40 (and-right (leb 1 (o .fill)) (leb (o .fill) 40) oo);
         two = omega arith;
         spares = format-spares;
         whole = refl;
@@ -49,14 +50,14 @@ module _ (n fill : ℕ) (so : sizeOk n ≡ true) (fo : fillOk fill ≡ true) whe
         pages = λ b. rw (format-chain b) noChain-ok;
       }
 
-  format-stands : (p : Pair) (b : ℕ) → unmovedAt (format n fill) p b + movedAt (format n fill) p b ≡ 0
+  format-stands : (p : Pair) (b : ℕ) → unmovedAt (format n o) p b + movedAt (format n o) p b ≡ 0
   format-stands p b = rw (format-chain b)
 
-  pub format-wf : WF (format n fill)
+  pub format-wf : WF (format n o)
   unfolding format
   format-wf = record { laid = format-laid; placed = placed }
     where
-      placed : (p : Pair) → PlacedIn (format n fill) p
+      placed : (p : Pair) → PlacedIn (format n o) p
       placed p =
           record {
             once = λ b. omega (arith, format-stands p b);
@@ -65,6 +66,6 @@ module _ (n fill : ℕ) (so : sizeOk n ≡ true) (fo : fillOk fill ≡ true) whe
             fresh = λ c. absurd (idle-copying c);
           }
 
-  pub format-held : (p : Pair) → held (format n fill) p ≡ false
+  pub format-held : (p : Pair) → held (format n o) p ≡ false
   unfolding heldIn format
-  format-held p = held-is (format n fill) format-wf p false (format-stands p (bucket (format n fill) p))
+  format-held p = held-is (format n o) format-wf p false (format-stands p (bucket (format n o) p))

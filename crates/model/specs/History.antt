@@ -5,6 +5,7 @@ use mathlib.Core.Bool.{Bool, true, false}
 use mathlib.Core.List.{List, [], _∷_, _++_}
 use Prim.Native.Nat.{ℕ, zero, suc, _+_}
 use Rattle.lists.specs.Lists.{Each}
+use Rattle.model.specs.declared.Order.{Order}
 use Rattle.model.specs.declared.Phase.{Phase}
 use Rattle.model.specs.Answers.{standingOf}
 use Rattle.model.specs.Steps.{next, stopped}
@@ -65,7 +66,7 @@ module _ (M : Machine) where
   -- the moments within a call, by whether it was accepted
   abbrev pub within : (accepted : Bool) → Effect → Moment → List Moment
   within false e t = []
-  within true (empties fill) t = []
+  within true (empties o) t = []
   within true (puts p) t = []
   within true (takes p) t = []
   within true leaves t = []
@@ -94,12 +95,12 @@ module _ (M : Machine) where
   history (c ∷ cs) t =
       within (accepted (M .run c (t .state) .reply)) (effect c) t ++ (after c t ∷ history cs (after c t))
 
-  abbrev pub start : State → (fill : ℕ) → Moment
-  start s fill = record { state = s; book = []; fill = fill; begins = 0; split = noSplit }
+  abbrev pub start : State → Order → Moment
+  start s o = record { state = s; book = []; fill = o .fill; begins = 0; split = noSplit }
 
   -- a claim at the start, when a format was accepted, and at every moment of every list of calls that follows
   abbrev pub Always : (Moment → Type 0) → Type 0
   Always P =
-      (s : State) (fill : ℕ) → accepted (M .run (formatting fill) s .reply) ≡ true
+      (s : State) (o : Order) → CallFits (formatting o) → accepted (M .run (formatting o) s .reply) ≡ true
       → (cs : List Call) → Each CallFits cs
-      → let t = start (M .run (formatting fill) s .state) fill in Each P (t ∷ history cs t)
+      → let t = start (M .run (formatting o) s .state) o in Each P (t ∷ history cs t)

@@ -15,9 +15,9 @@ use Rattle.model.specs.History.{Moment, phaseAt, stepIn, stepped, stages
 use Rattle.model.specs.History.{start, Always}
 
 pub always-map : {M : Machine} (P Q : Moment M → Type 0) → ((t : Moment M) → P t → Q t) → Always M P → Always M Q
-always-map {M} P Q f d s fill ok cs fits =
-    let t = start M (M .run (formatting fill) s .state) fill in
-    each-map P Q f (t ∷ history M cs t) (d s fill ok cs fits)
+always-map {M} P Q f d s o fit ok cs fits =
+    let t = start M (M .run (formatting o) s .state) o in
+    each-map P Q f (t ∷ history M cs t) (d s o fit ok cs fits)
 
 -- ---- the moment after a call
 
@@ -61,7 +61,7 @@ module _ (M : Machine) where
           → marked M a e (lastOf M t (within M a e t)) (M .run c (t .state) .state) .book
           ≡ cond a (noted e (t .book)) (t .book)
       go false e = refl
-      go true (empties fill) = refl
+      go true (empties o) = refl
       go true (puts p) = refl
       go true (takes p) = refl
       go true leaves = refl
@@ -96,7 +96,7 @@ module _ (M : Machine) (P : M .State → Type 0)
 
   within-keeps : (a : Bool) (f : Effect) (t : Moment M) → At t → Each At (within M a f t)
   within-keeps false f t p = tt
-  within-keeps true (empties fill) t p = tt
+  within-keeps true (empties o) t p = tt
   within-keeps true (puts q) t p = tt
   within-keeps true (takes q) t p = tt
   within-keeps true leaves t p = tt

@@ -4,6 +4,7 @@ use mathlib.Core.List.{List}
 use Prim.Native.Nat.{ℕ, _^_, _<_}
 use lib.Dec.{eqb}
 use Rattle.page.specs.declared.Pair.{Pair}
+use Rattle.model.specs.declared.Order.{Order}
 use Rattle.model.specs.declared.Refusal.{Refusal}
 use Rattle.model.specs.declared.Answer.{Answer}
 use Rattle.model.specs.declared.WorkAnswer.{WorkAnswer}
@@ -16,7 +17,7 @@ use Rattle.model.specs.Calls.{Result, done, refused, budgetOk, formatted
 
 -- A call with its numbers; a lookup lends an output.
 pub data Call : Type 0 where
-  formatting : (fill : ℕ) → Call
+  formatting : Order → Call
   inserting : Pair → Call
   removing : Pair → Call
   looking : (hash : ℕ) → (output : List ℕ) → Call
@@ -25,7 +26,7 @@ pub data Call : Type 0 where
 
 -- the numbers come as u32
 abbrev pub CallFits : Call → Type 0
-CallFits (formatting fill) = fill < 2 ^ 32
+CallFits (formatting o) = o .fill < 2 ^ 32
 CallFits (inserting p) = (p .hash < 2 ^ 32) × (p .block < 2 ^ 32) × (p .offset < 2 ^ 32)
 CallFits (removing p) = (p .hash < 2 ^ 32) × (p .block < 2 ^ 32) × (p .offset < 2 ^ 32)
 CallFits (looking h out) = h < 2 ^ 32
@@ -72,7 +73,7 @@ workedIn false x w = record { reply = worked (WorkAnswer.Refused Refusal.Number)
 workedIn true x w = record { reply = worked (WorkAnswer.Worked (w .steps) (w .stop)); state = w .state }
 
 unfoldable pub runIndex : Call → Index → Ran Index
-runIndex (formatting fill) x = settled x (formatted x fill)
+runIndex (formatting o) x = settled x (formatted x o)
 runIndex (inserting p) x = settled x (insert x p)
 runIndex (removing p) x = settled x (remove x p)
 runIndex (looking h out) x = record { reply = looked (lookup x h out); state = x }

@@ -5,12 +5,13 @@ use mathlib.Core.Bool.{Bool, true, false}
 use Prim.Native.Nat.{ℕ}
 use lib.Dec.{eqb}
 use Rattle.page.specs.declared.Pair.{Pair}
+use Rattle.model.specs.declared.Order.{Order}
 use Rattle.model.specs.declared.Refusal.{Refusal}
 use Rattle.model.specs.declared.Answer.{Answer}
 use Rattle.model.specs.Answers.{refusalNo}
 use Rattle.model.specs.Index.{Index}
 use Rattle.model.specs.Steps.{next, step}
-use Rattle.model.specs.Calls.{Result, done, refused, sizeOk, fillOk, budgetOk, format, formatIn, formatted}
+use Rattle.model.specs.Calls.{Result, done, refused, sizeOk, orderOk, budgetOk, format, formatIn, formatted}
 use Rattle.model.specs.Calls.{insert, remove, work}
 use Rattle.model.specs.Machine.{Call, formatting, inserting, removing, looking, working, asking, CallFits, Reply}
 use Rattle.model.specs.Machine.{plain, accepted, Ran, settled, workedIn, runIndex}
@@ -29,8 +30,8 @@ refused-no (Refusal.OutputShort n) = refl
 
 pub data Running (x : Index) : Effect → Ran Index → Type 0 where
   refuses : {e : Effect} {r : Reply} → accepted r ≡ false → Running x e (record { reply = r; state = x })
-  formats : {fill : ℕ} → sizeOk (x .size) ≡ true → fillOk fill ≡ true
-      → Running x (empties fill) (record { reply = plain Answer.Done; state = format (x .size) fill })
+  formats : {o : Order} → sizeOk (x .size) ≡ true → orderOk o ≡ true
+      → Running x (empties o) (record { reply = plain Answer.Done; state = format (x .size) o })
   inserts : {p : Pair} {y : Index} → CallFits (inserting p) → insert x p ≡ done y
       → Running x (puts p) (record { reply = plain Answer.Done; state = y })
   removes : {p : Pair} {y : Index} → remove x p ≡ done y
@@ -41,10 +42,10 @@ pub data Running (x : Index) : Effect → Ran Index → Type 0 where
 
 pub run-view : (c : Call) → CallFits c → (x : Index) → Running x (effect c) (runIndex c x)
 unfolding runIndex formatted
-run-view (formatting fill) fits x = go (sizeOk (x .size)) (fillOk fill) refl refl
+run-view (formatting o) fits x = go (sizeOk (x .size)) (orderOk o) refl refl
   where
-    go : (s f : Bool) → sizeOk (x .size) ≡ s → fillOk fill ≡ f
-        → Running x (empties fill) (settled x (formatIn s f (format (x .size) fill)))
+    go : (s f : Bool) → sizeOk (x .size) ≡ s → orderOk o ≡ f
+        → Running x (empties o) (settled x (formatIn s f (format (x .size) o)))
     go true true e k = formats e k
     go true false e k = refuses refl
     go false f e k = refuses refl
@@ -70,7 +71,7 @@ run-view asking fits x = reads
 
 -- format, insert, remove and each step keep P
 pub record Keeps (P : Index → Type 0) : Type 0 where
-  pub formats : (x : Index) (fill : ℕ) → sizeOk (x .size) ≡ true → fillOk fill ≡ true → P x → P (format (x .size) fill)
+  pub formats : (x : Index) (o : Order) → sizeOk (x .size) ≡ true → orderOk o ≡ true → P x → P (format (x .size) o)
   pub inserts : (x : Index) (p : Pair) (y : Index) → P x → CallFits (inserting p) → insert x p ≡ done y → P y
   pub removes : (x : Index) (p : Pair) (y : Index) → P x → remove x p ≡ done y → P y
   pub steps : (x y : Index) → P x → step x ≡ next y → P y
@@ -81,7 +82,7 @@ run-keeps P k c fits x h = go (run-view c fits x)
   where
     go : {e : Effect} {r : Ran Index} → Running x e r → P (r .state)
     go (refuses d) = h
-    go (formats {fill = fill} s f) = k .formats x fill s f h
+    go (formats {o = o} s f) = k .formats x o s f h
     go (inserts {p = p} {y = y} f e) = k .inserts x p y h f e
     go (removes {p = p} {y = y} e) = k .removes x p y h e
     go reads = h

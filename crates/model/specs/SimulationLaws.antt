@@ -6,6 +6,7 @@ use mathlib.Core.Bool.{Bool, true, false}
 use mathlib.Core.List.{List, [], _∷_, _++_}
 use Prim.Native.Nat.{ℕ, zero, suc, _+_, _≤_}
 use Rattle.lists.specs.Lists.{Each}
+use Rattle.model.specs.declared.Order.{Order}
 use Rattle.model.specs.declared.Stop.{Stop}
 use Rattle.model.specs.declared.Phase.{Phase}
 use Rattle.model.specs.Steps.{Step, next, stopped, Worked, iterate}
@@ -73,10 +74,10 @@ both-each Q S f (also {a = a} {b = b} p k) h = (f a b p (h .0), both-each Q S f 
 
 module _ (M L : Machine) (R : L .State → M .State → Type 0) where
   -- a state of M whose format ends beside that of s
-  pub record Formats (s : L .State) (fill : ℕ) : Type 0 where
+  pub record Formats (s : L .State) (o : Order) : Type 0 where
     pub from : M .State
-    pub taken : accepted (M .run (formatting fill) from .reply) ≡ true
-    pub related : R (L .run (formatting fill) s .state) (M .run (formatting fill) from .state)
+    pub taken : accepted (M .run (formatting o) from .reply) ≡ true
+    pub related : R (L .run (formatting o) s .state) (M .run (formatting o) from .state)
 
   pub record Simulates : Type 0 where
     -- related states answer every call alike, and are related afterwards
@@ -89,7 +90,8 @@ module _ (M L : Machine) (R : L .State → M .State → Type 0) where
     -- L's work calls are made of its own steps (`iterate-works`)
     pub works : (s : L .State) (x : M .State) → R s x → (budget : ℕ) → budget ≤ 65535 → WorkIs L s budget
     -- whatever L formats, some state of M formats to a related one
-    pub formats : (s : L .State) (fill : ℕ) → accepted (L .run (formatting fill) s .reply) ≡ true → Formats s fill
+    pub formats : (s : L .State) (o : Order) → CallFits (formatting o) → accepted (L .run (formatting o) s .reply) ≡ true
+        → Formats s o
 
 -- moments with related states that know the same
 module _ {M L : Machine} (R : L .State → M .State → Type 0) where
@@ -160,7 +162,7 @@ module _ {M L : Machine} (R : L .State → M .State → Type 0) where
     within-beside : (a : Bool) (e : Effect) (t : Moment L) (u : Moment M) → Beside t u
         → Both Beside (within L a e t) (within M a e u)
     within-beside false e t u b = ends
-    within-beside true (empties fill) t u b = ends
+    within-beside true (empties o) t u b = ends
     within-beside true (puts p) t u b = ends
     within-beside true (takes p) t u b = ends
     within-beside true leaves t u b = ends
@@ -183,17 +185,17 @@ module _ {M L : Machine} (R : L .State → M .State → Type 0) where
 pub carry : {M L : Machine} (R : L .State → M .State → Type 0) → Simulates M L R
     → (Q : Moment M → Type 0) (P : Moment L → Type 0) → ((t : Moment L) (u : Moment M) → Beside R t u → Q u → P t)
     → Always M Q → Always L P
-carry {M} {L} R sim Q P f d s fill ok cs fits =
-    both-each P Q f (also b (history-beside R sim cs t u fits b)) (d (g .from) fill (g .taken) cs fits)
+carry {M} {L} R sim Q P f d s o fit ok cs fits =
+    both-each P Q f (also b (history-beside R sim cs t u fits b)) (d (g .from) o fit (g .taken) cs fits)
   where
-    g : Formats M L R s fill
-    g = sim .formats s fill ok
+    g : Formats M L R s o
+    g = sim .formats s o fit ok
 
     t : Moment L
-    t = start L (L .run (formatting fill) s .state) fill
+    t = start L (L .run (formatting o) s .state) o
 
     u : Moment M
-    u = start M (M .run (formatting fill) (g .from) .state) fill
+    u = start M (M .run (formatting o) (g .from) .state) o
 
     b : Beside R t u
     b = record { state = g .related; book = refl; fill = refl; begins = refl; split = refl }

@@ -1,5 +1,10 @@
-// The types that the calls' answers are made of. Document 01's number of each case is a definition in specs/Answers.antt.
+// The types of the calls' numbers and answers. Document 01's number of each answer is a definition in specs/Answers.antt.
 pub mod numbers; // numbers.rt: those numbers in code
+
+// The numbers that a caller gives format. N is none of them: it is the store's length.
+pub struct Order {
+    pub fill: u32,
+}
 
 // Why a call was refused, with what the refusal gives besides.
 pub enum Refusal {

@@ -11,6 +11,7 @@ use Rattle.address.specs.Address.{bucketOf, bucketBlock, bitBlock}
 use Rattle.page.specs.declared.Pair.{Pair}
 use Rattle.page.specs.declared.Entry.{Entry}
 use Rattle.page.specs.Entries.{entriesOf}
+use Rattle.model.specs.declared.Order.{Order}
 use Rattle.model.specs.Answers.{lookupGives, workSteps, workStop, standingOf}
 use Rattle.model.specs.Machine.{Call, formatting, inserting, removing, looking, working, asking}
 use Rattle.model.specs.Machine.{Reply, plain, looked, worked, stands, replyNo, Machine}
@@ -29,6 +30,10 @@ module _ (M : Machine) where
   replies [] s = []
   replies (c ∷ cs) s = M .run c s .reply ∷ replies cs (M .run c s .state)
 
+-- a fill, as the order that a format takes
+abbrev pub orderOf : ℕ → Order
+orderOf fill = record { fill = fill }
+
 -- a hash code, with one reading's place for all
 abbrev pub pairOf : ℕ → Pair
 pairOf h = record { hash = h; block = 9; offset = 1 }
@@ -39,13 +44,13 @@ evens k = map (λ (i : ℕ). inserting (pairOf (2 * i))) (upFrom 0 k)
 
 -- E's 41 inserts, of which the last is hash 80; F's removal of that; G's three inserts, of hashes 0, 2, 4
 abbrev pub filledE : List Call
-filledE = formatting 40 ∷ evens 41
+filledE = formatting (orderOf 40) ∷ evens 41
 
 abbrev pub filledF : List Call
 filledF = filledE ++ removing (pairOf 80) ∷ []
 
 abbrev pub filledG : List Call
-filledG = formatting 1 ∷ evens 3
+filledG = formatting (orderOf 1) ∷ evens 3
 
 -- ---- what the cards ask of replies and stores
 
@@ -102,10 +107,10 @@ module _ (fresh : ℕ → List ℕ) where
       ∷ (map (bucketBlock (0 ∷ 1 ∷ 3 ∷ [])) (2 ∷ 3 ∷ 4 ∷ []) is (4 ∷ 5 ∷ 8 ∷ []))
       ∷ (map (bitBlock (0 ∷ 1 ∷ 3 ∷ []) 2) (1 ∷ 2 ∷ []) is (6 ∷ 7 ∷ []))
       -- C. N = 4: format accepted; N = 3 gets 1.
-      ∷ (nos 4 (formatting 10 ∷ []) is (0 ∷ []))
-      ∷ (nos 3 (formatting 10 ∷ []) is (1 ∷ []))
+      ∷ (nos 4 (formatting (orderOf 10) ∷ []) is (0 ∷ []))
+      ∷ (nos 3 (formatting (orderOf 10) ∷ []) is (1 ∷ []))
       -- D. N = 4, fill 40: even hashes, 40 accepted, 41st gets 7; an odd one is accepted.
-      ∷ (nos 4 (formatting 40 ∷ evens 41 ++ inserting (pairOf 1) ∷ []) is (0 ∷ replicate 40 0 ++ 7 ∷ 0 ∷ []))
+      ∷ (nos 4 (formatting (orderOf 40) ∷ evens 41 ++ inserting (pairOf 1) ∷ []) is (0 ∷ replicate 40 0 ++ 7 ∷ 0 ∷ []))
       -- E. Same with N = 5: the 41st goes to block 4, spares[1] = 2.
       ∷ (nos 5 filledE is (0 ∷ replicate 41 0))
       ∷ (hashesOn (block (storeAfter 5 filledE) 4) is (80 ∷ []))
@@ -124,9 +129,9 @@ module _ (fresh : ℕ → List ℕ) where
       ∷ (gets 6 (filledG ++ working 2 ∷ []) (removing (pairOf 2)) is (0 ∷ []))
       ∷ (gets 6 (filledG ++ working 2 ∷ removing (pairOf 2) ∷ []) (working 9) is (0 ∷ 2 ∷ 9 ∷ []))
       -- J. No match, output of 0 bytes: done, 0.
-      ∷ (gets 4 (formatting 1 ∷ []) (looking 7 []) is (0 ∷ 0 ∷ []))
+      ∷ (gets 4 (formatting (orderOf 1) ∷ []) (looking 7 []) is (0 ∷ 0 ∷ []))
       -- K. Budget 0: 0 steps, stop 0.
-      ∷ (gets 4 (formatting 1 ∷ []) (working 0) is (0 ∷ 0 ∷ 0 ∷ []))
+      ∷ (gets 4 (formatting (orderOf 1) ∷ []) (working 0) is (0 ∷ 0 ∷ 0 ∷ []))
       ∷ []
 
 -- each card gives what the paper says, whatever bytes the stores had before

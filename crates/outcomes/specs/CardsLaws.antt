@@ -16,11 +16,12 @@ use Rattle.address.specs.Address.{point, bucketPoint, bucketBlock, bitBlock, ma
 use Rattle.address.specs.Role.{roleOf}
 use Rattle.page.specs.Entries.{encodeEntry, encodePage, readEntry, entryAt, entriesFrom, entriesOf}
 use Rattle.store.specs.Store.{trailer, covered, sealed}
+use Rattle.model.specs.declared.Order.{Order}
 use Rattle.model.specs.Index.{Index}
 use Rattle.model.specs.Pages.{freeBit, firstFree, takePage, put, cut}
 use Rattle.model.specs.Held.{sources, held, matches, count, slack, wanted}
 use Rattle.model.specs.Steps.{begin, step}
-use Rattle.model.specs.Calls.{sizeOk, fillOk, format, insert, remove, lookup, standing, work}
+use Rattle.model.specs.Calls.{sizeOk, orderOk, format, insert, remove, lookup, standing, work}
 use Rattle.model.specs.Machine.{Call, formatting, inserting, removing, looking, working, asking, CallFits}
 use Rattle.model.specs.Machine.{Reply, plain, replyNo, runIndex, onIndex}
 use Rattle.model.specs.FormatLaws.{format-wf}
@@ -34,8 +35,8 @@ use Rattle.image.specs.EncodeLaws.{block-encode}
 use Rattle.image.specs.EncodePagesLaws.{meta-encode, point-encode, spares-encode}
 use Rattle.image.specs.SoundStore.{Encodes}
 use Rattle.outcomes.specs.OutcomeMachineLaws.{simulates}
-use Rattle.outcomes.specs.Cards.{after, replies, pairOf, evens, replyNumbers, slackIn, hashesOn, Card, storeAfter}
-use Rattle.outcomes.specs.Cards.{nos, cards, Bench}
+use Rattle.outcomes.specs.Cards.{after, replies, orderOf, pairOf, evens, replyNumbers, slackIn, hashesOn, Card}
+use Rattle.outcomes.specs.Cards.{storeAfter, nos, cards, Bench}
 
 -- ---- a store and the index whose bytes it is
 
@@ -79,13 +80,13 @@ evens-fit k h cs f = go 0 k (omega arith)
     go i (suc k) h = ((omega arith, omega arith, omega arith), go (suc i) k (omega arith))
 
 -- a format of n blocks of any bytes
-format-is : (s : List ℕ) (n fill : ℕ) → length s ≡ 512 * n
-    → formatOutcome s fill ≡ formatOn (sizeOk n) (fillOk fill) s (encode (format n fill))
+format-is : (s : List ℕ) (n : ℕ) (o : Order) → length s ≡ 512 * n
+    → formatOutcome s o ≡ formatOn (sizeOk n) (orderOk o) s (encode (format n o))
 unfolding formatOutcome lengthOk blocks
-format-is s n fill e =
+format-is s n o e =
     let whole : eqb (length s % 512) 0 ≡ true = eq-eqb (length s % 512) 0 (omega (arith, e)) in
     let number : length s / 512 ≡ n = omega (arith, e) in
-    ap₂ (λ (b : Bool) (n : ℕ). formatOn (b && sizeOk n) (fillOk fill) s (encode (format n fill))) whole number
+    ap₂ (λ (b : Bool) (n : ℕ). formatOn (b && sizeOk n) (orderOk o) s (encode (format n o))) whole number
 
 -- ---- the cards
 
@@ -95,44 +96,44 @@ abbrev _also_ : {A B : Type 0} → A → B → A × B
 a also b = (a, b)
 
 module _ (fresh : ℕ → List ℕ) (e : (n : ℕ) → length (fresh n) ≡ 512 * n) where
-  refused-C : nos fresh 3 (formatting 10 ∷ []) ≡ 1 ∷ []
+  refused-C : nos fresh 3 (formatting (orderOf 10) ∷ []) ≡ 1 ∷ []
   unfolding runStore
-  refused-C = ap (λ (c : Changed). replyNo (plain (c .answer)) ∷ []) (format-is (fresh 3) 3 10 (e 3))
+  refused-C = ap (λ (c : Changed). replyNo (plain (c .answer)) ∷ []) (format-is (fresh 3) 3 (orderOf 10) (e 3))
 
   -- an accepted format
-  module _ (n fill : ℕ) (a : sizeOk n ≡ true) (b : fillOk fill ≡ true) where
+  module _ (n : ℕ) (o : Order) (a : sizeOk n ≡ true) (b : orderOk o ≡ true) where
     start : List ℕ
-    start = runStore (formatting fill) (fresh n) .state
+    start = runStore (formatting o) (fresh n) .state
 
-    format-accepted : formatOutcome (fresh n) fill ≡ formatOn true true (fresh n) (encode (format n fill))
+    format-accepted : formatOutcome (fresh n) o ≡ formatOn true true (fresh n) (encode (format n o))
     format-accepted =
-        format-is (fresh n) n fill (e n) ∙ ap₂ (λ (l m : Bool). formatOn l m (fresh n) (encode (format n fill))) a b
+        format-is (fresh n) n o (e n) ∙ ap₂ (λ (l m : Bool). formatOn l m (fresh n) (encode (format n o))) a b
 
-    format-encodes : Encodes start (format n fill)
+    format-encodes : Encodes start (format n o)
     unfolding start runStore
-    format-encodes = (format-wf n fill a b, ap (λ (c : Changed). c .store) format-accepted)
+    format-encodes = (format-wf n o a b, ap (λ (c : Changed). c .store) format-accepted)
 
     -- then k inserts, and more
     module _ (k : ℕ) (h : k < 1000) (more : List Call) (f : Each CallFits more) where
       abbrev cs : List Call
       cs = evens k ++ more
 
-      store-is : Encodes (storeAfter fresh n (formatting fill ∷ cs)) (after onIndex cs (format n fill))
+      store-is : Encodes (storeAfter fresh n (formatting o ∷ cs)) (after onIndex cs (format n o))
       unfolding start
-      store-is = after-encodes cs (evens-fit k h more f) start (format n fill) format-encodes
+      store-is = after-encodes cs (evens-fit k h more f) start (format n o) format-encodes
 
-      nos-are : nos fresh n (formatting fill ∷ cs) ≡ 0 ∷ map replyNo (replies onIndex cs (format n fill))
+      nos-are : nos fresh n (formatting o ∷ cs) ≡ 0 ∷ map replyNo (replies onIndex cs (format n o))
       unfolding start runStore
       nos-are =
           ap₂ (λ (m : ℕ) (rs : List Reply). m ∷ map replyNo rs)
           (ap (λ (c : Changed). replyNo (plain (c .answer))) format-accepted)
-          (replies-encode cs (evens-fit k h more f) start (format n fill) format-encodes)
+          (replies-encode cs (evens-fit k h more f) start (format n o) format-encodes)
 
       reply-is : (c : Call) → CallFits c
-          → runStore c (storeAfter fresh n (formatting fill ∷ cs)) .reply
-          ≡ runIndex c (after onIndex cs (format n fill)) .reply
+          → runStore c (storeAfter fresh n (formatting o ∷ cs)) .reply
+          ≡ runIndex c (after onIndex cs (format n o)) .reply
       reply-is c g =
-          simulates .reply c g (storeAfter fresh n (formatting fill ∷ cs)) (after onIndex cs (format n fill)) store-is
+          simulates .reply c g (storeAfter fresh n (formatting o ∷ cs)) (after onIndex cs (format n o)) store-is
 
   -- cards C to K: E and F are the stores after those cards' calls, each with its index; G to J are what calls get
   calls : Each (λ (c : Card). c .gives ≡ c .said) (drop 3 (cards fresh))
@@ -143,19 +144,19 @@ module _ (fresh : ℕ → List ℕ) (e : (n : ℕ) → length (fresh n) ≡ 512 
       metaOf padded mapFront roleOf encodeBlock sealedBlock image paged blank sealed covered trailer
       le16 le32 u16At u32At encodeEntry encodePage readEntry entryAt entriesFrom entriesOf
   calls =
-      let E = store-is 5 40 refl refl 41 (omega arith) [] tt in
-      let F = store-is 5 40 refl refl 41 (omega arith) (removing (pairOf 80) ∷ []) (omega arith) in
+      let E = store-is 5 (orderOf 40) refl refl 41 (omega arith) [] tt in
+      let F = store-is 5 (orderOf 40) refl refl 41 (omega arith) (removing (pairOf 80) ∷ []) (omega arith) in
       let F₂ =
-      store-is 5 40 refl refl 41 (omega arith) (removing (pairOf 80) ∷ inserting (pairOf 82) ∷ []) (omega arith) in
-      let G = reply-is 6 1 refl refl 3 (omega arith) [] tt in
-      let H = reply-is 5 1 refl refl 3 (omega arith) [] tt in
-      let I = reply-is 6 1 refl refl 3 (omega arith) (working 2 ∷ []) (omega arith) in
-      let I₂ = reply-is 6 1 refl refl 3 (omega arith) (working 2 ∷ removing (pairOf 2) ∷ []) (omega arith) in
-      let J = reply-is 4 1 refl refl 0 (omega arith) [] tt in
-      ap (map pos) (nos-are 4 10 refl refl 0 (omega arith) [] tt)
+      store-is 5 (orderOf 40) refl refl 41 (omega arith) (removing (pairOf 80) ∷ inserting (pairOf 82) ∷ []) (omega arith) in
+      let G = reply-is 6 (orderOf 1) refl refl 3 (omega arith) [] tt in
+      let H = reply-is 5 (orderOf 1) refl refl 3 (omega arith) [] tt in
+      let I = reply-is 6 (orderOf 1) refl refl 3 (omega arith) (working 2 ∷ []) (omega arith) in
+      let I₂ = reply-is 6 (orderOf 1) refl refl 3 (omega arith) (working 2 ∷ removing (pairOf 2) ∷ []) (omega arith) in
+      let J = reply-is 4 (orderOf 1) refl refl 0 (omega arith) [] tt in
+      ap (map pos) (nos-are 4 (orderOf 10) refl refl 0 (omega arith) [] tt)
       also ap (map pos) refused-C
-      also ap (map pos) (nos-are 4 40 refl refl 41 (omega arith) (inserting (pairOf 1) ∷ []) (omega arith))
-      also ap (map pos) (nos-are 5 40 refl refl 41 (omega arith) [] tt)
+      also ap (map pos) (nos-are 4 (orderOf 40) refl refl 41 (omega arith) (inserting (pairOf 1) ∷ []) (omega arith))
+      also ap (map pos) (nos-are 5 (orderOf 40) refl refl 41 (omega arith) [] tt)
       also ap page (block-is E 4 (omega arith))
       also ap (λ (m : Meta). pos (getD (m .spares) 1 0) ∷ []) (meta-is E)
       also ap page (block-is F 4 (omega arith))

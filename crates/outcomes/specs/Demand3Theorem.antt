@@ -6,6 +6,7 @@ use mathlib.Core.Bool.{true}
 use mathlib.Core.List.{List, _∷_}
 use Prim.Native.Nat.{ℕ}
 use Rattle.lists.specs.Lists.{Each}
+use Rattle.model.specs.declared.Order.{Order}
 use Rattle.model.specs.Machine.{Call, formatting, CallFits, accepted}
 use Rattle.model.specs.History.{Moment, history, start}
 use Rattle.model.specs.HistoryLaws.{history-keeps}
@@ -25,12 +26,12 @@ demand3-stores =
     transfer Encodes simulates (λ x. x) decode (λ s x r. ap decode (r .1) ∙ encoding-is-sound x (r .0) .read) demand3
 
 -- the store that format leaves, and every store of the list, is sound and as long as the first
-pub history-length : (s : List ℕ) (fill : ℕ) → accepted (runStore (formatting fill) s .reply) ≡ true
+pub history-length : (s : List ℕ) (o : Order) → accepted (runStore (formatting o) s .reply) ≡ true
     → (cs : List Call) → Each CallFits cs
-    → let t = start onStore (runStore (formatting fill) s .state) fill in
+    → let t = start onStore (runStore (formatting o) s .state) o in
     Each (λ (u : Moment onStore). StaysSound s (u .state)) (t ∷ history onStore cs t)
 unfolding runStore
-history-length s fill e cs f =
-    let t = start onStore (runStore (formatting fill) s .state) fill in
-    let h = format-sound s fill e in
+history-length s o e cs f =
+    let t = start onStore (runStore (formatting o) s .state) o in
+    let h = format-sound s o e in
     (h, history-keeps onStore (StaysSound s) (keeps-call s) (keeps-step s) cs f t h)

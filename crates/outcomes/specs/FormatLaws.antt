@@ -14,6 +14,7 @@ use Rattle.address.specs.Role.{roleOf}
 use Rattle.address.specs.FormatLaws.{point-first, role-first, role-second, role-bitmap, role-past}
 use Rattle.page.specs.Entries.{encodePage}
 use Rattle.store.specs.Store.{sealed}
+use Rattle.model.specs.declared.Order.{Order}
 use Rattle.model.specs.Pages.{freeBit, firstFree}
 use Rattle.model.specs.Held.{count}
 use Rattle.model.specs.Calls.{format}
@@ -33,29 +34,29 @@ use Rattle.image.specs.Layout.{
 use Rattle.outcomes.specs.Format.{formatMeta, formatBlock}
 use Rattle.lists.specs.TestLaws.{bind-cong}
 
-module _ (n fill : ℕ) where
-  meta-format : encodeBlock (format n fill) 0 ≡ formatBlock n fill 0
+module _ (n : ℕ) (o : Order) where
+  meta-format : encodeBlock (format n o) 0 ≡ formatBlock n (o .fill) 0
   unfolding encodeBlock image roleOf format formatBlock formatMeta metaFront metaOf padded count firstFree freeBit
       highMask maskDigits lowMask le32 le16
   meta-format = rw point-first
 
-  first-format : encodeBlock (format n fill) 1 ≡ formatBlock n fill 1
+  first-format : encodeBlock (format n o) 1 ≡ formatBlock n (o .fill) 1
   unfolding encodeBlock image format formatBlock bucketImage flagsOf lastSplit encodePage le16
-  first-format = ap (image (format n fill)) role-first
+  first-format = ap (image (format n o)) role-first
 
-  second-format : encodeBlock (format n fill) 2 ≡ formatBlock n fill 2
+  second-format : encodeBlock (format n o) 2 ≡ formatBlock n (o .fill) 2
   unfolding encodeBlock image format formatBlock bucketImage flagsOf lastSplit encodePage le16
-  second-format = ap (image (format n fill)) role-second
+  second-format = ap (image (format n o)) role-second
 
-  bitmap-format : encodeBlock (format n fill) 3 ≡ formatBlock n fill 3
+  bitmap-format : encodeBlock (format n o) 3 ≡ formatBlock n (o .fill) 3
   unfolding encodeBlock image format formatBlock mapFront
-  bitmap-format = ap (image (format n fill)) role-bitmap ∙ rw point-first
+  bitmap-format = ap (image (format n o)) role-bitmap ∙ rw point-first
 
-  past : (k : ℕ) → 4 ≤ k → encodeBlock (format n fill) k ≡ blank
+  past : (k : ℕ) → 4 ≤ k → encodeBlock (format n o) k ≡ blank
   unfolding encodeBlock image format
-  past k h = ap (image (format n fill)) (role-past k h)
+  past k h = ap (image (format n o)) (role-past k h)
 
-  pub format-block : (k : ℕ) → encodeBlock (format n fill) k ≡ formatBlock n fill k
+  pub format-block : (k : ℕ) → encodeBlock (format n o) k ≡ formatBlock n (o .fill) k
   unfolding formatBlock
   format-block zero = meta-format
   format-block (suc zero) = first-format
@@ -63,11 +64,11 @@ module _ (n fill : ℕ) where
   format-block (suc (suc (suc zero))) = bitmap-format
   format-block (suc (suc (suc (suc k)))) = past (suc (suc (suc (suc k)))) (omega arith)
 
-  pub format-unused : (k : ℕ) → 4 ≤ k → formatBlock n fill k ≡ blank
+  pub format-unused : (k : ℕ) → 4 ≤ k → formatBlock n (o .fill) k ≡ blank
   format-unused k h = sym (format-block k) ∙ past k h
 
-  pub format-bytes : encode (format n fill) ≡ bind (upFrom 0 n) (λ k. sealed (formatBlock n fill k))
+  pub format-bytes : encode (format n o) ≡ bind (upFrom 0 n) (λ k. sealed (formatBlock n (o .fill) k))
   unfolding encode sealedBlock format
   format-bytes =
-      bind-cong (sealedBlock (format n fill)) (λ k. sealed (formatBlock n fill k)) (upFrom 0 n)
+      bind-cong (sealedBlock (format n o)) (λ k. sealed (formatBlock n (o .fill) k)) (upFrom 0 n)
       (λ k. ap sealed (format-block k))

@@ -8,13 +8,14 @@ use lib.ListN.{length}
 use Rattle.lists.specs.ListsLaws.{and-right}
 use Rattle.lists.specs.Block.{blocks}
 use Rattle.page.specs.declared.Pair.{Pair}
+use Rattle.model.specs.declared.Order.{Order}
 use Rattle.model.specs.declared.Refusal.{Refusal}
 use Rattle.model.specs.declared.StandingAnswer.{StandingAnswer}
 use Rattle.model.specs.declared.WorkAnswer.{WorkAnswer}
 use Rattle.model.specs.Index.{Index}
 use Rattle.model.specs.Held.{held}
 use Rattle.model.specs.Steps.{Step, next, stopped, Worked, step, iterate}
-use Rattle.model.specs.Calls.{Result, done, refused, sizeOk, fillOk, pairOk, budgetOk, format, formatted, insertIn}
+use Rattle.model.specs.Calls.{Result, done, refused, sizeOk, orderOk, pairOk, budgetOk, format, formatted, insertIn}
 use Rattle.model.specs.Calls.{formatIn, insert, removeIn, remove, Looked, lookup, standing, work}
 use Rattle.model.specs.Machine.{Call, formatting, inserting, removing, looking, working, asking, CallFits, plain}
 use Rattle.model.specs.Machine.{looked, worked, stands, Ran, settled, workedIn, runIndex}
@@ -51,17 +52,17 @@ module _ (x : Index) (w : WF x) where
       subst (λ (n : ℕ). sizeOk n ≡ true) (encoding-is-sound x w .number)
       (and-right (eqb (length (encode x) % 512) 0) (sizeOk (blocks (encode x))) (encoding-is-sound x w .legal))
 
-  pub format-encode : (fill : ℕ) → formatOutcome (encode x) fill ≡ changed (encode x) (formatted x fill)
+  pub format-encode : (o : Order) → formatOutcome (encode x) o ≡ changed (encode x) (formatted x o)
   unfolding formatOutcome formatted
-  format-encode fill =
-      ap₂ (λ (l : Bool) (n : ℕ). formatOn l (fillOk fill) (encode x) (encode (format n fill)))
+  format-encode o =
+      ap₂ (λ (l : Bool) (n : ℕ). formatOn l (orderOk o) (encode x) (encode (format n o)))
       (encoding-is-sound x w .legal) (encoding-is-sound x w .number)
-      ∙ go (fillOk fill)
-      ∙ ap (λ (b : Bool). changed (encode x) (formatIn b (fillOk fill) (format (x .size) fill))) (sym size-ok)
+      ∙ go (orderOk o)
+      ∙ ap (λ (b : Bool). changed (encode x) (formatIn b (orderOk o) (format (x .size) o))) (sym size-ok)
     where
       go : (f : Bool)
-          → formatOn true f (encode x) (encode (format (x .size) fill))
-          ≡ changed (encode x) (formatIn true f (format (x .size) fill))
+          → formatOn true f (encode x) (encode (format (x .size) o))
+          ≡ changed (encode x) (formatIn true f (format (x .size) o))
       go true = refl
       go false = refl
 
@@ -146,7 +147,7 @@ settle x (refused r) = refl
 
 pub run-encode : (c : Call) (x : Index) → WF x → runStore c (encode x) ≡ written (runIndex c x)
 unfolding runStore runIndex plainly
-run-encode (formatting fill) x w = ap plainly (format-encode x w fill) ∙ settle x (formatted x fill)
+run-encode (formatting o) x w = ap plainly (format-encode x w o) ∙ settle x (formatted x o)
 run-encode (inserting p) x w = ap plainly (insert-encode x w p) ∙ settle x (insert x p)
 run-encode (removing p) x w = ap plainly (remove-encode x w p) ∙ settle x (remove x p)
 run-encode (looking h out) x w =
@@ -166,7 +167,7 @@ pub run-wf : (c : Call) → CallFits c → (x : Index) → WF x → WF (runIndex
 run-wf =
     run-keeps WF
     (record {
-      formats = λ x fill s f w. format-wf (x .size) fill s f;
+      formats = λ x o s f w. format-wf (x .size) o s f;
       inserts = insert-wf;
       removes = remove-wf;
       steps = step-wf;

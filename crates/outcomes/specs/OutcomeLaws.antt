@@ -10,6 +10,7 @@ use lib.Dec.{leb}
 use lib.ListN.{length}
 use Rattle.lists.specs.Block.{blocks}
 use Rattle.page.specs.declared.Pair.{Pair}
+use Rattle.model.specs.declared.Order.{Order}
 use Rattle.model.specs.declared.Refusal.{Refusal}
 use Rattle.model.specs.declared.Answer.{Answer}
 use Rattle.model.specs.declared.LookupAnswer.{LookupAnswer}
@@ -17,7 +18,7 @@ use Rattle.model.specs.declared.Stop.{Stop}
 use Rattle.model.specs.declared.WorkAnswer.{WorkAnswer}
 use Rattle.model.specs.Index.{Index}
 use Rattle.model.specs.Steps.{Step, next, stopped, step, iterate}
-use Rattle.model.specs.Calls.{Result, done, refused, fillOk, pairOk, budgetOk, format, insert, remove, listed, lookup}
+use Rattle.model.specs.Calls.{Result, done, refused, orderOk, pairOk, budgetOk, format, insert, remove, listed, lookup}
 use Rattle.model.specs.Held.{matches}
 use Rattle.model.specs.Machine.{Call, formatting, inserting, removing, looking, working, asking, Reply, plain, looked}
 use Rattle.model.specs.Machine.{worked, stands, accepted, Ran}
@@ -71,7 +72,7 @@ pub run-failed : (c : Call) → Tests (effect c) → (s : List ℕ) (r : Refusal
     → tested (callNumbersOk (effect c)) s ≡ failed r
     → runStore c s ≡ record { reply = refusedAs c r; state = s }
 unfolding runStore insertOutcome removeOutcome lookupOutcome standingOutcome workOutcome
-run-failed (formatting fill) t s r e = absurd t
+run-failed (formatting o) t s r e = absurd t
 run-failed (inserting p) t s r e =
     ap (λ (a : Tested). let c = insertOn a s p in record { reply = plain (c .answer); state = c .store }) e
 run-failed (removing p) t s r e =
@@ -108,8 +109,8 @@ module _ (c : Call) (t : Tests (effect c)) (s : List ℕ) where
 -- it leaves the store or is accepted.
 pub data StoreRun (c : Call) (s : List ℕ) : Ran (List ℕ) → Type 0 where
   refuses : {r : Reply} → accepted r ≡ false → StoreRun c s (record { reply = r; state = s })
-  formats : (fill : ℕ) → lengthOk s ≡ true → fillOk fill ≡ true
-      → StoreRun c s (record { reply = plain Answer.Done; state = encode (format (blocks s) fill) })
+  formats : (o : Order) → lengthOk s ≡ true → orderOk o ≡ true
+      → StoreRun c s (record { reply = plain Answer.Done; state = encode (format (blocks s) o) })
   reads : {r : Reply} {x : Index} → tested (callNumbersOk (effect c)) s ≡ passed x
       → StoreRun c s (record { reply = r; state = s })
   accepts : {r : Ran (List ℕ)} {x : Index} → tested (callNumbersOk (effect c)) s ≡ passed x → accepted (r .reply) ≡ true
@@ -122,14 +123,14 @@ changes c s x e (refused r) = refuses (refused-no r)
 
 pub store-view : (c : Call) (s : List ℕ) → StoreRun c s (runStore c s)
 unfolding runStore formatOutcome insertOutcome removeOutcome lookupOutcome workOutcome standingOutcome
-store-view (formatting fill) s = go (lengthOk s) (fillOk fill) refl refl
+store-view (formatting o) s = go (lengthOk s) (orderOk o) refl refl
   where
-    go : (l f : Bool) → lengthOk s ≡ l → fillOk fill ≡ f
-        → let d = formatOn l f s (encode (format (blocks s) fill)) in
-        StoreRun (formatting fill) s (record { reply = plain (d .answer); state = d .store })
+    go : (l f : Bool) → lengthOk s ≡ l → orderOk o ≡ f
+        → let d = formatOn l f s (encode (format (blocks s) o)) in
+        StoreRun (formatting o) s (record { reply = plain (d .answer); state = d .store })
     go false f e k = refuses refl
     go true false e k = refuses refl
-    go true true e k = formats fill e k
+    go true true e k = formats o e k
 store-view (inserting p) s = go (tested (pairOk p) s) refl
   where
     go : (t : Tested) → tested (pairOk p) s ≡ t
@@ -166,7 +167,7 @@ refusal-leaves c s e = go (store-view c s) e
   where
     go : {r : Ran (List ℕ)} → StoreRun c s r → accepted (r .reply) ≡ false → r .state ≡ s
     go (refuses h) e = refl
-    go (formats fill h k) e = never (cc)
+    go (formats o h k) e = never (cc)
     go (reads k) e = refl
     go (accepts k h) e = never (cc)
 

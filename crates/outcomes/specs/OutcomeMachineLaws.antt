@@ -6,10 +6,11 @@ use Prim.Native.Nat.{ℕ}
 use borrow.Author.Tests.{le-leb}
 use Rattle.lists.specs.Block.{blocks}
 use Rattle.endian.specs.Endian.{u32At}
+use Rattle.model.specs.declared.Order.{Order}
 use Rattle.model.specs.declared.Answer.{Answer}
 use Rattle.model.specs.Index.{Index}
 use Rattle.model.specs.Calls.{format, formatIn, formatted}
-use Rattle.model.specs.Machine.{formatting, plain, accepted, Ran, settled, runIndex, onIndex}
+use Rattle.model.specs.Machine.{formatting, CallFits, plain, accepted, Ran, settled, runIndex, onIndex}
 use Rattle.model.specs.WellFormed.{WF}
 use Rattle.model.specs.SimulationLaws.{Formats, Simulates}
 use Rattle.image.specs.Layout.{encode}
@@ -21,10 +22,10 @@ use Rattle.image.specs.SoundStore.{Encodes}
 use Rattle.outcomes.specs.OutcomeIndexLaws.{tested-encode, step-alike, run-encode, run-wf}
 
 -- a store that format accepts becomes the bytes of what the model's format gives
-formats : (s : List ℕ) (fill : ℕ) → accepted (runStore (formatting fill) s .reply) ≡ true
-    → Formats onIndex onStore Encodes s fill
+formats : (s : List ℕ) (o : Order) → CallFits (formatting o) → accepted (runStore (formatting o) s .reply) ≡ true
+    → Formats onIndex onStore Encodes s o
 unfolding runStore runIndex formatted format
-formats s fill e =
+formats s o fit e =
     record {
       from = y;
       taken = ap (λ (a : Ran Index). accepted (a .reply)) ran;
@@ -34,15 +35,15 @@ formats s fill e =
       );
     }
   where
-    f : Formatted s fill
-    f = format-done s fill e
+    f : Formatted s o
+    f = format-done s o e
 
     y : Index
-    y = format (blocks s) fill
+    y = format (blocks s) o
 
-    ran : runIndex (formatting fill) (format (blocks s) fill)
-        ≡ record { reply = plain Answer.Done; state = format (blocks s) fill }
-    ran = ap₂ (λ (a b : Bool). settled y (formatIn a b y)) (legal-size s (f .legal)) (f .filled)
+    ran : runIndex (formatting o) (format (blocks s) o)
+        ≡ record { reply = plain Answer.Done; state = format (blocks s) o }
+    ran = ap₂ (λ (a b : Bool). settled y (formatIn a b y)) (legal-size s (f .legal)) (f .numbers)
 
 -- the bytes of a well-formed index do as the index does
 pub simulates : Simulates onIndex onStore Encodes

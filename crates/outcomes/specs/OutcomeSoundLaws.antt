@@ -11,10 +11,11 @@ use lib.ListN.{length}
 use Rattle.lists.specs.ListsLaws.{and-left, and-right}
 use Rattle.lists.specs.Bytes.{Bytes}
 use Rattle.lists.specs.Block.{blocks}
+use Rattle.model.specs.declared.Order.{Order}
 use Rattle.model.specs.declared.Answer.{Answer}
 use Rattle.model.specs.Index.{Job, idle, copying, clearing, Index}
 use Rattle.model.specs.Steps.{Step, next, stopped, step}
-use Rattle.model.specs.Calls.{sizeOk, fillOk, format}
+use Rattle.model.specs.Calls.{sizeOk, orderOk, format}
 use Rattle.model.specs.Machine.{Call, CallFits, plain, accepted, Ran, runIndex}
 use Rattle.model.specs.Book.{effect}
 use Rattle.model.specs.WellFormed.{WF}
@@ -52,7 +53,7 @@ unfolding format
 run-size c f x =
     run-keeps (λ (y : Index). y .size ≡ x .size)
     (record {
-      formats = λ y fill s k h. h;
+      formats = λ y o s k h. h;
       inserts = λ y p z h k e. insert-frame y p z e .frame .size ∙ h;
       removes = λ y p z h e. remove-frame y p z e .frame .size ∙ h;
       steps = λ y z h e. step-size y z e ∙ h;
@@ -80,37 +81,37 @@ encoded s t y h e z =
     }
 
 -- what an accepted format leaves
-pub record Formatted (s : List ℕ) (fill : ℕ) : Type 0 where
+pub record Formatted (s : List ℕ) (o : Order) : Type 0 where
   pub legal : lengthOk s ≡ true
-  pub filled : fillOk fill ≡ true
-  pub outcome : formatOutcome s fill ≡ record { answer = Answer.Done; store = encode (format (blocks s) fill) }
-  pub wf : WF (format (blocks s) fill)
+  pub numbers : orderOk o ≡ true
+  pub outcome : formatOutcome s o ≡ record { answer = Answer.Done; store = encode (format (blocks s) o) }
+  pub wf : WF (format (blocks s) o)
 
-pub format-done : (s : List ℕ) (fill : ℕ) → accepted (plain (formatOutcome s fill .answer)) ≡ true → Formatted s fill
+pub format-done : (s : List ℕ) (o : Order) → accepted (plain (formatOutcome s o .answer)) ≡ true → Formatted s o
 unfolding formatOutcome
-format-done s fill e = go (lengthOk s) refl (fillOk fill) refl e
+format-done s o e = go (lengthOk s) refl (orderOk o) refl e
   where
     t : List ℕ
-    t = encode (format (blocks s) fill)
+    t = encode (format (blocks s) o)
 
-    go : (l : Bool) → lengthOk s ≡ l → (f : Bool) → fillOk fill ≡ f
-        → accepted (plain (formatOn l f s (encode (format (blocks s) fill)) .answer)) ≡ true → Formatted s fill
+    go : (l : Bool) → lengthOk s ≡ l → (f : Bool) → orderOk o ≡ f
+        → accepted (plain (formatOn l f s (encode (format (blocks s) o)) .answer)) ≡ true → Formatted s o
     go false h f k e = never (cc)
     go true h false k e = never (cc)
     go true h true k e =
         record {
           legal = h;
-          filled = k;
+          numbers = k;
           outcome = ap₂ (λ (l f : Bool). formatOn l f s t) h k;
-          wf = format-wf (blocks s) fill (legal-size s h) k;
+          wf = format-wf (blocks s) o (legal-size s h) k;
         }
 
-pub format-sound : (s : List ℕ) (fill : ℕ) → accepted (plain (formatOutcome s fill .answer)) ≡ true
-    → StaysSound s (formatOutcome s fill .store)
+pub format-sound : (s : List ℕ) (o : Order) → accepted (plain (formatOutcome s o .answer)) ≡ true
+    → StaysSound s (formatOutcome s o .store)
 unfolding format
-format-sound s fill e =
-    let f = format-done s fill e in
-    encoded s (formatOutcome s fill .store) (format (blocks s) fill) (f .legal)
+format-sound s o e =
+    let f = format-done s o e in
+    encoded s (formatOutcome s o .store) (format (blocks s) o) (f .legal)
     (f .wf, ap (λ (c : Changed). c .store) (f .outcome)) refl
 
 module _ (s : List ℕ) (b : Bytes s) where
@@ -143,8 +144,8 @@ module _ (s : List ℕ) (b : Bytes s) where
       go : {r : Ran (List ℕ)} → StoreRun c s r → accepted (r .reply) ≡ true → runStore c s ≡ r
           → StaysSound s (r .state)
       go (refuses h) e q = never (cc)
-      go (formats fill h k) e q =
-          encoded s _ (format (blocks s) fill) h (format-wf (blocks s) fill (legal-size s h) k, refl) refl
+      go (formats o h k) e q =
+          encoded s _ (format (blocks s) o) h (format-wf (blocks s) o (legal-size s h) k, refl) refl
       go (reads {x = x} k) e q = passing x k q
       go (accepts {x = x} k h) e q = passing x k q
 

@@ -8,6 +8,7 @@ use lib.ListN.{length}
 use Rattle.lists.specs.Block.{blocks}
 use Rattle.endian.specs.Endian.{u32At}
 use Rattle.page.specs.declared.Pair.{Pair}
+use Rattle.model.specs.declared.Order.{Order}
 use Rattle.model.specs.declared.Refusal.{Refusal}
 use Rattle.model.specs.declared.Answer.{Answer}
 use Rattle.model.specs.declared.LookupAnswer.{LookupAnswer}
@@ -15,7 +16,7 @@ use Rattle.model.specs.declared.WorkAnswer.{WorkAnswer}
 use Rattle.model.specs.declared.StandingAnswer.{StandingAnswer}
 use Rattle.model.specs.Index.{Index}
 use Rattle.model.specs.Steps.{Step, next, stopped, Worked, step, iterate}
-use Rattle.model.specs.Calls.{Result, done, refused, sizeOk, fillOk, pairOk, budgetOk, format, insert, remove, Looked}
+use Rattle.model.specs.Calls.{Result, done, refused, sizeOk, orderOk, pairOk, budgetOk, format, insert, remove, Looked}
 use Rattle.model.specs.Calls.{lookup, standing}
 use Rattle.model.specs.Machine.{Call, formatting, inserting, removing, looking, working, asking, plain, looked}
 use Rattle.model.specs.Machine.{worked, stands, Ran, Machine}
@@ -65,13 +66,13 @@ pub record Changed : Type 0 where
 abbrev pub refusing : List ℕ → Refusal → Changed
 refusing s r = record { answer = Answer.Refused r; store = s }
 
-abbrev pub formatOn : (length fill : Bool) → List ℕ → List ℕ → Changed
+abbrev pub formatOn : (length order : Bool) → List ℕ → List ℕ → Changed
 formatOn false f s t = refusing s Refusal.Length
 formatOn true false s t = refusing s Refusal.Number
 formatOn true true s t = record { answer = Answer.Done; store = t }
 
-unfoldable pub formatOutcome : List ℕ → (fill : ℕ) → Changed
-formatOutcome s fill = formatOn (lengthOk s) (fillOk fill) s (encode (format (blocks s) fill))
+unfoldable pub formatOutcome : List ℕ → Order → Changed
+formatOutcome s o = formatOn (lengthOk s) (orderOk o) s (encode (format (blocks s) o))
 
 abbrev pub changed : List ℕ → Result → Changed
 changed s (done y) = record { answer = Answer.Done; store = encode y }
@@ -132,7 +133,7 @@ workOutcome s budget = workOn (tested (budgetOk budget) s) s (iterate stepOutcom
 -- ---- a store as a machine
 
 unfoldable pub runStore : Call → List ℕ → Ran (List ℕ)
-runStore (formatting fill) s = let c = formatOutcome s fill in record { reply = plain (c .answer); state = c .store }
+runStore (formatting o) s = let c = formatOutcome s o in record { reply = plain (c .answer); state = c .store }
 runStore (inserting p) s = let c = insertOutcome s p in record { reply = plain (c .answer); state = c .store }
 runStore (removing p) s = let c = removeOutcome s p in record { reply = plain (c .answer); state = c .store }
 runStore (looking h out) s = record { reply = looked (lookupOutcome s h out); state = s }

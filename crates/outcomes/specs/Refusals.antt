@@ -5,14 +5,14 @@ use Rattle.model.specs.declared.Answer.{Answer}
 use Rattle.model.specs.declared.LookupAnswer.{LookupAnswer}
 use Rattle.model.specs.declared.WorkAnswer.{WorkAnswer}
 use Rattle.model.specs.declared.StandingAnswer.{StandingAnswer}
-use Rattle.model.specs.Calls.{fillOk, pairOk, budgetOk}
+use Rattle.model.specs.Calls.{orderOk, pairOk, budgetOk}
 use Rattle.model.specs.Machine.{Call, formatting, inserting, removing, looking, working, asking, Reply, plain, looked}
 use Rattle.model.specs.Machine.{worked, stands}
 use Rattle.model.specs.Book.{Effect, empties, puts, takes, leaves, hasSteps}
 
 -- the test of a call's own numbers, by its effect
 abbrev pub callNumbersOk : Effect → Bool
-callNumbersOk (empties fill) = fillOk fill
+callNumbersOk (empties o) = orderOk o
 callNumbersOk (puts p) = pairOk p
 callNumbersOk (takes p) = pairOk p
 callNumbersOk leaves = true
@@ -20,7 +20,7 @@ callNumbersOk (hasSteps budget) = budgetOk budget
 
 -- whether a call tests checks and rules: each but format does
 abbrev pub Tests : Effect → Type 0
-Tests (empties fill) = ⊥
+Tests (empties o) = ⊥
 Tests (puts p) = Unit {0}
 Tests (takes p) = Unit {0}
 Tests leaves = Unit {0}
@@ -28,7 +28,7 @@ Tests (hasSteps budget) = Unit {0}
 
 -- a call's answer when it is refused; a lookup's output stays
 abbrev pub refusedAs : Call → Refusal → Reply
-refusedAs (formatting fill) r = plain (Answer.Refused r)
+refusedAs (formatting o) r = plain (Answer.Refused r)
 refusedAs (inserting p) r = plain (Answer.Refused r)
 refusedAs (removing p) r = plain (Answer.Refused r)
 refusedAs (looking h out) r = looked (record { answer = LookupAnswer.Refused r; output = out })

@@ -5,7 +5,7 @@ use borrow.Author.Tests.{leb-true, not-true, not-false}
 use lib.Dec.{leb}
 use Rattle.lists.specs.ListsLaws.{and-right}
 use Rattle.lists.specs.Block.{blocks}
-use Rattle.model.specs.Calls.{fillOk}
+use Rattle.model.specs.Calls.{orderOk}
 use Rattle.outcomes.specs.Outcomes.{formatOutcome}
 use Rattle.image.specs.Rules.{lengthOk}
 use Rattle.outcomes.specs.FormatLaws.{format-bytes}
@@ -18,8 +18,8 @@ use Rattle.index.proofs.format.format.Tie as tie
 legal : (c : tie.Else1) → lengthOk (c .before .before .before .before .args .store .now) ≡ true
 legal c = sym (c .before .check-length .ensures) ∙ not-false _ (c .if1 .left)
 
-filled : (c : tie.Else2) → fillOk (c .before .before .before .before .before .before .args .fill) ≡ true
-filled c = sym (c .before .check-fill .ensures) ∙ not-false _ (c .if2 .left)
+numbers : (c : tie.Else2) → orderOk (c .before .before .before .before .before .before .args .order) ≡ true
+numbers c = sym (c .before .check-fill .ensures) ∙ not-false _ (c .if2 .left)
 
 check-length-requires : tie.Need-check-length-requires
 check-length-requires c κs = search needs
@@ -43,15 +43,15 @@ same-length-2 c = search needs
 returns-2 : tie.Need-returns-2
 unfolding formatOutcome
 returns-2 c =
-    let no : fillOk (c .before .before .before .before .before .before .args .fill) ≡ false =
+    let no : orderOk (c .before .before .before .before .before .before .args .order) ≡ false =
     sym (c .before .check-fill .ensures) ∙ not-true _ (c .if2 .taken) in
     rw (legal (c .before .before), no) (refl, refl)
 
 cast-format-blocks : tie.Need-cast-format-blocks
 cast-format-blocks c =
     let e = c .before in
-    let fill = e .before .before .before .before .before .before .args .fill in
-    omega (arith, leb-true fill 40 (and-right (leb 1 fill) (leb fill 40) (filled e)))
+    let fill = e .before .before .before .before .before .before .args .order .fill in
+    omega (arith, leb-true fill 40 (and-right (leb 1 fill) (leb fill 40) (numbers e)))
 
 format-blocks-requires : tie.Need-format-blocks-requires
 format-blocks-requires c κs = lengthOk-sized _ (legal (c .before .before .before))
@@ -64,8 +64,8 @@ unfolding formatOutcome
 returns-3 c =
     let e = c .before .before .before .before in
     let a = e .before .before .before .before .before .before .args in
-    rw (legal (e .before .before), filled e)
-    (refl, c .before .before .format-blocks .ensures ∙ sym (format-bytes (blocks (a .store .now)) (a .fill)))
+    rw (legal (e .before .before), numbers e)
+    (refl, c .before .before .format-blocks .ensures ∙ sym (format-bytes (blocks (a .store .now)) (a .order)))
 
 pub format-spec : {M : Type 1} → statement M
 format-spec =

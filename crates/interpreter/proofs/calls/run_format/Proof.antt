@@ -8,7 +8,7 @@ use Rattle.text.specs.Text.{refusedText}
 use Rattle.text.specs.TextLaws.{wrote-as}
 use Rattle.interpreter.specs.Runs.{Stands}
 use Rattle.interpreter.specs.RunsLaws.{stands-kept, stands-made, runs-as}
-use Rattle.interpreter.specs.RunsLaws.{format-done, format-refused, format-kept, format-large}
+use Rattle.interpreter.specs.RunsLaws.{orderOf, format-done, format-refused, format-kept, format-large}
 use borrow.Author.Needs.{needs}
 use Rattle.interpreter.proofs.calls.run_format.Statement.{statement}
 use Rattle.interpreter.proofs.calls.run_format.Tie as tie
@@ -101,7 +101,7 @@ returns-3 c =
     let now = take (512 * a .blocks) old in
     let no = sym (f .format .ensures .0) ∙ k .answer .given .1 in
     let kept : f .format .last .0 ++ drop (512 * a .blocks) old ≡ old =
-    ap (λ (x : List ℕ). x ++ drop (512 * a .blocks) old) (f .format .ensures .1 ∙ format-kept now (a .fill) _ no)
+    ap (λ (x : List ℕ). x ++ drop (512 * a .blocks) old) (f .format .ensures .1 ∙ format-kept now (orderOf (a .fill)) _ no)
     ∙ take-append-drop (512 * a .blocks) old in
     runs-as (format-refused now (a .line) (a .blocks) (a .fill) (take (512 * a .standing) old) (part e) (e .if1 .left) _ no)
     (record {
