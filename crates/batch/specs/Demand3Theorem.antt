@@ -10,7 +10,7 @@ use Prim.Native.Nat.{ℕ, suc, _+_, _≤_, _<_}
 use lib.ListN.{length, getD, set}
 use Rattle.lists.specs.Lists.{Each}
 use Rattle.model.specs.declared.Order.{Order}
-use Rattle.model.specs.Machine.{Call, formatting, CallFits, accepted}
+use Rattle.model.specs.Machine.{Call, formatting, accepted}
 use Rattle.model.specs.History.{Moment, start}
 use Rattle.model.specs.Demand.{Holds}
 use Rattle.image.specs.Decode.{decode}
@@ -21,8 +21,8 @@ use Rattle.batch.specs.Batch.{callsIn, momentsIn, momentAfter}
 use Rattle.batch.specs.BatchLaws.{fits-calls, runs-next, last-each, moments-split, moment-store, runs-word}
 
 -- after an accepted format, n calls of any list, from call i on
-module _ (s : List ℕ) (o : Order) (fit : CallFits (formatting o))
-    (ok : accepted (runStore (formatting o) s .reply) ≡ true) (ws : List ℕ) (small : Small ws) (i n : ℕ) (output words : List ℕ) where
+module _ (s : List ℕ) (o : Order) (ok : accepted (runStore (formatting o) s .reply) ≡ true)
+    (ws : List ℕ) (small : Small ws) (i n : ℕ) (output words : List ℕ) where
   abbrev first : Kept
   first = record { store = runStore (formatting o) s .state; output = output; words = words }
 
@@ -41,13 +41,13 @@ module _ (s : List ℕ) (o : Order) (fit : CallFits (formatting o))
 
   -- demand 3 holds at every moment of the calls
   pub demand3-batch : Each (Holds onStore decode) (opening ∷ momentsIn ws n i first opening)
-  demand3-batch = demand3-stores s o fit ok (callsIn ws n i first) (fits-calls ws small n i first)
+  demand3-batch = demand3-stores s o ok (callsIn ws n i first) (fits-calls ws small n i first)
 
   -- so it does after the first m calls
   pub batch-moment : (m : ℕ) → Holds onStore decode (reached m)
   batch-moment m =
       last-each (Holds onStore decode) opening (momentsIn ws m i first opening)
-      (demand3-stores s o fit ok (callsIn ws m i first) (fits-calls ws small m i first))
+      (demand3-stores s o ok (callsIn ws m i first) (fits-calls ws small m i first))
 
   -- and its store is the one that these calls leave
   pub batch-store : (m : ℕ) → reached m .state ≡ left m .store

@@ -20,10 +20,12 @@ use Rattle.page.specs.Pair.{before, pairOf, ascending}
 use Rattle.page.specs.PairLaws.{no-way, before-asym, before-hash-le}
 use Rattle.page.specs.SublistLaws.{each-map, sublist-drop}
 use Rattle.page.specs.AscendingLaws.{ascending-head, ascending-sublist}
-use Rattle.page.specs.Entries.{entryAt, entriesOf, placeOf}
+use Rattle.page.specs.Entries.{entryAt, entriesOf}
+use Rattle.page.specs.Places.{placeOf}
 use Rattle.page.specs.EntriesLaws.{length-entriesOf, getD-entriesOf}
 use Rattle.page.specs.PlaceLaws.{place-take, place-above}
-use Rattle.page.specs.Rule.{orderOk, Sorted}
+use Rattle.page.specs.Rule.{orderOk}
+use Rattle.page.specs.Allowed.{Sorted}
 use Rattle.model.specs.TallyLaws.{and-false}
 use Rattle.chain.specs.declared.Next.{Next}
 use Rattle.chain.specs.Within.{entriesOn, Within, PageOn}
@@ -47,14 +49,16 @@ module _ {l : List ℕ} (sorted : Sorted l) (a : Pair) (fresh : Bool) where
   order = sorted .order
 
   later-not : (f : Entry) → h < f .pair .hash → isMatch h fresh f ≡ false
-  later-not f k = ap (λ (b : Bool). counts fresh f && b) (ne-eqb (f .pair .hash) h (omega arith)) ∙ and-false (counts fresh f)
+  later-not f k =
+      ap (λ (b : Bool). counts fresh f && b) (ne-eqb (f .pair .hash) h (omega arith)) ∙ and-false (counts fresh f)
 
   -- nothing before slot i is the next pair
   abbrev Left : ℕ → Type 0
   Left i = next es ≡ next (drop i es)
 
   pub page-start : (k : ℕ) → k ≡ placeOf a (entriesOf l)
-      → nextAfter a (pairsIn (a .hash) fresh (entriesOf l)) ≡ nextAfter a (pairsIn (a .hash) fresh (drop k (entriesOf l)))
+      → nextAfter a (pairsIn (a .hash) fresh (entriesOf l))
+      ≡ nextAfter a (pairsIn (a .hash) fresh (drop k (entriesOf l)))
   page-start k e =
       rw e
       (ap next (sym (take-append-drop p es))
@@ -100,7 +104,8 @@ module _ {l : List ℕ} (sorted : Sorted l) (a : Pair) (fresh : Bool) where
         ap next here ∙ go (counts fresh e) (eqb (e .pair .hash) h) refl refl
         ∙ ap (λ (n : ℕ). next (drop n es)) (sym (add-one i))
       where
-        go : (b c : Bool) → counts fresh e ≡ b → eqb (e .pair .hash) h ≡ c → next (e ∷ drop (suc i) es) ≡ next (drop (suc i) es)
+        go : (b c : Bool) → counts fresh e ≡ b → eqb (e .pair .hash) h ≡ c
+            → next (e ∷ drop (suc i) es) ≡ next (drop (suc i) es)
         go false c f g = ap (nextAfter a) (pairs-cons h fresh e (drop (suc i) es) false (rw f))
         go true false f g = ap (nextAfter a) (pairs-cons h fresh e (drop (suc i) es) false (rw (f, g)))
         go true true f g =

@@ -11,10 +11,12 @@ use Rattle.endian.specs.Endian.{u16At}
 use Rattle.page.specs.declared.Pair.{Pair}
 use Rattle.page.specs.declared.Entry.{Entry}
 use Rattle.page.specs.Pair.{same, is}
-use Rattle.page.specs.Entries.{entryAt, entriesOf, placeOf}
+use Rattle.page.specs.Entries.{entryAt, entriesOf}
+use Rattle.page.specs.Places.{placeOf}
 use Rattle.page.specs.EntriesLaws.{length-entriesOf, getD-entriesOf}
 use Rattle.page.specs.PlaceLaws.{place-any}
-use Rattle.page.specs.Rule.{orderOk, Sorted}
+use Rattle.page.specs.Rule.{orderOk}
+use Rattle.page.specs.Allowed.{Sorted}
 use Rattle.chain.specs.declared.Slot.{Slot}
 use Rattle.chain.specs.Search.{slotIn}
 use Rattle.chain.specs.SearchLaws.{slot-here, slot-nowhere}

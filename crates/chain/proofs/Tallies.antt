@@ -13,10 +13,12 @@ use Rattle.lists.specs.ListsLaws.{tally-append, tally-keep, tally-cong, length-
 use Rattle.endian.specs.Endian.{u16At}
 use Rattle.page.specs.declared.Entry.{Entry}
 use Rattle.page.specs.Pair.{pairOf, ascending}
-use Rattle.page.specs.Entries.{entryAt, entriesOf, runStart, runLength}
+use Rattle.page.specs.Entries.{entryAt, entriesOf}
+use Rattle.page.specs.Places.{runLength, runStart}
 use Rattle.page.specs.EntriesLaws.{length-entriesOf, getD-entriesOf}
 use Rattle.page.specs.SublistLaws.{sublist-keep, length-sublist}
-use Rattle.page.specs.Rule.{orderOk, Sorted}
+use Rattle.page.specs.Rule.{orderOk}
+use Rattle.page.specs.Allowed.{Sorted}
 use Rattle.page.specs.RuleLaws.{number-le}
 use Rattle.page.specs.RunLaws.{run-le, run-keep}
 use Rattle.model.specs.TallyLaws.{and-comm}
@@ -53,7 +55,8 @@ module _ {l : List ℕ} (sorted : Sorted l) where
     pub fresh-start : (i end : ℕ) → i ≡ runStart h (entriesOf l) → end ≡ i + runLength h (entriesOf l)
         → tally (isMatch h true) (entriesOf l) ≡ tally unmoved (slice i end (entriesOf l))
     fresh-start i end e f = tally-cong _ _ es (λ d. and-comm (unmoved d) (eqb (d .pair .hash) h))
-        ∙ sym (tally-keep unmoved (λ d. eqb (d .pair .hash) h) es) ∙ ap (tally unmoved) (sym (run-keep h es order) ∙ sym run)
+        ∙ sym (tally-keep unmoved (λ d. eqb (d .pair .hash) h) es)
+        ∙ ap (tally unmoved) (sym (run-keep h es order) ∙ sym run)
       where
         run : slice i end es ≡ take (runLength h es) (drop (runStart h es) es)
         run =

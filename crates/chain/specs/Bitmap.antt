@@ -1,4 +1,5 @@
--- The lowest bit of a bitmap block that is 0, with the bits as rule 6 reads them. In a sound store the 0 bits are the free ones.
+-- The lowest bit of a bitmap block that is 0, with the bits as rule 6 reads them. In a sound store the 0 bits are the
+-- free ones.
 use mathlib.Core.List.{List}
 use mathlib.Core.Option.{Option, none, some}
 use Prim.Native.Nat.{ℕ}

@@ -60,7 +60,9 @@ module _ (h : ℕ) (fresh : Bool) where
       go false m ih = ih
 
   pub each-pairs : (P : Pair → Type 0) (es : List Entry) → Each (λ e. P (e .pair)) es → Each P (pairsIn h fresh es)
-  each-pairs P es k = each-match P es (each-map (λ e. P (e .pair)) (λ e. isMatch h fresh e ≡ true → P (e .pair)) (λ e p m. p) es k)
+  each-pairs P es k =
+      each-match P es
+      (each-map (λ e. P (e .pair)) (λ e. isMatch h fresh e ≡ true → P (e .pair)) (λ e p m. p) es k)
 
   pub pairs-hash : (es : List Entry) → Each (λ p. p .hash ≡ h) (pairsIn h fresh es)
   pairs-hash es = each-match (λ p. p .hash ≡ h) es (go es)

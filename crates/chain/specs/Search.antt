@@ -7,7 +7,7 @@ use Rattle.lists.specs.Lists.{any, find}
 use Rattle.page.specs.declared.Pair.{Pair}
 use Rattle.page.specs.declared.Entry.{Entry}
 use Rattle.page.specs.Pair.{is}
-use Rattle.page.specs.Entries.{placeOf}
+use Rattle.page.specs.Places.{placeOf}
 use Rattle.model.specs.Pages.{hasRoom}
 use Rattle.chain.specs.declared.Slot.{Slot}
 use Rattle.chain.specs.declared.Found.{Found}

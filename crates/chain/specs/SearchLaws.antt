@@ -14,7 +14,8 @@ use Rattle.lists.specs.Block.{block}
 use Rattle.page.specs.declared.Pair.{Pair}
 use Rattle.page.specs.declared.Entry.{Entry}
 use Rattle.page.specs.Pair.{is}
-use Rattle.page.specs.Entries.{entryAt, placeOf}
+use Rattle.page.specs.Entries.{entryAt}
+use Rattle.page.specs.Places.{placeOf}
 use Rattle.page.specs.SublistLaws.{all-each}
 use Rattle.page.specs.PlaceLaws.{place-any}
 use Rattle.page.specs.Rule.{orderOk, pageOk}

@@ -8,7 +8,8 @@ use Rattle.lists.specs.Lists.{all, Each}
 use Rattle.lists.specs.Block.{blocks, block}
 use Rattle.page.specs.declared.Entry.{Entry}
 use Rattle.page.specs.Entries.{entriesOf}
-use Rattle.page.specs.Rule.{pageOk, Sorted}
+use Rattle.page.specs.Rule.{pageOk}
+use Rattle.page.specs.Allowed.{Sorted}
 use Rattle.address.specs.Limits.{maxBlocks}
 
 module _ (s : List ℕ) where

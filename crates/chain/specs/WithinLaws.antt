@@ -12,7 +12,8 @@ use Rattle.lists.specs.Lists.{find, bind, Each}
 use Rattle.lists.specs.Block.{blocks, block}
 use Rattle.lists.specs.BlockLaws.{length-block}
 use Rattle.page.specs.SublistLaws.{each-getD, all-each}
-use Rattle.page.specs.Rule.{pageOk, Sorted}
+use Rattle.page.specs.Rule.{pageOk}
+use Rattle.page.specs.Allowed.{Sorted}
 use Rattle.page.specs.RuleLaws.{pageOk-sorted}
 use Rattle.address.specs.Limits.{maxBlocks}
 use Rattle.chain.specs.declared.Walk.{Walk}

@@ -11,7 +11,7 @@ ghost use Prim.Native.Nat.{_*_, _≤_};
 ghost use lib.ListN.{take};
 ghost use Rattle.lists.specs.Lists.{b2n, tally, bind};
 ghost use Rattle.page.specs.Entries.{entriesOf};
-ghost use Rattle.page.specs.Rule.{Sorted};
+ghost use Rattle.page.specs.Allowed.{Sorted};
 ghost use Rattle.chain.specs.Within.{entriesOn, PagesOk, Within};
 ghost use Rattle.chain.specs.Next.{isMatch};
 

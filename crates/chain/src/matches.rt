@@ -14,7 +14,7 @@ ghost use lib.ListN.{take};
 ghost use Rattle.lists.specs.Lists.{bind};
 ghost use Rattle.page.specs.Pair.{before};
 ghost use Rattle.page.specs.Entries.{entriesOf};
-ghost use Rattle.page.specs.Rule.{Sorted};
+ghost use Rattle.page.specs.Allowed.{Sorted};
 ghost use Rattle.chain.specs.Within.{entriesOn, PagesOk, Within};
 ghost use Rattle.chain.specs.Next.{earlier, nextAfter, counts, pairsIn};
 

@@ -13,7 +13,7 @@ ghost use mathlib.Core.Path.{_≡_};
 ghost use Prim.Native.Nat.{_≤_};
 ghost use lib.ListN.{take};
 ghost use Rattle.page.specs.Entries.{entriesOf};
-ghost use Rattle.page.specs.Rule.{Sorted};
+ghost use Rattle.page.specs.Allowed.{Sorted};
 ghost use Rattle.chain.specs.Search.{slotIn, findIn, roomIn};
 ghost use Rattle.chain.specs.Within.{PagesOk, Within};
 

@@ -8,7 +8,7 @@ use native.Mathlib.Omega.{arith}
 use lib.ListN.{length, getD}
 use Rattle.lists.specs.Block.{blocks, block}
 use Rattle.store.specs.declared.Change.{Change}
-use Rattle.store.specs.Store.{Fits}
+use Rattle.store.specs.Change.{Fits}
 use Rattle.store.specs.ChangeLaws.{commits-ext}
 use Rattle.draft.specs.declared.open.Place.the-variants.{Absent}
 use Rattle.draft.specs.Draft.{Draft, Listed, Lists}

@@ -8,7 +8,8 @@ use lib.ListN.{length, drop}
 use Rattle.lists.specs.Block.{blocks, block, setBlock}
 use Rattle.lists.specs.BlockLaws.{length-block, block-same}
 use Rattle.page.specs.declared.Entry.{Entry}
-use Rattle.page.specs.Entries.{encodePage, insertAt}
+use Rattle.page.specs.Entries.{encodePage}
+use Rattle.page.specs.Places.{insertAt}
 use Rattle.page.specs.Gap.{Room}
 use Rattle.store.specs.declared.Change.{Change}
 use Rattle.draft.specs.Draft.{Draft, Ready, Edited, PageEdited}

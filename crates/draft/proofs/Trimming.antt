@@ -11,7 +11,8 @@ use lib.ListN.{length, getD}
 use Rattle.lists.specs.Block.{blocks, block, setBlock}
 use Rattle.lists.specs.BlockLaws.{length-block, length-setBlock, block-same, block-other}
 use Rattle.store.specs.declared.Change.{Change}
-use Rattle.store.specs.Store.{covered, Fits}
+use Rattle.store.specs.Store.{covered}
+use Rattle.store.specs.Change.{Fits}
 use Rattle.store.specs.ChangeLaws.{commits-ext, find-number}
 use Rattle.draft.specs.Draft.{Draft, Listed}
 use Rattle.draft.specs.DraftLaws.{length-draft, block-image, block-rest}

@@ -8,7 +8,7 @@ use Rattle.lists.specs.Block.{blocks, block, setBlock}
 use Rattle.page.specs.declared.Entry.{Entry}
 use Rattle.page.specs.Entries.{encodePage}
 use Rattle.store.specs.declared.Change.{Change}
-use Rattle.store.specs.Store.{commits, Fits}
+use Rattle.store.specs.Change.{Fits, commits}
 
 -- the change c with its images makes d of the store s
 pub record Draft (s : List ℕ) (c : Change) (images d : List ℕ) : Type 0 where

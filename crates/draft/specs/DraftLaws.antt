@@ -9,7 +9,7 @@ use lib.ListN.{length, getD}
 use Rattle.lists.specs.Block.{blocks, block, setBlock}
 use Rattle.lists.specs.BlockLaws.{length-setBlock, block-same, block-other}
 use Rattle.store.specs.declared.Change.{Change}
-use Rattle.store.specs.Store.{Fits}
+use Rattle.store.specs.Change.{Fits}
 use Rattle.store.specs.ChangeLaws.{length-commits, block-commits, block-commits-rest, commits-ext}
 use Rattle.draft.specs.Draft.{Draft, Listed, Lists}
 

@@ -8,7 +8,8 @@ use lib.ListN.{length, getD}
 use Rattle.lists.specs.Lists.{bind, upFrom}
 use Rattle.lists.specs.Block.{blocks, block}
 use Rattle.store.specs.declared.Change.{Change}
-use Rattle.store.specs.Store.{covered, sealed, seals}
+use Rattle.store.specs.Store.{covered, sealed}
+use Rattle.store.specs.Change.{seals}
 use Rattle.store.specs.CheckLaws.{sealed-body}
 use Rattle.store.specs.ChangeLaws.{length-seals, block-seals, commits-ext}
 use Rattle.store.specs.Finish.{finished, resealed, Sealed}

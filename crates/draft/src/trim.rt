@@ -8,7 +8,8 @@ ghost use mathlib.Core.List.{List};
 ghost use Prim.Native.Nat.{ℕ, _+_, _≤_, _<_};
 ghost use lib.ListN.{length};
 ghost use Rattle.lists.specs.Block.{block, setBlock};
-ghost use Rattle.store.specs.Store.{covered, Fits};
+ghost use Rattle.store.specs.Store.{covered};
+ghost use Rattle.store.specs.Change.{Fits};
 ghost use Rattle.draft.specs.Draft.{Draft};
 ghost use Rattle.draft.specs.Trim.{alike, Kept, Trimmed};
 

@@ -10,7 +10,8 @@ use Rattle.page.specs.PairLaws.{same-sym, before-other}
 use Rattle.page.specs.Entries.{entryAt, entriesOf}
 use Rattle.page.specs.Pair.{pairOf}
 use Rattle.page.specs.AscendingLaws.{ascending-tail}
-use Rattle.page.specs.Rule.{orderOk, Sorted}
+use Rattle.page.specs.Rule.{orderOk}
+use Rattle.page.specs.Allowed.{Sorted}
 use Rattle.entries.specs.Tests.{common}
 use Rattle.shape.specs.LoopLaws.{rest, rest-start, rest-turn, rest-done}
 use Rattle.entries.specs.CommonLaws.{common-none, common-here, common-left, common-right}

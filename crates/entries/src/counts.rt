@@ -18,7 +18,7 @@ ghost use lib.ListN.{take};
 ghost use Rattle.lists.specs.Lists.{all, tally, bind};
 ghost use Rattle.address.specs.Limits.{maxBlocks};
 ghost use Rattle.page.specs.Entries.{entriesOf};
-ghost use Rattle.page.specs.Rule.{Sorted};
+ghost use Rattle.page.specs.Allowed.{Sorted};
 ghost use Rattle.model.specs.Held.{count};
 ghost use Rattle.image.specs.Decode.{decode};
 ghost use Rattle.image.specs.Rules.{buckets, rule8};

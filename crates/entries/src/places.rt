@@ -17,7 +17,7 @@ ghost use lib.ListN.{take};
 ghost use Rattle.lists.specs.Lists.{all, bind};
 ghost use Rattle.address.specs.Address.{bucketOf};
 ghost use Rattle.page.specs.Entries.{entriesOf};
-ghost use Rattle.page.specs.Rule.{Sorted};
+ghost use Rattle.page.specs.Allowed.{Sorted};
 ghost use Rattle.model.specs.Index.{entriesAt};
 ghost use Rattle.image.specs.Decode.{maxAt, decode};
 ghost use Rattle.image.specs.Rules.{buckets, rule7};

@@ -8,7 +8,8 @@ use native.Mathlib.Omega.{arith}
 use lib.ListN.{length, getD}
 use Rattle.lists.specs.Lists.{Each}
 use Rattle.lists.specs.Block.{block}
-use Rattle.store.specs.Store.{sealed, commits, Fits}
+use Rattle.store.specs.Store.{sealed}
+use Rattle.store.specs.Change.{Fits, commits}
 use Rattle.store.specs.ChangeLaws.{commits-ext}
 use Rattle.model.specs.Index.{Index}
 use Rattle.model.specs.WellFormed.{Laid}

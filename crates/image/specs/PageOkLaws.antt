@@ -12,7 +12,8 @@ use Rattle.page.specs.declared.Entry.{Entry}
 use Rattle.page.specs.Pair.{badPair, PairFits}
 use Rattle.page.specs.Entries.{encodePage, entriesOf}
 use Rattle.page.specs.PageLaws.{length-encodePage}
-use Rattle.page.specs.Rule.{pageOk, Allowed}
+use Rattle.page.specs.Rule.{pageOk}
+use Rattle.page.specs.Allowed.{Allowed}
 use Rattle.page.specs.RuleLaws.{encodePage-entriesOf, pageOk-allowed}
 use Rattle.model.specs.WellFormed.{EntryOk, PageOk}
 

@@ -1,5 +1,5 @@
--- A block whose body is a front part and a trailer: what is read of it, and that a block's body is made of what is read
--- of it. The same of unused blocks.
+-- A block whose body is a front part and a trailer: what is read of it, and that a body is made of what is read of it.
+-- The same of unused blocks.
 use mathlib.Core.Path.{_≡_, sym, ap, _∙_}
 use mathlib.Core.Bool.{true}
 use mathlib.Core.List.{List, _++_, append-assoc}

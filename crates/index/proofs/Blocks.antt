@@ -10,7 +10,8 @@ use Rattle.lists.specs.Lists.{bind, upFrom}
 use Rattle.lists.specs.Block.{block, setBlock}
 use Rattle.lists.specs.BlockLaws.{length-setBlock, block-same, block-other, blocks-ext, length-bind, block-bind}
 use Rattle.endian.specs.Endian.{le16, le32}
-use Rattle.store.specs.Store.{sealed, copies, seals, commits, Fits}
+use Rattle.store.specs.Store.{sealed}
+use Rattle.store.specs.Change.{Fits, commits, seals, copies}
 use Rattle.store.specs.ChangeLaws.{block-seals}
 use Rattle.store.specs.Finish.{finished}
 use Rattle.store.specs.CheckLaws.{length-sealed}

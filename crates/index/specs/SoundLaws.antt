@@ -6,7 +6,7 @@ use native.Mathlib.Nat.{zero-add}
 use native.Mathlib.Omega.{arith}
 use lib.ListN.{length}
 use Rattle.store.specs.declared.Change.{Change}
-use Rattle.store.specs.Store.{Fits}
+use Rattle.store.specs.Change.{Fits}
 use Rattle.store.specs.Finish.{finished}
 use Rattle.store.specs.FinishLaws.{finished-none}
 use Rattle.model.specs.declared.Answer.{Answer}

@@ -12,9 +12,11 @@ use Rattle.lists.specs.Lists.{b2n}
 use Rattle.lists.specs.Block.{blocks, block, setBlock}
 use Rattle.address.specs.Address.{point, lastSplit, made}
 use Rattle.page.specs.declared.Entry.{Entry}
-use Rattle.page.specs.Entries.{encodePage, insertAt, placeOf, entriesOf}
+use Rattle.page.specs.Entries.{encodePage, entriesOf}
+use Rattle.page.specs.Places.{placeOf, insertAt}
 use Rattle.page.specs.Gap.{Room}
-use Rattle.page.specs.Rule.{pageOk, Sorted}
+use Rattle.page.specs.Rule.{pageOk}
+use Rattle.page.specs.Allowed.{Sorted}
 use Rattle.page.specs.RuleLaws.{pageOk-sorted}
 use Rattle.page.specs.PlaceLaws.{place-le, enter-insertAt}
 use Rattle.page.specs.SlotLaws.{length-insertAt}

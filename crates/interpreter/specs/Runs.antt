@@ -4,7 +4,8 @@ use mathlib.Core.Path.{_≡_}
 use mathlib.Core.List.{List}
 use Prim.Native.Nat.{ℕ, _*_, _≤_}
 use lib.ListN.{length}
-use Rattle.text.specs.Text.{Wrote, lineOutput}
+use Rattle.text.specs.Text.{lineOutput}
+use Rattle.text.specs.Wrote.{Wrote}
 use Rattle.interpreter.specs.Script.{Turn}
 use Rattle.model.specs.declared.LookupAnswer.{LookupAnswer}
 use Rattle.interpreter.specs.Feed.{storeBytes, over}

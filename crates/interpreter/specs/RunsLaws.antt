@@ -19,7 +19,7 @@ use Rattle.model.specs.declared.LookupAnswer.{LookupAnswer}
 use Rattle.model.specs.Answers.{refusalNo}
 use Rattle.model.specs.Index.{Index}
 use Rattle.model.specs.Held.{matches}
-use Rattle.model.specs.Calls.{sizeOk, orderOk, format, listed, lookup}
+use Rattle.model.specs.Calls.{sizeOk, formatOk, format, listed, lookup}
 use Rattle.image.specs.Layout.{encode}
 use Rattle.outcomes.specs.Outcomes.{Tested, passed, failed, tested, Changed, formatOn, formatOutcome}
 use Rattle.image.specs.Rules.{lengthOk}
@@ -86,8 +86,8 @@ format-turn : (s t : List ℕ) (line n : ℕ) (o : Order) (old : List ℕ) → l
     ≡ formatTurn line n (o .fill) (formatOutcome t o .answer) old (formatOutcome t o .store)
 unfolding formatOutcome lengthOk blocks
 format-turn s t line n o old e =
-    both (lengthOk s) (orderOk o) (encode (format (blocks s) o))
-    ∙ ap (λ (k : ℕ). turn (eqb (k % 512) 0 && sizeOk (k / 512)) (orderOk o) t (encode (format (k / 512) o))) e
+    both (lengthOk s) (formatOk o) (encode (format (blocks s) o))
+    ∙ ap (λ (k : ℕ). turn (eqb (k % 512) 0 && sizeOk (k / 512)) (formatOk o) t (encode (format (k / 512) o))) e
   where
     turn : (l f : Bool) → List ℕ → List ℕ → Turn
     turn l f x y = let c = formatOn l f x y in formatTurn line n (o .fill) (c .answer) old (c .store)
@@ -124,7 +124,7 @@ module _ (s : List ℕ) (line n fill : ℕ) (old : List ℕ) (size : length s �
 pub format-kept : (s : List ℕ) (o : Order) (r : Refusal) → formatOutcome s o .answer ≡ Answer.Refused r
     → formatOutcome s o .store ≡ s
 unfolding formatOutcome
-format-kept s o r e = go (lengthOk s) (orderOk o) (encode (format (blocks s) o)) e
+format-kept s o r e = go (lengthOk s) (formatOk o) (encode (format (blocks s) o)) e
   where
     go : (l f : Bool) (y : List ℕ) → formatOn l f s y .answer ≡ Answer.Refused r → formatOn l f s y .store ≡ s
     go false f y q = refl

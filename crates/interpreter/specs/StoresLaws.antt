@@ -14,7 +14,7 @@ use Rattle.line.specs.FitsLaws.{CommandFits}
 use Rattle.model.specs.declared.Order.{Order}
 use Rattle.model.specs.Index.{Job, idle, copying, clearing, Index}
 use Rattle.model.specs.Steps.{next, step}
-use Rattle.model.specs.Calls.{sizeOk, orderOk, format}
+use Rattle.model.specs.Calls.{sizeOk, formatOk, format}
 use Rattle.model.specs.Machine.{Call, inserting, removing, working, CallFits, Ran, runIndex}
 use Rattle.model.specs.FormatLaws.{format-wf}
 use Rattle.model.specs.FrameLaws.{SameJob, insert-frame, remove-frame, begin-frame, job-frame}
@@ -68,7 +68,7 @@ made-step x y m e =
       small = omega (arith, size-step x y e, m .small);
     }
 
-made-format : (n : ℕ) (o : Order) → sizeOk n ≡ true → orderOk o ≡ true → n ≤ scriptBlocks → Made (format n o)
+made-format : (n : ℕ) (o : Order) → sizeOk n ≡ true → formatOk o ≡ true → n ≤ scriptBlocks → Made (format n o)
 unfolding format
 made-format n o so oo few = record { wf = format-wf n o so oo; begun = λ ne. absurd (ne refl); small = few }
 
@@ -106,9 +106,9 @@ call-store c f s (bytes x m) e =
 format-store : (line n fill : ℕ) (o : Order) (z s : List ℕ) → blocks z ≤ scriptBlocks → ScriptStore s
     → let c = formatOutcome z o in ScriptStore (formatTurn line n fill (c .answer) s (c .store) .store)
 unfolding formatOutcome
-format-store line n fill o z s few p = go (lengthOk z) refl (orderOk o) refl
+format-store line n fill o z s few p = go (lengthOk z) refl (formatOk o) refl
   where
-    go : (l : Bool) → lengthOk z ≡ l → (f : Bool) → orderOk o ≡ f
+    go : (l : Bool) → lengthOk z ≡ l → (f : Bool) → formatOk o ≡ f
         → let c = formatOn l f z (encode (format (blocks z) o)) in
         ScriptStore (formatTurn line n fill (c .answer) s (c .store) .store)
     go false h f k = p

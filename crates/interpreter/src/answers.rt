@@ -11,7 +11,8 @@ use text::put_steps;
 ghost use mathlib.Core.Path.{_≡_};
 ghost use Prim.Native.Nat.{_*_, _≤_};
 ghost use lib.ListN.{length};
-ghost use Rattle.text.specs.Text.{Wrote, lineOutput};
+ghost use Rattle.text.specs.Text.{lineOutput};
+ghost use Rattle.text.specs.Wrote.{Wrote};
 ghost use Rattle.interpreter.specs.Script.{answerText, lookupText, workText};
 ghost use Rattle.interpreter.specs.Runs.{Roomy};
 

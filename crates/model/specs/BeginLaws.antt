@@ -26,7 +26,8 @@ use Rattle.model.specs.LaidLaws.{chain-wider}
 use Rattle.model.specs.ViewLaws.{Beginning, samePoint, newPoint, Stepping, began, copied, copiedAll, cleared, clearedAll, step-view}
 use Rattle.model.specs.StepLaws.{widen-becomes}
 use Rattle.model.specs.SortedLaws.{tally-keep-pair, any-keep-pair, length-is}
-use Rattle.model.specs.StepsLeft.{copiesLeft, oldEntries, stepsLeft}
+use Rattle.model.specs.StepsLeft.{oldEntries, stepsLeft}
+use Rattle.model.specs.Steps.{copiesLeft}
 use Rattle.model.specs.StepsLeftLaws.{stepsLeft-at}
 
 -- the pairs that move, of any ascending list of the held pairs; and none is copied yet

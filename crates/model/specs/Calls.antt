@@ -35,8 +35,8 @@ abbrev pub fillOk : ℕ → Bool
 fillOk fill = leb 1 fill && leb fill 40
 
 -- the numbers of a format
-abbrev pub orderOk : Order → Bool
-orderOk o = fillOk (o .fill)
+abbrev pub formatOk : Order → Bool
+formatOk o = fillOk (o .fill)
 
 -- "offset 0; reading block 4294967295": an offset is a 16-bit number, so a larger one is outside its field
 abbrev pub pairOk : Pair → Bool
@@ -76,7 +76,7 @@ formatIn true true y = done y
 
 -- "Format tests 1 and 2 only."
 unfoldable pub formatted : Index → Order → Result
-formatted x o = formatIn (sizeOk (x .size)) (orderOk o) (format (x .size) o)
+formatted x o = formatIn (sizeOk (x .size)) (formatOk o) (format (x .size) o)
 
 abbrev pub insertIn : (numbers holds : Bool) → Index → Pair → Result
 insertIn false h x p = refused Refusal.Number

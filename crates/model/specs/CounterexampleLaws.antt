@@ -45,4 +45,5 @@ wrong = record { State = ℕ; run = wrongRun; step = λ s. next s; stored = λ s
 
 -- standing gives phase copying before any begin
 pub wrong-fails : (index : ℕ → Index) → Demand3 wrong index → ⊥
-wrong-fails index d = let none : phaseAt wrong 1 ≡ Phase.None = d 1 (record { fill = 1 }) (omega arith) refl [] tt .0 .0 .splits in never (cc)
+wrong-fails index d =
+    let none : phaseAt wrong 1 ≡ Phase.None = d 1 (record { fill = 1 }) refl [] tt .0 .0 .splits in never (cc)

@@ -10,7 +10,7 @@ use Rattle.model.specs.declared.Order.{Order}
 use Rattle.model.specs.Index.{Job, idle, copying, clearing, Index, oldBucket, newBucket}
 use Rattle.model.specs.Held.{self, held}
 use Rattle.model.specs.Steps.{next, step}
-use Rattle.model.specs.Calls.{sizeOk, orderOk, format, formatIn, formatted, done, insert, remove, phaseIn}
+use Rattle.model.specs.Calls.{sizeOk, formatOk, format, formatIn, formatted, done, insert, remove, phaseIn}
 use Rattle.model.specs.Machine.{formatting, inserting, CallFits, accepted, settled, runIndex, onIndex}
 use Rattle.model.specs.MachineLaws.{never}
 use Rattle.model.specs.Book.{has, puts, takes, movers, Split, noSplit, since, oneStep, stirred}
@@ -48,7 +48,7 @@ stir x y (since c m k) e u = tt
 
 -- ---- a format, an insert, a removal
 
-pub start-inv : (x : Index) (o : Order) → sizeOk (x .size) ≡ true → orderOk o ≡ true
+pub start-inv : (x : Index) (o : Order) → sizeOk (x .size) ≡ true → formatOk o ≡ true
     → Inv (start onIndex (format (x .size) o) o)
 unfolding format
 start-inv x o s f =
@@ -64,9 +64,9 @@ start-inv x o s f =
 pub format-inv : (x : Index) (o : Order) → accepted (runIndex (formatting o) x .reply) ≡ true
     → Inv (start onIndex (runIndex (formatting o) x .state) o)
 unfolding runIndex formatted
-format-inv x o h = go (sizeOk (x .size)) (orderOk o) refl refl h
+format-inv x o h = go (sizeOk (x .size)) (formatOk o) refl refl h
   where
-    go : (s f : Bool) → sizeOk (x .size) ≡ s → orderOk o ≡ f
+    go : (s f : Bool) → sizeOk (x .size) ≡ s → formatOk o ≡ f
         → accepted (settled x (formatIn s f (format (x .size) o)) .reply) ≡ true
         → Inv (start onIndex (settled x (formatIn s f (format (x .size) o)) .state) o)
     go true true e k h = start-inv x o e k

@@ -95,6 +95,6 @@ history-inv (c ∷ cs) fits t i =
     (j, history-inv cs (fits .1) (after onIndex c t) j)
 
 pub always-inv : Always onIndex Inv
-always-inv x o fit ok cs fits =
+always-inv x o ok cs fits =
     let i = format-inv x o ok in
     (i, history-inv cs fits (start onIndex (runIndex (formatting o) x .state) o) i)

@@ -15,7 +15,7 @@ use Rattle.page.specs.declared.Pair.{Pair}
 use Rattle.model.specs.declared.Order.{Order}
 use Rattle.model.specs.Index.{noChain, chain, bucket}
 use Rattle.model.specs.Held.{held}
-use Rattle.model.specs.Calls.{sizeOk, orderOk, format}
+use Rattle.model.specs.Calls.{sizeOk, formatOk, format}
 use Rattle.address.specs.Limits.{maxBlocks}
 use Rattle.model.specs.WellFormed.{unmovedAt, movedAt, PlacedIn, Laid, WF}
 use Rattle.model.specs.HeldIn.{heldIn}
@@ -23,7 +23,7 @@ use Rattle.model.specs.PlacedLaws.{idle-copying}
 use Rattle.model.specs.ChainOkLaws.{noChain-ok}
 use Rattle.model.specs.HeldLaws.{held-is}
 
-module _ (n : ℕ) (o : Order) (so : sizeOk n ≡ true) (oo : orderOk o ≡ true) where
+module _ (n : ℕ) (o : Order) (so : sizeOk n ≡ true) (oo : formatOk o ≡ true) where
   format-spares : SparesOk (0 ∷ 1 ∷ []) (point 1) n
   format-spares =
       rw point-first

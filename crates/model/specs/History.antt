@@ -101,6 +101,6 @@ module _ (M : Machine) where
   -- a claim at the start, when a format was accepted, and at every moment of every list of calls that follows
   abbrev pub Always : (Moment → Type 0) → Type 0
   Always P =
-      (s : State) (o : Order) → CallFits (formatting o) → accepted (M .run (formatting o) s .reply) ≡ true
+      (s : State) (o : Order) → accepted (M .run (formatting o) s .reply) ≡ true
       → (cs : List Call) → Each CallFits cs
       → let t = start (M .run (formatting o) s .state) o in Each P (t ∷ history cs t)

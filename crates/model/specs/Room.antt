@@ -13,8 +13,7 @@ use Rattle.model.specs.declared.Answer.{Answer}
 use Rattle.model.specs.declared.Stop.{Stop}
 use Rattle.model.specs.Index.{Page, Job, idle, copying, clearing, Index, chain, bucket, newBucket, topBit}
 use Rattle.model.specs.Held.{held, count}
-use Rattle.model.specs.Steps.{stopped}
-use Rattle.model.specs.StepsLeft.{copiesLeft}
+use Rattle.model.specs.Steps.{stopped, copiesLeft}
 use Rattle.model.specs.Calls.{pairOk, standing}
 use Rattle.model.specs.WellFormed.{uses, WF}
 use Rattle.model.specs.Machine.{inserting, CallFits, plain, Machine}

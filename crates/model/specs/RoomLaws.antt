@@ -23,7 +23,7 @@ use Rattle.model.specs.Pages.{hasRoom, pageRoom, bitsUsed, isFree, freeB
 use Rattle.model.specs.Held.{held, count, wanted}
 use Rattle.model.specs.Steps.{Step, stopped, toCopy, step}
 use Rattle.model.specs.Calls.{pairOk, Result, refused, insert}
-use Rattle.model.specs.StepsLeft.{copiesLeft}
+use Rattle.model.specs.Steps.{copiesLeft}
 use Rattle.model.specs.WellFormed.{uses}
 use Rattle.model.specs.Room.{NoPage, NoPoint, NoStep}
 use Rattle.model.specs.TallyLaws.{or-left, or-right, tally-upFrom}

@@ -11,7 +11,7 @@ use Rattle.model.specs.declared.Answer.{Answer}
 use Rattle.model.specs.Answers.{refusalNo}
 use Rattle.model.specs.Index.{Index}
 use Rattle.model.specs.Steps.{next, step}
-use Rattle.model.specs.Calls.{Result, done, refused, sizeOk, orderOk, budgetOk, format, formatIn, formatted}
+use Rattle.model.specs.Calls.{Result, done, refused, sizeOk, formatOk, budgetOk, format, formatIn, formatted}
 use Rattle.model.specs.Calls.{insert, remove, work}
 use Rattle.model.specs.Machine.{Call, formatting, inserting, removing, looking, working, asking, CallFits, Reply}
 use Rattle.model.specs.Machine.{plain, accepted, Ran, settled, workedIn, runIndex}
@@ -30,7 +30,7 @@ refused-no (Refusal.OutputShort n) = refl
 
 pub data Running (x : Index) : Effect → Ran Index → Type 0 where
   refuses : {e : Effect} {r : Reply} → accepted r ≡ false → Running x e (record { reply = r; state = x })
-  formats : {o : Order} → sizeOk (x .size) ≡ true → orderOk o ≡ true
+  formats : {o : Order} → sizeOk (x .size) ≡ true → formatOk o ≡ true
       → Running x (empties o) (record { reply = plain Answer.Done; state = format (x .size) o })
   inserts : {p : Pair} {y : Index} → CallFits (inserting p) → insert x p ≡ done y
       → Running x (puts p) (record { reply = plain Answer.Done; state = y })
@@ -42,9 +42,9 @@ pub data Running (x : Index) : Effect → Ran Index → Type 0 where
 
 pub run-view : (c : Call) → CallFits c → (x : Index) → Running x (effect c) (runIndex c x)
 unfolding runIndex formatted
-run-view (formatting o) fits x = go (sizeOk (x .size)) (orderOk o) refl refl
+run-view (formatting o) fits x = go (sizeOk (x .size)) (formatOk o) refl refl
   where
-    go : (s f : Bool) → sizeOk (x .size) ≡ s → orderOk o ≡ f
+    go : (s f : Bool) → sizeOk (x .size) ≡ s → formatOk o ≡ f
         → Running x (empties o) (settled x (formatIn s f (format (x .size) o)))
     go true true e k = formats e k
     go true false e k = refuses refl
@@ -71,7 +71,7 @@ run-view asking fits x = reads
 
 -- format, insert, remove and each step keep P
 pub record Keeps (P : Index → Type 0) : Type 0 where
-  pub formats : (x : Index) (o : Order) → sizeOk (x .size) ≡ true → orderOk o ≡ true → P x → P (format (x .size) o)
+  pub formats : (x : Index) (o : Order) → sizeOk (x .size) ≡ true → formatOk o ≡ true → P x → P (format (x .size) o)
   pub inserts : (x : Index) (p : Pair) (y : Index) → P x → CallFits (inserting p) → insert x p ≡ done y → P y
   pub removes : (x : Index) (p : Pair) (y : Index) → P x → remove x p ≡ done y → P y
   pub steps : (x y : Index) → P x → step x ≡ next y → P y

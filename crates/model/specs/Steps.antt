@@ -5,7 +5,7 @@ use mathlib.Core.Option.{Option, none, some}
 use Prim.Native.Nat.{ℕ, zero, suc, _+_}
 use lib.Dec.{leb, ltb, eqb}
 use lib.ListN.{getD}
-use Rattle.lists.specs.Lists.{any, find}
+use Rattle.lists.specs.Lists.{any, find, tally}
 use Rattle.address.specs.Address.{bucketsAt, point}
 use Rattle.page.specs.declared.Entry.{Entry}
 use Rattle.page.specs.Pair.{is}
@@ -58,6 +58,10 @@ moves x e = eqb (bucket x (e .pair)) (newBucket x)
 -- and "has no copy there"
 abbrev pub toCopy : Index → Entry → Bool
 toCopy x e = moves x e && not (any (is (e .pair)) (entriesAt x (newBucket x)))
+
+-- the copies still to make
+abbrev pub copiesLeft : Index → ℕ
+copiesLeft x = tally (toCopy x) (entriesAt x (oldBucket x))
 
 -- "copy, marked moved, .. placed as by insert; with none left, clear both flags and set cleanup on the old"
 abbrev pub copyIn : Option Entry → Index → Step Index

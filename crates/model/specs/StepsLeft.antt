@@ -2,11 +2,7 @@
 use Prim.Native.Nat.{ℕ, _+_}
 use Rattle.lists.specs.Lists.{tally}
 use Rattle.model.specs.Index.{Job, idle, copying, clearing, Index, entriesAt, oldBucket}
-use Rattle.model.specs.Steps.{moves, toCopy}
-
--- the copies still to make
-abbrev pub copiesLeft : Index → ℕ
-copiesLeft x = tally (toCopy x) (entriesAt x (oldBucket x))
+use Rattle.model.specs.Steps.{moves, copiesLeft}
 
 -- the old bucket's entries that map to the new one
 abbrev pub oldEntries : Index → ℕ

@@ -22,7 +22,8 @@ use Rattle.model.specs.ChainLaws.{tally-without}
 use Rattle.model.specs.StandLaws.{number-here, chain-there}
 use Rattle.model.specs.HeldLaws.{old-new, old-range, new-range, is-parts}
 use Rattle.model.specs.ViewLaws.{movedEntry, PutAs, put-as, Stepping, began, copied, copiedAll, cleared, clearedAll, step-view}
-use Rattle.model.specs.StepsLeft.{copiesLeft, oldEntries, stepsIn, stepsLeft}
+use Rattle.model.specs.StepsLeft.{oldEntries, stepsIn, stepsLeft}
+use Rattle.model.specs.Steps.{copiesLeft}
 
 -- ---- one entry less
 

@@ -21,7 +21,7 @@ use Rattle.model.specs.Index.{Index}
 use Rattle.model.specs.Pages.{freeBit, firstFree, takePage, put, cut}
 use Rattle.model.specs.Held.{sources, held, matches, count, slack, wanted}
 use Rattle.model.specs.Steps.{begin, step}
-use Rattle.model.specs.Calls.{sizeOk, orderOk, format, insert, remove, lookup, standing, work}
+use Rattle.model.specs.Calls.{sizeOk, formatOk, format, insert, remove, lookup, standing, work}
 use Rattle.model.specs.Machine.{Call, formatting, inserting, removing, looking, working, asking, CallFits}
 use Rattle.model.specs.Machine.{Reply, plain, replyNo, runIndex, onIndex}
 use Rattle.model.specs.FormatLaws.{format-wf}
@@ -81,12 +81,12 @@ evens-fit k h cs f = go 0 k (omega arith)
 
 -- a format of n blocks of any bytes
 format-is : (s : List ℕ) (n : ℕ) (o : Order) → length s ≡ 512 * n
-    → formatOutcome s o ≡ formatOn (sizeOk n) (orderOk o) s (encode (format n o))
+    → formatOutcome s o ≡ formatOn (sizeOk n) (formatOk o) s (encode (format n o))
 unfolding formatOutcome lengthOk blocks
 format-is s n o e =
     let whole : eqb (length s % 512) 0 ≡ true = eq-eqb (length s % 512) 0 (omega (arith, e)) in
     let number : length s / 512 ≡ n = omega (arith, e) in
-    ap₂ (λ (b : Bool) (n : ℕ). formatOn (b && sizeOk n) (orderOk o) s (encode (format n o))) whole number
+    ap₂ (λ (b : Bool) (n : ℕ). formatOn (b && sizeOk n) (formatOk o) s (encode (format n o))) whole number
 
 -- ---- the cards
 
@@ -101,7 +101,7 @@ module _ (fresh : ℕ → List ℕ) (e : (n : ℕ) → length (fresh n) ≡ 512 
   refused-C = ap (λ (c : Changed). replyNo (plain (c .answer)) ∷ []) (format-is (fresh 3) 3 (orderOf 10) (e 3))
 
   -- an accepted format
-  module _ (n : ℕ) (o : Order) (a : sizeOk n ≡ true) (b : orderOk o ≡ true) where
+  module _ (n : ℕ) (o : Order) (a : sizeOk n ≡ true) (b : formatOk o ≡ true) where
     start : List ℕ
     start = runStore (formatting o) (fresh n) .state
 

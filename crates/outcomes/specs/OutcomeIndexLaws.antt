@@ -15,7 +15,7 @@ use Rattle.model.specs.declared.WorkAnswer.{WorkAnswer}
 use Rattle.model.specs.Index.{Index}
 use Rattle.model.specs.Held.{held}
 use Rattle.model.specs.Steps.{Step, next, stopped, Worked, step, iterate}
-use Rattle.model.specs.Calls.{Result, done, refused, sizeOk, orderOk, pairOk, budgetOk, format, formatted, insertIn}
+use Rattle.model.specs.Calls.{Result, done, refused, sizeOk, formatOk, pairOk, budgetOk, format, formatted, insertIn}
 use Rattle.model.specs.Calls.{formatIn, insert, removeIn, remove, Looked, lookup, standing, work}
 use Rattle.model.specs.Machine.{Call, formatting, inserting, removing, looking, working, asking, CallFits, plain}
 use Rattle.model.specs.Machine.{looked, worked, stands, Ran, settled, workedIn, runIndex}
@@ -55,10 +55,10 @@ module _ (x : Index) (w : WF x) where
   pub format-encode : (o : Order) → formatOutcome (encode x) o ≡ changed (encode x) (formatted x o)
   unfolding formatOutcome formatted
   format-encode o =
-      ap₂ (λ (l : Bool) (n : ℕ). formatOn l (orderOk o) (encode x) (encode (format n o)))
+      ap₂ (λ (l : Bool) (n : ℕ). formatOn l (formatOk o) (encode x) (encode (format n o)))
       (encoding-is-sound x w .legal) (encoding-is-sound x w .number)
-      ∙ go (orderOk o)
-      ∙ ap (λ (b : Bool). changed (encode x) (formatIn b (orderOk o) (format (x .size) o))) (sym size-ok)
+      ∙ go (formatOk o)
+      ∙ ap (λ (b : Bool). changed (encode x) (formatIn b (formatOk o) (format (x .size) o))) (sym size-ok)
     where
       go : (f : Bool)
           → formatOn true f (encode x) (encode (format (x .size) o))

@@ -18,7 +18,7 @@ use Rattle.model.specs.declared.Stop.{Stop}
 use Rattle.model.specs.declared.WorkAnswer.{WorkAnswer}
 use Rattle.model.specs.Index.{Index}
 use Rattle.model.specs.Steps.{Step, next, stopped, step, iterate}
-use Rattle.model.specs.Calls.{Result, done, refused, orderOk, pairOk, budgetOk, format, insert, remove, listed, lookup}
+use Rattle.model.specs.Calls.{Result, done, refused, formatOk, pairOk, budgetOk, format, insert, remove, listed, lookup}
 use Rattle.model.specs.Held.{matches}
 use Rattle.model.specs.Machine.{Call, formatting, inserting, removing, looking, working, asking, Reply, plain, looked}
 use Rattle.model.specs.Machine.{worked, stands, accepted, Ran}
@@ -109,7 +109,7 @@ module _ (c : Call) (t : Tests (effect c)) (s : List ℕ) where
 -- it leaves the store or is accepted.
 pub data StoreRun (c : Call) (s : List ℕ) : Ran (List ℕ) → Type 0 where
   refuses : {r : Reply} → accepted r ≡ false → StoreRun c s (record { reply = r; state = s })
-  formats : (o : Order) → lengthOk s ≡ true → orderOk o ≡ true
+  formats : (o : Order) → lengthOk s ≡ true → formatOk o ≡ true
       → StoreRun c s (record { reply = plain Answer.Done; state = encode (format (blocks s) o) })
   reads : {r : Reply} {x : Index} → tested (callNumbersOk (effect c)) s ≡ passed x
       → StoreRun c s (record { reply = r; state = s })
@@ -123,9 +123,9 @@ changes c s x e (refused r) = refuses (refused-no r)
 
 pub store-view : (c : Call) (s : List ℕ) → StoreRun c s (runStore c s)
 unfolding runStore formatOutcome insertOutcome removeOutcome lookupOutcome workOutcome standingOutcome
-store-view (formatting o) s = go (lengthOk s) (orderOk o) refl refl
+store-view (formatting o) s = go (lengthOk s) (formatOk o) refl refl
   where
-    go : (l f : Bool) → lengthOk s ≡ l → orderOk o ≡ f
+    go : (l f : Bool) → lengthOk s ≡ l → formatOk o ≡ f
         → let d = formatOn l f s (encode (format (blocks s) o)) in
         StoreRun (formatting o) s (record { reply = plain (d .answer); state = d .store })
     go false f e k = refuses refl

@@ -15,7 +15,7 @@ use Rattle.model.specs.declared.Order.{Order}
 use Rattle.model.specs.declared.Answer.{Answer}
 use Rattle.model.specs.Index.{Job, idle, copying, clearing, Index}
 use Rattle.model.specs.Steps.{Step, next, stopped, step}
-use Rattle.model.specs.Calls.{sizeOk, orderOk, format}
+use Rattle.model.specs.Calls.{sizeOk, formatOk, format}
 use Rattle.model.specs.Machine.{Call, CallFits, plain, accepted, Ran, runIndex}
 use Rattle.model.specs.Book.{effect}
 use Rattle.model.specs.WellFormed.{WF}
@@ -83,18 +83,18 @@ encoded s t y h e z =
 -- what an accepted format leaves
 pub record Formatted (s : List ℕ) (o : Order) : Type 0 where
   pub legal : lengthOk s ≡ true
-  pub numbers : orderOk o ≡ true
+  pub numbers : formatOk o ≡ true
   pub outcome : formatOutcome s o ≡ record { answer = Answer.Done; store = encode (format (blocks s) o) }
   pub wf : WF (format (blocks s) o)
 
 pub format-done : (s : List ℕ) (o : Order) → accepted (plain (formatOutcome s o .answer)) ≡ true → Formatted s o
 unfolding formatOutcome
-format-done s o e = go (lengthOk s) refl (orderOk o) refl e
+format-done s o e = go (lengthOk s) refl (formatOk o) refl e
   where
     t : List ℕ
     t = encode (format (blocks s) o)
 
-    go : (l : Bool) → lengthOk s ≡ l → (f : Bool) → orderOk o ≡ f
+    go : (l : Bool) → lengthOk s ≡ l → (f : Bool) → formatOk o ≡ f
         → accepted (plain (formatOn l f s (encode (format (blocks s) o)) .answer)) ≡ true → Formatted s o
     go false h f k e = never (cc)
     go true h false k e = never (cc)

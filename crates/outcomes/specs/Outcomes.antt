@@ -16,7 +16,7 @@ use Rattle.model.specs.declared.WorkAnswer.{WorkAnswer}
 use Rattle.model.specs.declared.StandingAnswer.{StandingAnswer}
 use Rattle.model.specs.Index.{Index}
 use Rattle.model.specs.Steps.{Step, next, stopped, Worked, step, iterate}
-use Rattle.model.specs.Calls.{Result, done, refused, sizeOk, orderOk, pairOk, budgetOk, format, insert, remove, Looked}
+use Rattle.model.specs.Calls.{Result, done, refused, sizeOk, formatOk, pairOk, budgetOk, format, insert, remove, Looked}
 use Rattle.model.specs.Calls.{lookup, standing}
 use Rattle.model.specs.Machine.{Call, formatting, inserting, removing, looking, working, asking, plain, looked}
 use Rattle.model.specs.Machine.{worked, stands, Ran, Machine}
@@ -72,7 +72,7 @@ formatOn true false s t = refusing s Refusal.Number
 formatOn true true s t = record { answer = Answer.Done; store = t }
 
 unfoldable pub formatOutcome : List ℕ → Order → Changed
-formatOutcome s o = formatOn (lengthOk s) (orderOk o) s (encode (format (blocks s) o))
+formatOutcome s o = formatOn (lengthOk s) (formatOk o) s (encode (format (blocks s) o))
 
 abbrev pub changed : List ℕ → Result → Changed
 changed s (done y) = record { answer = Answer.Done; store = encode y }

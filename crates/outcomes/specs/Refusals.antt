@@ -5,14 +5,14 @@ use Rattle.model.specs.declared.Answer.{Answer}
 use Rattle.model.specs.declared.LookupAnswer.{LookupAnswer}
 use Rattle.model.specs.declared.WorkAnswer.{WorkAnswer}
 use Rattle.model.specs.declared.StandingAnswer.{StandingAnswer}
-use Rattle.model.specs.Calls.{orderOk, pairOk, budgetOk}
+use Rattle.model.specs.Calls.{formatOk, pairOk, budgetOk}
 use Rattle.model.specs.Machine.{Call, formatting, inserting, removing, looking, working, asking, Reply, plain, looked}
 use Rattle.model.specs.Machine.{worked, stands}
 use Rattle.model.specs.Book.{Effect, empties, puts, takes, leaves, hasSteps}
 
 -- the test of a call's own numbers, by its effect
 abbrev pub callNumbersOk : Effect → Bool
-callNumbersOk (empties o) = orderOk o
+callNumbersOk (empties o) = formatOk o
 callNumbersOk (puts p) = pairOk p
 callNumbersOk (takes p) = pairOk p
 callNumbersOk leaves = true

@@ -9,10 +9,12 @@ use Rattle.endian.specs.Endian.{u16At}
 use Rattle.page.specs.declared.Pair.{Pair}
 use Rattle.page.specs.declared.Entry.{Entry}
 use Rattle.page.specs.Pair.{before}
-use Rattle.page.specs.Entries.{entryAt, entriesOf, placeOf}
+use Rattle.page.specs.Entries.{entryAt, entriesOf}
+use Rattle.page.specs.Places.{placeOf}
 use Rattle.page.specs.EntriesLaws.{length-entriesOf, getD-entriesOf}
 use Rattle.page.specs.PlaceLaws.{place-le, place-above, place-below}
-use Rattle.page.specs.Rule.{orderOk, Sorted}
+use Rattle.page.specs.Rule.{orderOk}
+use Rattle.page.specs.Allowed.{Sorted}
 
 module _ (l : List ℕ) (sorted : Sorted l) where
   pub place-end : (x : Pair) → placeOf x (entriesOf l) ≤ u16At l 0

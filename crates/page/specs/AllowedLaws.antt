@@ -11,7 +11,7 @@ use Rattle.page.specs.Pair.{PairFits, badPair, pairOf, is, enter}
 use Rattle.page.specs.Sublist.{Sublist}
 use Rattle.page.specs.SublistLaws.{all-each, each-all, each-sublist, length-sublist}
 use Rattle.page.specs.AscendingLaws.{length-enter, each-enter, ascending-enter, ascending-sublist}
-use Rattle.page.specs.Rule.{Allowed}
+use Rattle.page.specs.Allowed.{Allowed}
 
 abbrev clean : Entry → Bool
 clean e = not (badPair (e .pair))

@@ -8,7 +8,8 @@ use lib.ListN.{length, getD, take, drop, replicate, length-append, replicate-app
 use lib.Seq.{sets, length-take-le, split-at}
 use Rattle.endian.specs.Endian.{le16, le32}
 use Rattle.page.specs.declared.Entry.{Entry}
-use Rattle.page.specs.Entries.{encodeEntry, encodePage, insertAt, removeAt}
+use Rattle.page.specs.Entries.{encodeEntry, encodePage}
+use Rattle.page.specs.Places.{removeAt, insertAt}
 use Rattle.page.specs.EntryLaws.{length-encodeEntry}
 use Rattle.page.specs.PageLaws.{encodeEntries, encodeEntries-append, length-encodeEntries}
 use Rattle.page.specs.Gap.{opened, closed}

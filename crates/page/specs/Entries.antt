@@ -1,15 +1,13 @@
 -- The entries of a page as bytes. docs/RULES.md 3.5: "number of entries (u16) at 0, up to 40 entries of 12 bytes
 -- from 4: hash, reading block, offset, entry flags (0, or 0x2000 for "moved by split")."
-use mathlib.Core.Bool.{Bool, true, false, cond}
+use mathlib.Core.Bool.{Bool, true, false}
 use mathlib.Core.List.{List, [], _∷_, _++_}
 use Prim.Native.Nat.{ℕ, zero, suc, _+_, _-_, _*_}
-use lib.Dec.{eqb, ltb}
-use lib.ListN.{length, take, drop, replicate}
-use Rattle.lists.specs.Lists.{bind, tally}
+use lib.Dec.{eqb}
+use lib.ListN.{length, replicate}
+use Rattle.lists.specs.Lists.{bind}
 use Rattle.endian.specs.Endian.{le16, le32, u16At, u32At}
-use Rattle.page.specs.declared.Pair.{Pair}
 use Rattle.page.specs.declared.Entry.{Entry}
-use Rattle.page.specs.Pair.{before}
 
 -- ---- writing
 
@@ -49,23 +47,3 @@ entriesFrom l k (suc n) = entryAt l k ∷ entriesFrom l (suc k) n
 -- the entries that a page says it has
 unfoldable pub entriesOf : List ℕ → List Entry
 entriesOf l = entriesFrom l 0 (u16At l 0)
-
--- ---- places
-
-unfoldable pub insertAt : ℕ → Entry → List Entry → List Entry
-insertAt k e es = take k es ++ (e ∷ drop k es)
-
-unfoldable pub removeAt : ℕ → List Entry → List Entry
-removeAt k es = take k es ++ drop (suc k) es
-
--- the sorted place of a pair: the number of entries at the front that stand before it
-unfoldable pub placeOf : Pair → List Entry → ℕ
-placeOf p [] = 0
-placeOf p (e ∷ es) = cond (before (e .pair) p) (suc (placeOf p es)) 0
-
--- the number of entries before the run of a hash code, and the run's length
-unfoldable pub runStart : ℕ → List Entry → ℕ
-runStart h es = tally (λ (e : Entry). ltb (e .pair .hash) h) es
-
-unfoldable pub runLength : ℕ → List Entry → ℕ
-runLength h es = tally (λ (e : Entry). eqb (e .pair .hash) h) es

@@ -4,6 +4,7 @@ pub mod Sublist
 pub mod SublistLaws
 pub mod AscendingLaws
 pub mod Entries
+pub mod Places
 pub mod EntryLaws
 pub mod EntriesLaws
 pub mod PageLaws
@@ -14,5 +15,6 @@ pub mod Gap
 pub mod GapLaws
 pub mod EditLaws
 pub mod Rule
+pub mod Allowed
 pub mod RuleLaws
 pub mod AllowedLaws

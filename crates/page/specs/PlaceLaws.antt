@@ -13,7 +13,7 @@ use Rattle.page.specs.declared.Pair.{Pair}
 use Rattle.page.specs.declared.Entry.{Entry}
 use Rattle.page.specs.Pair.{before, pairOf, is, enter, ascending}
 use Rattle.page.specs.PairLaws.{no-way, same-sym, before-trans, before-same, before-le}
-use Rattle.page.specs.Entries.{insertAt, removeAt, placeOf}
+use Rattle.page.specs.Places.{placeOf, removeAt, insertAt}
 use Rattle.page.specs.SublistLaws.{each-getD, each-map, tally-no, keep-all}
 use Rattle.page.specs.AscendingLaws.{ascending-tail, ascending-head, ascending-enter}
 

@@ -1,16 +1,14 @@
 -- The page rule, as a test on any 512 bytes. docs/RULES.md 3.5: "up to 40 entries .. strictly ascending by hash, then
 -- block, then offset. No entry has offset 0 or reading block 4294967295. Unused bytes zero."
-use mathlib.Core.Path.{_≡_}
-use mathlib.Core.Bool.{Bool, true, not, _&&_, _||_}
+use mathlib.Core.Bool.{Bool, not, _&&_, _||_}
 use mathlib.Core.List.{List}
-use Prim.Native.Nat.{ℕ, _+_, _*_, _≤_}
+use Prim.Native.Nat.{ℕ, _+_, _*_}
 use lib.Dec.{eqb, leb}
-use lib.ListN.{length}
-use Rattle.lists.specs.Lists.{all, Each, upFrom}
+use Rattle.lists.specs.Lists.{all, upFrom}
 use Rattle.lists.specs.Bytes.{part, allZero}
 use Rattle.endian.specs.Endian.{u16At}
 use Rattle.page.specs.declared.Entry.{Entry}
-use Rattle.page.specs.Pair.{PairFits, badPair, ascending}
+use Rattle.page.specs.Pair.{badPair, ascending}
 use Rattle.page.specs.Entries.{entriesOf}
 
 -- at most 40 entries
@@ -34,16 +32,3 @@ restZero l = eqb (u16At l 2) 0 && allZero (part (4 + 12 * u16At l 0) 492 l)
 
 unfoldable pub pageOk : List ℕ → Bool
 pageOk l = numberOk l && (restZero l && (numbersOk l && orderOk l))
-
--- a page in which a search by bisection finds its way
-pub record Sorted (l : List ℕ) : Type 0 where
-  pub whole : length l ≡ 512
-  pub number : numberOk l ≡ true
-  pub order : orderOk l ≡ true
-
--- entries that a page may have
-pub record Allowed (es : List Entry) : Type 0 where
-  pub few : length es ≤ 40
-  pub fit : Each (λ (e : Entry). PairFits (e .pair)) es
-  pub clean : all (λ (e : Entry). not (badPair (e .pair))) es ≡ true
-  pub order : ascending (λ (e : Entry). e .pair) es ≡ true

@@ -21,7 +21,8 @@ use Rattle.page.specs.EntryLaws.{encodeEntry-readEntry}
 use Rattle.page.specs.EntriesLaws.{length-entriesOf, entriesOf-fit}
 use Rattle.page.specs.PageLaws.{encodeEntries, length-encodeEntries, encodePage-parts}
 use Rattle.page.specs.PageLaws.{number-encodePage, zeros-encodePage, entriesOf-encodePage, flags-encodePage}
-use Rattle.page.specs.Rule.{numberOk, flagsOk, numbersOk, orderOk, restZero, pageOk, Sorted, Allowed}
+use Rattle.page.specs.Rule.{numberOk, flagsOk, numbersOk, orderOk, restZero, pageOk}
+use Rattle.page.specs.Allowed.{Allowed, Sorted}
 
 -- ---- the rule's parts
 

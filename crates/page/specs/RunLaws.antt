@@ -17,7 +17,7 @@ use Rattle.page.specs.declared.Pair.{Pair}
 use Rattle.page.specs.declared.Entry.{Entry}
 use Rattle.page.specs.Pair.{before, pairOf, ascending}
 use Rattle.page.specs.PairLaws.{Order, less, equal, more, order, before-hash, before-hash-le}
-use Rattle.page.specs.Entries.{placeOf, runStart, runLength}
+use Rattle.page.specs.Places.{runLength, runStart, placeOf}
 use Rattle.page.specs.SublistLaws.{each-map, tally-no, keep-none}
 use Rattle.page.specs.AscendingLaws.{ascending-tail, ascending-head}
 use Rattle.page.specs.PlaceLaws.{place-le, tally-before}

@@ -9,7 +9,7 @@ use lib.Seq.{split-at}
 use Rattle.lists.specs.Lists.{b2n, tally, Each}
 use Rattle.lists.specs.ListsLaws.{tally-append, each-append}
 use Rattle.page.specs.declared.Entry.{Entry}
-use Rattle.page.specs.Entries.{insertAt, removeAt}
+use Rattle.page.specs.Places.{removeAt, insertAt}
 use Rattle.page.specs.Sublist.{Sublist, ends, leaves, keeps}
 use Rattle.page.specs.SublistLaws.{sublist-refl, sublist-take, sublist-drop, each-sublist}
 

@@ -8,7 +8,8 @@ ghost use mathlib.Core.Path.{_≡_};
 ghost use mathlib.Core.List.{List};
 ghost use Prim.Native.Nat.{ℕ, _+_, _≤_};
 ghost use lib.ListN.{length};
-ghost use Rattle.page.specs.Entries.{encodePage, insertAt, removeAt};
+ghost use Rattle.page.specs.Entries.{encodePage};
+ghost use Rattle.page.specs.Places.{removeAt, insertAt};
 ghost use Rattle.page.specs.Gap.{opened, closed, Room, Held};
 
 // Moves the bytes from `from` up to `to` twelve places up.

@@ -4,8 +4,9 @@ use crate::order::stands_before;
 use crate::slots::count_entries;
 use crate::slots::get_entry;
 ghost use mathlib.Core.Path.{_≡_};
-ghost use Rattle.page.specs.Entries.{entriesOf, placeOf, runStart, runLength};
-ghost use Rattle.page.specs.Rule.{Sorted};
+ghost use Rattle.page.specs.Entries.{entriesOf};
+ghost use Rattle.page.specs.Places.{runLength, runStart, placeOf};
+ghost use Rattle.page.specs.Allowed.{Sorted};
 
 // The sorted place of the pair of the three numbers.
 fn place_before(p: &[u8], hash: u64, block: u32, offset: u16) -> usize

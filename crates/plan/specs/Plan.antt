@@ -8,7 +8,7 @@ use mathlib.Core.Option.{Option, none, some}
 use Prim.Native.Nat.{ℕ}
 use Rattle.lists.specs.Block.{block}
 use Rattle.store.specs.declared.Change.{Change}
-use Rattle.store.specs.Store.{Fits}
+use Rattle.store.specs.Change.{Fits}
 use Rattle.store.specs.Finish.{finished}
 use Rattle.model.specs.declared.Refusal.{Refusal}
 use Rattle.model.specs.declared.Answer.{Answer}

@@ -8,7 +8,8 @@ use lib.ListN.{length}
 use Rattle.lists.specs.Lists.{Each}
 use Rattle.lists.specs.Block.{blocks, block}
 use Rattle.store.specs.declared.Change.{Change}
-use Rattle.store.specs.Store.{covered, Fits}
+use Rattle.store.specs.Store.{covered}
+use Rattle.store.specs.Change.{Fits}
 use Rattle.model.specs.Index.{Index}
 use Rattle.model.specs.WellFormed.{Laid}
 use Rattle.image.specs.declared.Meta.{Meta}
@@ -59,7 +60,8 @@ module _ {s : List ℕ} {m : Meta} (r : Reads s m) {c : Change} {images d : List
   pub plans-of : {c′ : Change} {images′ : List ℕ} → Trimmed s d c′ images′ → Plans s c′ images′ y
   unfolding blocks
   plans-of {c′} t =
-      let full : length d ≡ 512 * y .size = same ∙ reads-sized r .whole ∙ ap (λ (k : ℕ). 512 * k) (reads-size r ∙ sym size) in
+      let full : length d ≡ 512 * y .size =
+      same ∙ reads-sized r .whole ∙ ap (λ (k : ℕ). 512 * k) (reads-size r ∙ sym size) in
       record {
         fits = t .draft .fits;
         makes = finished-trimmed t same (store-sealed r) ∙ resealed-encode d y (omega arith) all-shown;

@@ -15,7 +15,8 @@ use Rattle.address.specs.RoleLaws.{role-only}
 use Rattle.page.specs.declared.Pair.{Pair}
 use Rattle.page.specs.declared.Entry.{Entry}
 use Rattle.page.specs.Pair.{is}
-use Rattle.page.specs.Entries.{encodePage, removeAt}
+use Rattle.page.specs.Entries.{encodePage}
+use Rattle.page.specs.Places.{removeAt}
 use Rattle.page.specs.Gap.{Held}
 use Rattle.page.specs.PageLaws.{number-page}
 use Rattle.page.specs.SublistLaws.{sublist-keep, length-sublist}

@@ -13,7 +13,7 @@ use Rattle.address.specs.Role.{Role, bucketPage, bitPage}
 use Rattle.page.specs.declared.Pair.{Pair}
 use Rattle.page.specs.declared.Entry.{Entry}
 use Rattle.page.specs.Pair.{is}
-use Rattle.page.specs.Entries.{placeOf, removeAt}
+use Rattle.page.specs.Places.{placeOf, removeAt}
 use Rattle.page.specs.SublistLaws.{each-getD}
 use Rattle.page.specs.PlaceLaws.{place-any, removeAt-keep}
 use Rattle.model.specs.Index.{Page, Chain, onPages, entriesIn}

@@ -14,7 +14,8 @@ use Rattle.lists.specs.Block.{blocks, block}
 use Rattle.lists.specs.BlockLaws.{length-block}
 use Rattle.page.specs.declared.Pair.{Pair}
 use Rattle.page.specs.Pair.{is}
-use Rattle.page.specs.Entries.{encodePage, placeOf}
+use Rattle.page.specs.Entries.{encodePage}
+use Rattle.page.specs.Places.{placeOf}
 use Rattle.store.specs.declared.Change.{Change}
 use Rattle.store.specs.Store.{covered}
 use Rattle.model.specs.Index.{Page, Chain, idle, Index, entriesIn, chain}

@@ -77,4 +77,5 @@ module _ {s : List ℕ} {m : Meta} (known : Known2 s m) (k : ℕ) (r : BlockRole
     (found : r ≡ roleCase (roleOf (m .spares) (m .point) k)) where
   pub fits-found : (l : List ℕ) → l ≡ block s k → fits (m .max) (asRole r) l ≡ fitsAt s k
   fits-found l e =
-      ap₂ (λ (n : ℕ) (x : Role). fits n x l) (max-is known) (role-found known k r found) ∙ ap (fits (maxAt s) (roleAt s k)) e
+      ap₂ (λ (n : ℕ) (x : Role). fits n x l) (max-is known) (role-found known k r found)
+      ∙ ap (fits (maxAt s) (roleAt s k)) e

@@ -15,6 +15,7 @@ use image::Meta;
 use plan::PutPlan;
 use reader::roles::home_of;
 use store::Change;
+use store::flags::NO_LINK;
 use store::flags::POPULATED;
 use store::flags::SPLIT;
 ghost use mathlib.Core.Path.{_≡_};

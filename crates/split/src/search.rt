@@ -15,7 +15,7 @@ ghost use mathlib.Core.Path.{_≡_};
 ghost use lib.ListN.{take};
 ghost use Rattle.lists.specs.Lists.{find, bind};
 ghost use Rattle.page.specs.Entries.{entriesOf};
-ghost use Rattle.page.specs.Rule.{Sorted};
+ghost use Rattle.page.specs.Allowed.{Sorted};
 ghost use Rattle.model.specs.Index.{entriesAt, oldBucket};
 ghost use Rattle.image.specs.Decode.{decode};
 ghost use Rattle.chain.specs.Within.{entriesOn, PagesOk, Within};

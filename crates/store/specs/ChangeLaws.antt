@@ -7,7 +7,8 @@ use native.Mathlib.Omega.{arith}
 use lib.ListN.{length, getD}
 use Rattle.lists.specs.Block.{block, setBlock}
 use Rattle.lists.specs.BlockLaws.{length-block}
-use Rattle.store.specs.Store.{sealed, seals, stored, commits, Fits}
+use Rattle.store.specs.Store.{sealed}
+use Rattle.store.specs.Change.{Fits, commits, stored, seals}
 use Rattle.store.specs.CheckLaws.{length-sealed}
 use Rattle.store.specs.CopyLaws.{
   Copying,

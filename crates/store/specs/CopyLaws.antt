@@ -10,7 +10,7 @@ use borrow.Author.Count.{below-more}
 use lib.ListN.{length}
 use Rattle.lists.specs.Block.{block, setBlock}
 use Rattle.lists.specs.BlockLaws.{length-setBlock, block-same, block-other, blocks-ext}
-use Rattle.store.specs.Store.{copies}
+use Rattle.store.specs.Change.{copies}
 
 -- n whole blocks, for places inside of s, no two the same
 pub record Copying (s : List ℕ) (at : ℕ → ℕ) (b : ℕ → List ℕ) (n : ℕ) : Type 0 where

@@ -5,7 +5,8 @@ use Prim.Native.Nat.{ℕ, _<_}
 use Rattle.lists.specs.Lists.{bind, upFrom}
 use Rattle.lists.specs.Block.{blocks, block}
 use Rattle.store.specs.declared.Change.{Change}
-use Rattle.store.specs.Store.{sealed, seals, commits}
+use Rattle.store.specs.Store.{sealed}
+use Rattle.store.specs.Change.{commits, seals}
 
 -- the store after a change whose images are sealed first
 unfoldable pub finished : List ℕ → Change → List ℕ → List ℕ

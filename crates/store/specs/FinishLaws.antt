@@ -12,7 +12,8 @@ use Rattle.lists.specs.Bytes.{Bytes}
 use Rattle.lists.specs.Block.{blocks, block}
 use Rattle.lists.specs.BlockLaws.{length-block, length-bind, block-bind}
 use Rattle.store.specs.declared.Change.{Change}
-use Rattle.store.specs.Store.{sealed, checked, seals, commits}
+use Rattle.store.specs.Store.{sealed, checked}
+use Rattle.store.specs.Change.{commits, seals}
 use Rattle.store.specs.CheckLaws.{length-sealed, block-checked}
 use Rattle.store.specs.ChangeLaws.{commits-zero}
 use Rattle.store.specs.Finish.{finished, resealed, Sealed}

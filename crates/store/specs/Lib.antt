@@ -1,5 +1,6 @@
 pub mod Flags
 pub mod Store
+pub mod Change
 pub mod TrailerLaws
 pub mod CheckLaws
 pub mod CopyLaws

@@ -15,7 +15,8 @@ ghost use lib.ListN.{length, getD};
 ghost use lib.Seq.{sets};
 ghost use Rattle.lists.specs.Block.{block, setBlock};
 ghost use Rattle.store.specs.Store.{prevAt, nextAt, bucketAt, flagsAt, idAt, trailer};
-ghost use Rattle.store.specs.Store.{checkOf, sealed, checks, seals, stored, commits, Fits};
+ghost use Rattle.store.specs.Store.{checkOf, sealed, checks};
+ghost use Rattle.store.specs.Change.{Fits, commits, stored, seals};
 ghost use Rattle.store.specs.Finish.{finished};
 
 // Block `k`, as a part of the store.

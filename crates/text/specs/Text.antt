@@ -1,9 +1,6 @@
 -- docs/RULES.md 8.5 and 8.7: the lines of output, each with its LF.
-use mathlib.Core.Path.{_≡_}
 use mathlib.Core.List.{List, [], _∷_, _++_}
-use Prim.Native.Nat.{ℕ, _+_, _*_, _≤_}
-use lib.ListN.{length}
-use lib.Seq.{sets}
+use Prim.Native.Nat.{ℕ, _+_, _*_}
 use Rattle.lists.specs.Lists.{bind, upFrom}
 use Rattle.endian.specs.Endian.{u16At, u32At}
 use Rattle.text.specs.Digits.{digits}
@@ -43,9 +40,3 @@ placeText out i = (32 ∷ []) ++ digits (u32At out (6 * i)) ++ (47 ∷ []) ++ di
 -- `M: b/o b/o`, no match is `0:`
 unfoldable pub foundText : (count : ℕ) (output : List ℕ) → List ℕ
 foundText m out = digits m ++ (58 ∷ []) ++ bind (upFrom 0 m) (placeText out) ++ (10 ∷ [])
-
--- `text` was written over `old` from `at` on, up to `end`, and had room there
-pub record Wrote (old : List ℕ) (at : ℕ) (text new : List ℕ) (end : ℕ) : Type 0 where
-  pub bytes : new ≡ sets old at text
-  pub ends : end ≡ at + length text
-  pub fits : end ≤ length old

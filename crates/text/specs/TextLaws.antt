@@ -11,7 +11,7 @@ use Rattle.lists.specs.Lists.{bind, upFrom}
 use Rattle.lists.specs.BytesLaws.{sets-append}
 use Rattle.text.specs.Digits.{digits}
 use Rattle.text.specs.DigitsLaws.{digits-few}
-use Rattle.text.specs.Text.{Wrote}
+use Rattle.text.specs.Wrote.{Wrote}
 
 pub wrote-length : {x y : List ℕ} {i j : ℕ} {t : List ℕ} → Wrote x i t y j → length y ≡ length x
 wrote-length {x} {y} {i} {j} {t} w = ap length (w .bytes) ∙ length-sets x i t

@@ -8,7 +8,8 @@ ghost use Prim.Native.Nat.{_+_, _*_, _≤_, _<_};
 ghost use lib.ListN.{length, drop};
 ghost use Rattle.lists.specs.Lists.{bind, upFrom};
 ghost use Rattle.text.specs.Digits.{digits};
-ghost use Rattle.text.specs.Text.{Wrote, lineOutput, storeText, okText, refusedText};
+ghost use Rattle.text.specs.Text.{lineOutput, storeText, okText, refusedText};
+ghost use Rattle.text.specs.Wrote.{Wrote};
 ghost use Rattle.text.specs.Text.{twoText, stepsText, placeText, foundText};
 
 // The bytes that one line of output can need: 5,000 matches of 17 bytes, their number, a colon and LF.

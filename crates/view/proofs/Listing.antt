@@ -72,7 +72,8 @@ pub record Listed (ps : List Pair) (h : ℕ) (out₀ out : List ℕ) (last : Pai
   pub left : written ps out₀ ≡ sets out at (bind (drop number ps) placeBytes)
 
 -- the pairs of the hash code h along the blocks ks and js
-module _ (s ks js : List ℕ) (fresh : Bool) (h : ℕ) (out₀ : List ℕ) (all : Listable (pairsAlong s ks js h fresh) h out₀) where
+module _ (s ks js : List ℕ) (fresh : Bool) (h : ℕ) (out₀ : List ℕ)
+    (all : Listable (pairsAlong s ks js h fresh) h out₀) where
   abbrev qs : ℕ → List Pair
   qs g = pairsAlong s ks js g fresh
 
@@ -83,7 +84,8 @@ module _ (s ks js : List ℕ) (fresh : Bool) (h : ℕ) (out₀ : List ℕ) (all 
   hashes =
       let es = bind ks (entriesOn s) in
       let fs = bind js (entriesOn s) in
-      each-append (λ p. p .hash ≡ h) (pairsIn h fresh es) (pairsIn h false fs) (pairs-hash h fresh es) (pairs-hash h false fs)
+      each-append (λ p. p .hash ≡ h) (pairsIn h fresh es) (pairsIn h false fs)
+      (pairs-hash h fresh es) (pairs-hash h false fs)
 
   number-is : length ps ≡ length (qs h)
   number-is = length-sorted (qs h)
@@ -99,7 +101,8 @@ module _ (s ks js : List ℕ) (fresh : Bool) (h : ℕ) (out₀ : List ℕ) (all 
         left = written-start ps out₀ (omega (arith, number-is, all .room));
       }
 
-  module _ {out : List ℕ} {last : Pair} {at : ℕ} (l : Listed (sorted (pairsAlong s ks js h fresh)) h out₀ out last at) (found : Next)
+  module _ {out : List ℕ} {last : Pair} {at : ℕ} (l : Listed (sorted (pairsAlong s ks js h fresh)) h out₀ out last at)
+      (found : Next)
       (next : found ≡ nextAfter last (pairsAlong s ks js (last .hash) fresh)) where
     abbrev i : ℕ
     i = l .number
@@ -117,7 +120,8 @@ module _ (s ks js : List ℕ) (fresh : Bool) (h : ℕ) (out₀ : List ℕ) (all 
         ∙ next-listed h ps (all .ascends) i last (l .inside) same
 
     pub list-end : found ≡ Next.Nothing → out ≡ written (sorted (pairsAlong s ks js h fresh)) out₀
-    list-end e = sym (l .left ∙ ap (λ (rs : List Pair). sets out at (bind rs placeBytes)) (head-none ps i (sym head ∙ e)))
+    list-end e =
+        sym (l .left ∙ ap (λ (rs : List Pair). sets out at (bind rs placeBytes)) (head-none ps i (sym head ∙ e)))
 
     module _ (p : Pair) (e : found ≡ Next.At p) where
       split : drop i ps ≡ p ∷ drop (suc i) ps
@@ -129,7 +133,8 @@ module _ (s ks js : List ℕ) (fresh : Bool) (h : ℕ) (out₀ : List ℕ) (all 
       pub list-room : at + 6 ≤ length out
       list-room = omega (arith, l .place, l .size, more, number-is, all .room)
 
-      pub list-turn : (out′ : List ℕ) → out′ ≡ sets out at (placeBytes p) → Listed (sorted (pairsAlong s ks js h fresh)) h out₀ out′ p (at + 6)
+      pub list-turn : (out′ : List ℕ) → out′ ≡ sets out at (placeBytes p)
+          → Listed (sorted (pairsAlong s ks js h fresh)) h out₀ out′ p (at + 6)
       list-turn out′ q =
           let n : i ≡ i + 0 = omega arith in
           record {

@@ -67,8 +67,8 @@ next-getD (p ∷ ps) (suc i) d h l =
     ∙ next-getD ps i d (ascending-tail self p ps h) (omega arith)
 
 -- pairs of one hash code that ascend from the lowest one of it, which is none of them
-module _ (h : ℕ) (ps : List Pair) (up : ascending self (lowest h ∷ ps) ≡ true) (i : ℕ) (d : Pair) (inside : i ≤ length ps)
-    (same : getD (lowest h ∷ ps) i d .hash ≡ h) where
+module _ (h : ℕ) (ps : List Pair) (up : ascending self (lowest h ∷ ps) ≡ true) (i : ℕ) (d : Pair)
+    (inside : i ≤ length ps) (same : getD (lowest h ∷ ps) i d .hash ≡ h) where
   -- after the pair at place i of these comes the i-th of the pairs
   pub next-listed : nextAfter (getD (lowest h ∷ ps) i d) ps ≡ headOf (drop i ps)
   next-listed =

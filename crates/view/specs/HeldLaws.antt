@@ -7,7 +7,7 @@ use Rattle.lists.specs.Lists.{b2n, any}
 use Rattle.lists.specs.ListsLaws.{eqb-yes, any-yes}
 use Rattle.page.specs.declared.Pair.{Pair}
 use Rattle.page.specs.Pair.{is}
-use Rattle.page.specs.Entries.{placeOf}
+use Rattle.page.specs.Places.{placeOf}
 use Rattle.model.specs.Index.{Job, copying, Index, chain, entriesAt, bucket, newBucket, oldBucket}
 use Rattle.model.specs.Held.{sources, held}
 use Rattle.model.specs.WellFormed.{unmovedAt, movedAt, WF}

@@ -9,7 +9,7 @@ use Rattle.lists.specs.Lists.{any}
 use Rattle.address.specs.Address.{bucketOf}
 use Rattle.page.specs.declared.Pair.{Pair}
 use Rattle.page.specs.Pair.{is}
-use Rattle.page.specs.Entries.{placeOf}
+use Rattle.page.specs.Places.{placeOf}
 use Rattle.model.specs.Index.{Job, idle, copying, clearing, Index, chain, entriesAt, newBucket, oldBucket}
 use Rattle.model.specs.Pages.{chainRoom}
 use Rattle.frame.specs.Frame.{chainBlocks, pageBlock, pageEntries, pairPlace, roomPlace, lastPlace}

@@ -10,7 +10,7 @@ use Rattle.lists.specs.Lists.{any, find}
 use Rattle.page.specs.declared.Pair.{Pair}
 use Rattle.page.specs.declared.Entry.{Entry}
 use Rattle.page.specs.Pair.{is}
-use Rattle.page.specs.Entries.{placeOf}
+use Rattle.page.specs.Places.{placeOf}
 use Rattle.model.specs.Index.{Page, Chain, Index, chain, entriesAt}
 use Rattle.model.specs.Pages.{pageRoom, chainRoom}
 use Rattle.image.specs.declared.Meta.{Meta}

@@ -7,6 +7,7 @@ use native.Mathlib.Omega.{arith}
 use lib.ListN.{length}
 use Rattle.lists.specs.Bytes.{Bytes}
 use Rattle.lists.specs.Block.{blocks, block}
+use Rattle.address.specs.Limits.{maxBlocks}
 use Rattle.model.specs.Index.{Index}
 use Rattle.model.specs.Held.{count}
 use Rattle.model.specs.WellFormed.{WF, Laid}

@@ -74,10 +74,12 @@ module _ (x : Index) (h : ℕ) where
   found = keep (hasHash h) (map pairOf (sources x h))
 
   sources-pairs : found ≡ pairsBy x h (sourcesOf x h)
-  sources-pairs = ap (λ (es : List Entry). keep (hasHash h) (map pairOf es)) (sources-by x h) ∙ found-pairs (sourcesOf x h)
+  sources-pairs =
+      ap (λ (es : List Entry). keep (hasHash h) (map pairOf es)) (sources-by x h) ∙ found-pairs (sourcesOf x h)
 
   -- what holds of every entry with the hash code
-  pub each-matches : (P : Pair → Type 0) → ((b : ℕ) → Each (λ e. eqb (e .pair .hash) h ≡ true → P (e .pair)) (entriesAt x b))
+  pub each-matches : (P : Pair → Type 0)
+      → ((b : ℕ) → Each (λ e. eqb (e .pair .hash) h ≡ true → P (e .pair)) (entriesAt x b))
       → Each P (matches x h)
   unfolding matches
   each-matches P k = each-sorted P found (subst (Each P) (sym sources-pairs) (go (sourcesOf x h)))

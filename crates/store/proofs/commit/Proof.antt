@@ -2,7 +2,7 @@ use mathlib.Core.Path.{_≡_, refl, sym, ap, _∙_}
 use Prim.Native.Nat.{_-_, _≤_}
 use native.Mathlib.Omega.{arith}
 use lib.ListN.{length}
-use Rattle.store.specs.Store.{commits}
+use Rattle.store.specs.Change.{commits}
 use Rattle.store.specs.ChangeLaws.{commits-zero, commits-suc}
 use Rattle.store.proofs.commit.Statement.{statement}
 use Rattle.store.proofs.commit.Tie as tie

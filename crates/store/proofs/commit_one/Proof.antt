@@ -1,5 +1,5 @@
 use native.Mathlib.Omega.{arith}
-use Rattle.store.specs.Store.{stored}
+use Rattle.store.specs.Change.{stored}
 use Rattle.store.proofs.Parts.{length-of-block}
 use borrow.Author.Needs.{needs}
 use Rattle.store.proofs.commit_one.Statement.{statement}

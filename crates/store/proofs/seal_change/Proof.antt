@@ -2,7 +2,7 @@ use mathlib.Core.Path.{_≡_, refl, sym, ap, _∙_}
 use Prim.Native.Nat.{_-_, _≤_}
 use native.Mathlib.Omega.{arith}
 use lib.ListN.{length}
-use Rattle.store.specs.Store.{seals}
+use Rattle.store.specs.Change.{seals}
 use Rattle.store.specs.ChangeLaws.{seals-zero, seals-suc}
 use Rattle.store.proofs.seal_change.Statement.{statement}
 use Rattle.store.proofs.seal_change.Tie as tie

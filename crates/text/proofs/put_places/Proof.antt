@@ -4,7 +4,8 @@ use Prim.Native.Nat.{ℕ, _+_, _-_, _*_, _≤_}
 use native.Mathlib.Omega.{arith}
 use lib.ListN.{length}
 use Rattle.lists.specs.Lists.{bind, upFrom}
-use Rattle.text.specs.Text.{Wrote, placeText}
+use Rattle.text.specs.Text.{placeText}
+use Rattle.text.specs.Wrote.{Wrote}
 use Rattle.text.specs.TextLaws.{then-wrote, wrote-length, bind-more}
 use Rattle.text.proofs.put_places.Statement.{statement}
 use Rattle.text.proofs.put_places.Tie as tie

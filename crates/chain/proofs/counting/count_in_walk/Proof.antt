@@ -3,7 +3,7 @@ use Prim.Native.Nat.{_+_, _*_, _-_, _≤_}
 use native.Mathlib.Omega.{arith}
 use lib.ListN.{take, drop}
 use Rattle.lists.specs.Lists.{tally, bind}
-use Rattle.page.specs.Rule.{Sorted}
+use Rattle.page.specs.Allowed.{Sorted}
 use Rattle.chain.specs.Within.{entriesOn}
 use Rattle.chain.specs.Next.{isMatch}
 use Rattle.chain.proofs.Tallies.{count-few, count-turn, count-end}

@@ -7,7 +7,8 @@ use lib.ListN.{drop}
 use Rattle.endian.specs.Endian.{u16At}
 use Rattle.page.specs.declared.Entry.{Entry}
 use Rattle.page.specs.Pair.{before}
-use Rattle.page.specs.Entries.{entryAt, entriesOf, placeOf}
+use Rattle.page.specs.Entries.{entryAt, entriesOf}
+use Rattle.page.specs.Places.{placeOf}
 use Rattle.page.specs.RuleLaws.{number-le}
 use Rattle.chain.specs.declared.Next.{Next}
 use Rattle.chain.specs.Next.{nextAfter, counts, pairsIn}
@@ -39,7 +40,8 @@ loop-holds c =
       page-start (s .pre) (s .args .after) (s .args .fresh) (k .result) (k .ensures),
     )
 
-inside : (c : tie.In-loop Inv-loop μ-loop) → c .before .loop .i < u16At (c .before .before .before .before .before .args .page .now) 0
+inside : (c : tie.In-loop Inv-loop μ-loop)
+    → c .before .loop .i < u16At (c .before .before .before .before .before .args .page .now) 0
 inside c = omega (arith, c .loop-test .taken, c .before .loop .inv .0)
 
 get-entry-requires : tie.Need-get-entry-requires Inv-loop μ-loop

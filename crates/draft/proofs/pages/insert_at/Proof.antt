@@ -3,7 +3,7 @@ use mathlib.Core.List.{List}
 use Prim.Native.Nat.{ℕ}
 use native.Mathlib.Omega.{arith}
 use borrow.Author.Needs.{needs}
-use Rattle.page.specs.Entries.{insertAt}
+use Rattle.page.specs.Places.{insertAt}
 use Rattle.page.specs.Gap.{Room}
 use Rattle.draft.proofs.Editing.{image-inside, lent-block, edit-page}
 use Rattle.draft.proofs.pages.insert_at.Statement.{statement}

@@ -3,7 +3,7 @@ use mathlib.Core.List.{List}
 use Prim.Native.Nat.{ℕ}
 use native.Mathlib.Omega.{arith}
 use borrow.Author.Needs.{needs}
-use Rattle.page.specs.Entries.{removeAt}
+use Rattle.page.specs.Places.{removeAt}
 use Rattle.page.specs.Gap.{Held}
 use Rattle.draft.proofs.Editing.{image-inside, lent-block, edit-page}
 use Rattle.draft.proofs.pages.remove_at.Statement.{statement}

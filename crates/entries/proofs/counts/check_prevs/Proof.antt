@@ -43,7 +43,8 @@ bucket-page-requires c κs = (c .before .before .before .pre, c .loop-test .take
 prev-at-requires : tie.Need-prev-at-requires Inv-loop μ-loop
 prev-at-requires c κs =
     let l = c .before .before in
-    ap length (c .bucket-page .ensures) ∙ bucket-full (l .before .before .pre) (l .loop .b) (c .before .loop-test .taken)
+    ap length (c .bucket-page .ensures)
+    ∙ bucket-full (l .before .before .pre) (l .loop .b) (c .before .loop-test .taken)
 
 last-split-requires : tie.Need-last-split-requires Inv-loop μ-loop
 last-split-requires c κs = omega arith

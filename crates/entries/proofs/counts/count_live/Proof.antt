@@ -62,7 +62,10 @@ loop-again c =
     let b = l .loop .b in
     let k = s .pre .known .known .known in
     let p = l .before .read-job in
-    let here = c .count-walk .ensures .0 ∙ live-walk t (p .result) (p .ensures) b (made i) (w .walk-bucket .result) (w .walk-bucket .ensures) (s .args .m .max) (max-is k) in (
+    let here =
+    c .count-walk .ensures .0
+    ∙ live-walk t (p .result) (p .ensures) b (made i) (w .walk-bucket .result) (w .walk-bucket .ensures) (s .args .m .max)
+    (max-is k) in (
       omega (arith, made i),
       omega (arith, l .loop .inv .1, c .count-walk .ensures .1),
       omega (arith, l .loop .inv .2, here, live-turn t b (made i)),

@@ -13,7 +13,8 @@ use Rattle.entries.proofs.pages.check_distinct.Tie as tie
 
 abbrev Inv-loop : tie.InvT-loop
 Inv-loop store blocks count i₀ i =
-    distinct (bind (drop i (take count blocks)) (entriesOn store)) ≡ distinct (bind (take count blocks) (entriesOn store))
+    distinct (bind (drop i (take count blocks)) (entriesOn store))
+    ≡ distinct (bind (take count blocks) (entriesOn store))
 
 abbrev μ-loop : tie.MeasureT-loop
 μ-loop store blocks count i₀ i = count - i

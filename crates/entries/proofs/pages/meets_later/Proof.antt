@@ -53,7 +53,8 @@ returns c =
     let test =
     sym
     (h .have-common .ensures
-    ∙ ap₂ (λ (x y : List ℕ). common (entriesOf x) (entriesOf y)) (p .page-on .ensures .page) (h .before .page-on2 .ensures .page)) in
+    ∙ ap₂ (λ (x y : List ℕ). common (entriesOf x) (entriesOf y)) (p .page-on .ensures .page)
+    (h .before .page-on2 .ensures .page)) in
     sym (sym (l .loop .inv) ∙ found _ _ _ turn (test ∙ c .if1 .taken))
 
 add-j-2 : tie.Need-add-j-2 Inv-loop μ-loop
@@ -73,7 +74,8 @@ loop-again c =
     let test =
     sym
     (h .have-common .ensures
-    ∙ ap₂ (λ (x y : List ℕ). common (entriesOf x) (entriesOf y)) (p .page-on .ensures .page) (h .before .page-on2 .ensures .page)) in
+    ∙ ap₂ (λ (x y : List ℕ). common (entriesOf x) (entriesOf y)) (p .page-on .ensures .page)
+    (h .before .page-on2 .ensures .page)) in
     missed _ _ _ turn (test ∙ c .if1 .left) ∙ l .loop .inv
 
 returns-2 : tie.Need-returns-2 Inv-loop μ-loop

@@ -51,8 +51,8 @@ chain c =
     let a = s .args in
     sym
     (c .check-walk-places .ensures
-    ∙ walk-homed (a .store .now) (a .phase) (l .loop .b) (made (w .before)) (w .walk-bucket .result) (w .walk-bucket .ensures)
-    (a .m .max) (max-is (s .pre .known .known .known)))
+    ∙ walk-homed (a .store .now) (a .phase) (l .loop .b) (made (w .before)) (w .walk-bucket .result)
+    (w .walk-bucket .ensures) (a .m .max) (max-is (s .pre .known .known .known)))
 
 returns : tie.Need-returns Inv-loop μ-loop
 returns c =
@@ -77,7 +77,8 @@ loop-again c =
     let l = h .before .before .before .before .before in
     let a = l .before .before .args in
     let low = made (h .before .before .before .before) in
-    let turn = left-turn (homed (a .store .now) (a .phase)) (suc (maxAt (a .store .now))) (l .loop .b) (omega (arith, low)) in (
+    let turn = left-turn (homed (a .store .now) (a .phase)) (suc (maxAt (a .store .now))) (l .loop .b)
+    (omega (arith, low)) in (
       omega (arith, low),
       passed _ _ _ turn (chain h ∙ not-false (h .check-walk-places .result) (c .if1 .left)) ∙ l .loop .inv .1,
     )

@@ -42,8 +42,8 @@ returns c =
     let n = o .before in
     let s = n .before .before in
     c .check-walk-marks .ensures
-    ∙ walks-marked (s .args .store .now) (s .args .old) (s .args .new) (old-made s) (new-made s) (o .walk-bucket2 .result)
-    (n .walk-bucket .result) (o .walk-bucket2 .ensures) (n .walk-bucket .ensures)
+    ∙ walks-marked (s .args .store .now) (s .args .old) (s .args .new) (old-made s) (new-made s)
+    (o .walk-bucket2 .result) (n .walk-bucket .result) (o .walk-bucket2 .ensures) (n .walk-bucket .ensures)
 
 pub check-copies-spec : {M : Type 1} → statement M
 check-copies-spec =

@@ -78,7 +78,8 @@ returns-2 c =
     let l = c .before in
     let a = l .before .before .before .before .args in
     let past : u16At (a .page .now) 0 ≤ l .loop .i = omega (arith, l .before .count-entries .ensures) in
-    sym (sym (l .loop .inv) ∙ ap (all (marked (a .store .now) (a .blocks .now) (a .count))) (rest-done (a .page .now) (l .loop .i) past))
+    sym (sym (l .loop .inv)
+    ∙ ap (all (marked (a .store .now) (a .blocks .now) (a .count))) (rest-done (a .page .now) (l .loop .i) past))
 
 pub check-page-marks-spec : {M : Type 1} → statement M
 check-page-marks-spec =

@@ -44,8 +44,8 @@ returns c =
     let t = marked (s .args .store .now) (s .args .originals .now) (s .args .total) in
     let f = n .check-page-marks in
     let turn =
-    all-turn (s .pre .0 .0) t (l .loop .i) (n .before .before .loop-test .taken) (n .before .page-on .ensures) (f .result)
-    (f .ensures) in
+    all-turn (s .pre .0 .0) t (l .loop .i) (n .before .before .loop-test .taken) (n .before .page-on .ensures)
+    (f .result) (f .ensures) in
     sym (sym (l .loop .inv) ∙ failed _ _ _ turn (not-true (f .result) (c .if1 .taken)))
 
 add-i : tie.Need-add-i Inv-loop μ-loop
@@ -62,8 +62,8 @@ loop-again c =
     let t = marked (s .args .store .now) (s .args .originals .now) (s .args .total) in
     let f = n .check-page-marks in
     let turn =
-    all-turn (s .pre .0 .0) t (l .loop .i) (n .before .before .loop-test .taken) (n .before .page-on .ensures) (f .result)
-    (f .ensures) in
+    all-turn (s .pre .0 .0) t (l .loop .i) (n .before .before .loop-test .taken) (n .before .page-on .ensures)
+    (f .result) (f .ensures) in
     passed _ _ _ turn (not-false (f .result) (c .if1 .left)) ∙ l .loop .inv
 
 returns-2 : tie.Need-returns-2 Inv-loop μ-loop

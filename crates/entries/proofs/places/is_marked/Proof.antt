@@ -19,15 +19,15 @@ returns : tie.Need-returns
 returns c =
     let f = c .before .before in
     let a = f .before .before .args in
-    marked-found (a .store .now) (take (a .count) (a .blocks .now)) (a .entry) (f .find-pair .result) (f .find-pair .ensures)
-    (ap isFound (c .enum-told .given .1))
+    marked-found (a .store .now) (take (a .count) (a .blocks .now)) (a .entry) (f .find-pair .result)
+    (f .find-pair .ensures) (ap isFound (c .enum-told .given .1))
 
 returns-2 : tie.Need-returns-2
 returns-2 c =
     let f = c .before .before .before in
     let a = f .before .before .args in
-    marked-not-found (a .store .now) (take (a .count) (a .blocks .now)) (a .entry) (f .find-pair .result) (f .find-pair .ensures)
-    (ap isFound (c .before .enum-told2 .given .1))
+    marked-not-found (a .store .now) (take (a .count) (a .blocks .now)) (a .entry) (f .find-pair .result)
+    (f .find-pair .ensures) (ap isFound (c .before .enum-told2 .given .1))
 
 pub is-marked-spec : {M : Type 1} → statement M
 is-marked-spec = tie.close (tie.spec find-pair-requires enum-told enum-told-2 returns returns-2)

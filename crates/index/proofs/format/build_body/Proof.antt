@@ -46,7 +46,7 @@ returns-4 c =
 returns-5 : tie.Need-returns-5
 returns-5 c =
     let a = c .before .args in
-    covered-zeros ∙ sym (format-unused (a .size) (a .fill) (a .k) (omega arith))
+    covered-zeros ∙ sym (format-unused (a .size) (record { fill = a .fill }) (a .k) (omega arith))
 
 pub build-body-spec : {M : Type 1} → statement M
 build-body-spec =

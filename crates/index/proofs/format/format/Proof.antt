@@ -5,7 +5,7 @@ use borrow.Author.Tests.{leb-true, not-true, not-false}
 use lib.Dec.{leb}
 use Rattle.lists.specs.ListsLaws.{and-right}
 use Rattle.lists.specs.Block.{blocks}
-use Rattle.model.specs.Calls.{orderOk}
+use Rattle.model.specs.Calls.{formatOk}
 use Rattle.outcomes.specs.Outcomes.{formatOutcome}
 use Rattle.image.specs.Rules.{lengthOk}
 use Rattle.outcomes.specs.FormatLaws.{format-bytes}
@@ -18,7 +18,7 @@ use Rattle.index.proofs.format.format.Tie as tie
 legal : (c : tie.Else1) → lengthOk (c .before .before .before .before .args .store .now) ≡ true
 legal c = sym (c .before .check-length .ensures) ∙ not-false _ (c .if1 .left)
 
-numbers : (c : tie.Else2) → orderOk (c .before .before .before .before .before .before .args .order) ≡ true
+numbers : (c : tie.Else2) → formatOk (c .before .before .before .before .before .before .args .order) ≡ true
 numbers c = sym (c .before .check-fill .ensures) ∙ not-false _ (c .if2 .left)
 
 check-length-requires : tie.Need-check-length-requires
@@ -43,18 +43,18 @@ same-length-2 c = search needs
 returns-2 : tie.Need-returns-2
 unfolding formatOutcome
 returns-2 c =
-    let no : orderOk (c .before .before .before .before .before .before .args .order) ≡ false =
+    let no : formatOk (c .before .before .before .before .before .before .args .order) ≡ false =
     sym (c .before .check-fill .ensures) ∙ not-true _ (c .if2 .taken) in
     rw (legal (c .before .before), no) (refl, refl)
 
 cast-format-blocks : tie.Need-cast-format-blocks
 cast-format-blocks c =
-    let e = c .before in
+    let e = c .before .before in
     let fill = e .before .before .before .before .before .before .args .order .fill in
     omega (arith, leb-true fill 40 (and-right (leb 1 fill) (leb fill 40) (numbers e)))
 
 format-blocks-requires : tie.Need-format-blocks-requires
-format-blocks-requires c κs = lengthOk-sized _ (legal (c .before .before .before))
+format-blocks-requires c κs = lengthOk-sized _ (legal (c .before .before .before .before))
 
 same-length-3 : tie.Need-same-length-3
 same-length-3 c = search needs
@@ -62,7 +62,7 @@ same-length-3 c = search needs
 returns-3 : tie.Need-returns-3
 unfolding formatOutcome
 returns-3 c =
-    let e = c .before .before .before .before in
+    let e = c .before .before .before .before .before in
     let a = e .before .before .before .before .before .before .args in
     rw (legal (e .before .before), numbers e)
     (refl, c .before .before .format-blocks .ensures ∙ sym (format-bytes (blocks (a .store .now)) (a .order)))

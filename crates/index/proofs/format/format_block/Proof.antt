@@ -36,7 +36,8 @@ returns c =
     let b = p .before .before .before in
     let a = b .before .before .args in
     c .before .before .before .finish .ensures
-    ∙ finished-one (a .store .now) _ (replicate 4096 0) (b .build-body .result) _ refl (search needs) (p .put-block .ensures)
+    ∙ finished-one (a .store .now) _ (replicate 4096 0) (b .build-body .result) _ refl (search needs)
+    (p .put-block .ensures)
     ∙ ap (setBlock (a .store .now) (a .k)) (sealed-body (b .build-body .result) _ (b .build-body .ensures))
 
 pub format-block-spec : {M : Type 1} → statement M

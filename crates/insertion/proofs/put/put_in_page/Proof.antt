@@ -3,7 +3,8 @@ use mathlib.Core.List.{List}
 use Prim.Native.Nat.{ℕ}
 use borrow.Author.Needs.{needs}
 use Rattle.lists.specs.Block.{block}
-use Rattle.page.specs.Entries.{entriesOf, placeOf}
+use Rattle.page.specs.Entries.{entriesOf}
+use Rattle.page.specs.Places.{placeOf}
 use Rattle.draft.specs.Draft.{Draft}
 use Rattle.view.specs.ReadsLaws.{reads-sized, reads-whole}
 use Rattle.insertion.specs.PutLaws.{room-under, room-sorted, room-ready, room-fields, room-plans}

@@ -7,7 +7,8 @@ use Rattle.endian.specs.Endian.{u16At}
 use Rattle.page.specs.declared.Pair.{Pair}
 use Rattle.page.specs.declared.Entry.{Entry}
 use Rattle.page.specs.Pair.{before}
-use Rattle.page.specs.Entries.{entryAt, entriesOf, placeOf}
+use Rattle.page.specs.Entries.{entryAt, entriesOf}
+use Rattle.page.specs.Places.{placeOf}
 use Rattle.page.specs.RuleLaws.{number-le}
 use Rattle.page.proofs.Bisect.{place-end, go-up, go-down}
 use Rattle.page.proofs.search.place_before.Statement.{statement}

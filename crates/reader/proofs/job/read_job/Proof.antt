@@ -21,7 +21,8 @@ second : (c : tie.After-bucket-flags2)
 second c =
     let p = c .before .before .before in
     let s = p .before .before in
-    old-flags (s .pre) (p .parent-of .result) (c .bucket-flags2 .result) (c .bucket-flags2 .ensures) (p .parent-of .ensures)
+    old-flags (s .pre) (p .parent-of .result) (c .bucket-flags2 .result) (c .bucket-flags2 .ensures)
+    (p .parent-of .ensures)
 
 parent-of-requires : tie.Need-parent-of-requires
 parent-of-requires c κs = search needs
@@ -48,7 +49,8 @@ returns-2 c =
     let f = g .before .before in
     let s = f .before .before .before in
     ap₂ Phase.Clearing (old (f .before)) (max-is (s .pre))
-    ∙ sym (phase-clearing (s .args .store .now) (λ e. g .before .if1 .left (new f ∙ e)) (sym (second g) ∙ c .if2 .taken))
+    ∙ sym (phase-clearing (s .args .store .now) (λ e. g .before .if1 .left (new f ∙ e))
+    (sym (second g) ∙ c .if2 .taken))
 
 returns-3 : tie.Need-returns-3
 returns-3 c =

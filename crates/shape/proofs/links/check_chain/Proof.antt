@@ -60,7 +60,8 @@ returns c =
     let n = c .before in
     let l = n .before .before .before .before in
     let s = l .before .before in
-    let turn = chain-turn (s .args .store .now) (s .args .b) _ (s .pre .1) (l .loop .i) (n .before .before .before .loop-test .taken) in
+    let turn = chain-turn (s .args .store .now) (s .args .b) _ (s .pre .1) (l .loop .i)
+    (n .before .before .before .loop-test .taken) in
     let test = sym (n .check-link .ensures) in
     sym (sym (l .loop .inv .2) ∙ failed _ _ _ turn (test ∙ not-true (n .check-link .result) (c .if1 .taken)))
 
@@ -75,7 +76,8 @@ loop-again c =
     let n = c .before in
     let l = n .before .before .before .before in
     let s = l .before .before in
-    let turn = chain-turn (s .args .store .now) (s .args .b) _ (s .pre .1) (l .loop .i) (n .before .before .before .loop-test .taken) in
+    let turn = chain-turn (s .args .store .now) (s .args .b) _ (s .pre .1) (l .loop .i)
+    (n .before .before .before .loop-test .taken) in
     let test = sym (n .check-link .ensures) in
     (omega arith, l .loop .inv .1, passed _ _ _ turn (test ∙ not-false (n .check-link .result) (c .if1 .left)) ∙ l .loop .inv .2)
 
@@ -93,7 +95,8 @@ returns-2 c =
     let l = c .before .before .before in
     let s = l .before .before in
     ap (λ (k : ℕ). eqb k noLink) (c .next-block .ensures)
-    ∙ sym (chain-end (s .args .store .now) (s .args .b) _ (s .pre .1) (l .loop .i) (omega (arith, c .before .before .loop-test .left)))
+    ∙ sym (chain-end (s .args .store .now) (s .args .b) _ (s .pre .1) (l .loop .i)
+    (omega (arith, c .before .before .loop-test .left)))
     ∙ l .loop .inv .2
 
 pub check-chain-spec : {M : Type 1} → statement M

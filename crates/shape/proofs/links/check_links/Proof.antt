@@ -48,7 +48,8 @@ add-links c =
     let w = c .before .before .before .before in
     let l = w .before .before in
     let s = l .before .before in
-    let n = trail-few (s .args .store .now) (l .loop .b) (w .walk-bucket .result) (w .walk-bucket .ensures) (sized (s .pre)) in
+    let n = trail-few (s .args .store .now) (l .loop .b) (w .walk-bucket .result) (w .walk-bucket .ensures)
+    (sized (s .pre)) in
     omega (arith, l .loop .inv .few, l .loop .inv .upto, n, max-small (s .pre))
 
 add-b : tie.Need-add-b Inv-loop μ-loop
@@ -65,8 +66,8 @@ loop-again c =
     let w = h .before .before .before in
     let l = w .before .before in
     let s = l .before .before in
-    linking-turn (s .args .store .now) (l .loop .links) (l .loop .b) (l .loop .inv) (made (w .before)) (w .walk-bucket .result)
-    (w .walk-bucket .ensures) (sized (s .pre))
+    linking-turn (s .args .store .now) (l .loop .links) (l .loop .b) (l .loop .inv) (made (w .before))
+    (w .walk-bucket .result) (w .walk-bucket .ensures) (sized (s .pre))
     (sym (h .check-chain .ensures) ∙ not-false (h .check-chain .result) (c .if1 .left))
 
 count-overflow-requires : tie.Need-count-overflow-requires Inv-loop μ-loop

@@ -41,7 +41,8 @@ returns-2 c =
     let f = e .before .check-fits in
     let s = e .before .before .before in
     let new = new-flags (s .pre) (s .args .m .max) (g .bucket-flags .result) (g .bucket-flags .ensures) refl in
-    let old = old-flags (s .pre) (p .parent-of .result) (c .bucket-flags2 .result) (c .bucket-flags2 .ensures) (p .parent-of .ensures) in
+    let old =
+    old-flags (s .pre) (p .parent-of .result) (c .bucket-flags2 .result) (c .bucket-flags2 .ensures) (p .parent-of .ensures) in
     ap₂ (λ (x y : ℕ). Bool·beq (eqb x 18) (eqb y 34)) new old
     ∙ ap (λ (b : Bool). b && Bool·beq (eqb (newFlags (s .args .store .now)) 18) (eqb (oldFlags (s .args .store .now)) 34))
     (sym (sym (f .ensures) ∙ not-false (f .result) (e .if1 .left)))

@@ -44,7 +44,8 @@ returns c =
     sym
     (l .loop .inv
     ∙ walk-here (s .pre .0) (movable (s .args .copying) (decode (s .args .store .now))) (l .loop .i)
-    (f .before .before .loop-test .taken) (f .before .page-on .ensures) (f .first-in-page .result) (f .first-in-page .ensures) _
+    (f .before .before .loop-test .taken) (f .before .page-on .ensures)
+    (f .first-in-page .result) (f .first-in-page .ensures) _
     (c .before .found .given .1))
 
 enum-told : tie.Need-enum-told Inv-loop μ-loop
@@ -63,7 +64,8 @@ loop-again c =
     let s = l .before .before in
     l .loop .inv
     ∙ walk-later (s .pre .0) (movable (s .args .copying) (decode (s .args .store .now))) (l .loop .i)
-    (f .before .before .loop-test .taken) (f .before .page-on .ensures) (f .first-in-page .result) (f .first-in-page .ensures) (c .enum-told .given .1)
+    (f .before .before .loop-test .taken) (f .before .page-on .ensures)
+    (f .first-in-page .result) (f .first-in-page .ensures) (c .enum-told .given .1)
 
 returns-2 : tie.Need-returns-2 Inv-loop μ-loop
 returns-2 c =

@@ -27,14 +27,16 @@ walk-bucket-requires-2 c κs =
     let k = c .before in
     let f = k .before .before in
     let s = f .before .before in
-    (reads-known (s .pre), both-made (s .pre) (s .args .hash) _ _ (sym (f .sources-of .ensures) ∙ k .sources2 .given .1) .0)
+    let q = sym (f .sources-of .ensures) ∙ k .sources2 .given .1 in
+    (reads-known (s .pre), both-made (s .pre) (s .args .hash) _ _ q .0)
 
 walk-bucket-requires-3 : tie.Need-walk-bucket-requires-3
 walk-bucket-requires-3 c κs =
     let k = c .before .before in
     let f = k .before .before in
     let s = f .before .before in
-    (reads-known (s .pre), both-made (s .pre) (s .args .hash) _ _ (sym (f .sources-of .ensures) ∙ k .sources2 .given .1) .1)
+    let q = sym (f .sources-of .ensures) ∙ k .sources2 .given .1 in
+    (reads-known (s .pre), both-made (s .pre) (s .args .hash) _ _ q .1)
 
 returns : tie.Need-returns
 returns c =
