@@ -9,7 +9,8 @@ use native.Mathlib.Decide.{decLe, decLt}
 use lib.Dec.{ltb, T, ltb→lt, nltb→le}
 use lib.ListN.{getD}
 use Rattle.address.specs.Address.{bucketsAt, point, bucketPoint, bucketBlock, bitPoint, bitBlock, made}
-use Rattle.address.specs.OverLaws.{Over, over-is, over-unique, buckets-grow, buckets-mono, buckets-zero, buckets-one}
+use Rattle.address.specs.OverLaws.{Over, over-is, over-unique, buckets-grow, buckets-mono, buckets-zero}
+use Rattle.address.specs.OverLaws.{buckets-one}
 use Rattle.address.specs.Role.{SparesOk}
 
 pub bucketPoint-is : (b : ℕ) → Over bucketsAt 0 b (bucketPoint b)

@@ -1,4 +1,5 @@
--- The limits of a store, by name. The code's are in src/limits.rt; LimitLaws computes what follows from the numbers.
+-- The limits of a store (docs/RULES.md 2.1: "N outside 4..128"), by name. The code's largest N is in src/limits.rt;
+-- LimitLaws computes what follows from the numbers.
 use Prim.Native.Nat.{ℕ}
 
 -- the largest N of a store

@@ -30,7 +30,7 @@ roleFrom false (some b) bit = bucketPage b
 roleFrom false none (some n) = bitPage n
 roleFrom false none none = unmade
 
--- block k's role, among the buckets of the points that are laid out and the overflow bits that are made
+-- block k's role, among the buckets in all at point s and the overflow bits that are made
 unfoldable pub roleOf : List ℕ → (s k : ℕ) → Role
 roleOf sp s k =
     roleFrom (eqb k 0)

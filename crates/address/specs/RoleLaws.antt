@@ -16,7 +16,8 @@ use Rattle.lists.specs.RunLaws.{find-run, find-only, find-nowhere}
 use Rattle.address.specs.Address.{bucketsAt, bucketPoint, bucketBlock, bitPoint, bitBlock, made}
 use Rattle.address.specs.Role.{SparesOk, Role, meta, bucketPage, bitPage, unmade, roleFrom, roleOf, RoleIs}
 use Rattle.address.specs.OverLaws.{over-unique, buckets-grow, buckets-mono, buckets-zero}
-use Rattle.address.specs.BlockLaws.{spares-mono, BitAt, bit-at, bucketPoint-is, bit-pos, bucket-pos, bit-apart, bit-bucket-apart, bucket-apart, bit-made, bucket-made}
+use Rattle.address.specs.BlockLaws.{spares-mono, BitAt, bit-at, bucketPoint-is, bit-pos, bucket-pos, bit-apart}
+use Rattle.address.specs.BlockLaws.{bit-bucket-apart, bucket-apart, bit-made, bucket-made}
 
 module _ (sp : List ℕ) (s n : ℕ) (ok : SparesOk sp s n) (pos : 1 ≤ s) where
   pub data Made (k : ℕ) : Type 0 where

@@ -18,7 +18,8 @@ use Rattle.model.specs.declared.StandingAnswer.{StandingAnswer}
 use Rattle.model.specs.Answers.{refusalNo, refusalGives, answerNo, answerGives, lookupNo, lookupGives, stopNo}
 use Rattle.model.specs.Answers.{workNo, workGives, workSteps, workStop, standingNo, standingGives}
 use Rattle.outcomes.specs.Outcomes.{standingOutcome, workOutcome}
-use Rattle.amiqsovik.specs.Words.{packed, refusalWord, answerWord, lookupWord, workWord, standingWord, resultShort}
+use Rattle.amiqsovik.specs.Words.{packed, refusalWord, answerWord, lookupWord, workWord, standingWord}
+use Rattle.amiqsovik.specs.Words.{resultShort}
 use Rattle.amiqsovik.specs.Result.{standingTold}
 use Rattle.amiqsovik.specs.StepsLaws.{work-steps}
 

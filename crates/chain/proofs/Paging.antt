@@ -26,7 +26,7 @@ use Rattle.page.specs.EntriesLaws.{length-entriesOf, getD-entriesOf}
 use Rattle.page.specs.PlaceLaws.{place-take, place-above}
 use Rattle.page.specs.Rule.{orderOk}
 use Rattle.page.specs.Allowed.{Sorted}
-use Rattle.model.specs.TallyLaws.{and-false}
+use Rattle.lists.specs.ListsLaws.{and-false}
 use Rattle.chain.specs.declared.Next.{Next}
 use Rattle.chain.specs.Within.{entriesOn, Within, PageOn}
 use Rattle.chain.specs.WithinLaws.{rest-turn, rest-done}

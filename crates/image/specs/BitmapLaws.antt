@@ -22,7 +22,8 @@ use lib.Pow.{shr-shr, shr-lt}
 use Rattle.lists.specs.Lists.{upFrom}
 use Rattle.lists.specs.RunLaws.{length-run, getD-run}
 use Rattle.lists.specs.Bytes.{Bytes, part, allZero}
-use Rattle.lists.specs.BytesLaws.{Bytes-append, length-part, part-at, part-part, allZero-replicate, replicate-allZero, Bytes-replicate}
+use Rattle.lists.specs.BytesLaws.{Bytes-append, length-part, part-at, part-part, allZero-replicate, replicate-allZero}
+use Rattle.lists.specs.BytesLaws.{Bytes-replicate}
 use Rattle.image.specs.Layout.{fromBits, mapFront}
 use Rattle.image.specs.Decode.{bitOf}
 use Rattle.lists.specs.TestLaws.{map-run}

@@ -31,8 +31,8 @@ blank = replicate 508 0
 
 -- ---- meta
 
--- "magic 0x06440640 at 0, edition 512 at 4, count of held pairs at 8, fill (u16) at 12, max bucket at 16, high mask 20, low mask 24,
--- overflow point 28, first free 32, N at 36, spares[0..15] from 40. All else zero"
+-- "magic 0x06440640 at 0, edition 512 at 4, count of held pairs at 8, fill (u16) at 12, max bucket at 16, high mask
+-- 20, low mask 24, overflow point 28, first free 32, N at 36, spares[0..15] from 40. All else zero"
 unfoldable pub metaFront : Meta → List ℕ
 metaFront m =
     le32 0x06440640 ++ (le32 512 ++ (le32 (m .count) ++ (le16 (m .fill) ++ (le16 0 ++ (le32 (m .max) ++ (le32 (m .high)

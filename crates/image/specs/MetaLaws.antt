@@ -11,7 +11,8 @@ use borrow.Author.Tests.{eqb-true, eq-eqb}
 use Rattle.lists.specs.Lists.{bind, Each}
 use Rattle.lists.specs.ListsLaws.{and-left, and-right, and-both}
 use Rattle.lists.specs.Bytes.{Bytes, part, allZero}
-use Rattle.lists.specs.BytesLaws.{Bytes-append, part-at, part-part, length-part, allZero-replicate, replicate-allZero, Bytes-replicate}
+use Rattle.lists.specs.BytesLaws.{Bytes-append, part-at, part-part, length-part, allZero-replicate, replicate-allZero}
+use Rattle.lists.specs.BytesLaws.{Bytes-replicate}
 use Rattle.endian.specs.Endian.{le16, le32, u16At, u32At}
 use Rattle.endian.specs.EndianLaws.{
   length-le32,

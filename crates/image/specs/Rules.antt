@@ -24,7 +24,8 @@ use Rattle.model.specs.Held.{count}
 use Rattle.model.specs.Calls.{sizeOk, fillOk}
 use Rattle.image.specs.declared.Meta.{Meta}
 use Rattle.store.specs.Flags.{noLink}
-use Rattle.image.specs.Decode.{bitOf, metaAt, maxAt, pointAt, sparesAt, roleAt, blockOf, trail, newFlags, oldFlags, decode}
+use Rattle.image.specs.Decode.{bitOf, metaAt, maxAt, pointAt, sparesAt, roleAt, blockOf, trail, newFlags}
+use Rattle.image.specs.Decode.{oldFlags, decode}
 
 -- "store not a multiple of 512 bytes, or N outside 4..128"
 unfoldable pub lengthOk : List ℕ → Bool
@@ -42,14 +43,16 @@ frontOk n l =
 unfoldable pub sparesOk : (s : ℕ) → List ℕ → Bool
 sparesOk s sp =
     eqb (getD sp 0 0) 0
-    && (leb 1 (getD sp 1 0) && (all (λ i. leb (getD sp i 0) (getD sp (suc i) 0)) (upFrom 1 (s - 1)) && allZero (drop (suc s) sp)))
+    && (leb 1 (getD sp 1 0)
+    && (all (λ i. leb (getD sp i 0) (getD sp (suc i) 0)) (upFrom 1 (s - 1)) && allZero (drop (suc s) sp)))
 
 -- (2) "fill, max bucket at least 1, masks, s, .. made blocks at most N"
 unfoldable pub metaOk : (size : ℕ) → Meta → Bool
 metaOk n m =
     fillOk (m .fill)
     && (leb 1 (m .max) && (eqb (m .high) (highMask (m .max)) && (eqb (m .low) (lowMask (m .max))
-    && (eqb (m .point) (point (m .max)) && (sparesOk (point (m .max)) (m .spares) && leb (made (m .spares) (point (m .max))) n)))))
+    && (eqb (m .point) (point (m .max))
+    && (sparesOk (point (m .max)) (m .spares) && leb (made (m .spares) (point (m .max))) n)))))
 
 -- ---- rule 3, of one block against its role
 
@@ -60,7 +63,8 @@ unused l = allZero (part 0 508 l)
 -- "meta and bitmap have no links", nor a bucket
 abbrev pub unlinked : (flags : ℕ) → List ℕ → Bool
 unlinked flags l =
-    eqb (flagsAt l) flags && (eqb (idAt l) pageId && (eqb (prevAt l) noLink && (eqb (nextAt l) noLink && eqb (bucketAt l) noLink)))
+    eqb (flagsAt l) flags
+    && (eqb (idAt l) pageId && (eqb (prevAt l) noLink && (eqb (nextAt l) noLink && eqb (bucketAt l) noLink)))
 
 -- "job flags stand only on max bucket (populated) and the bucket that it split off from (split ..
 -- or cleanup alone)"
@@ -69,14 +73,15 @@ bucketFlagsOk max b f =
     eqb f bucketFlags
     || ((eqb b max && eqb f populatedFlags) || (eqb b (splitFrom max) && (eqb f splitFlags || eqb f cleanupFlags)))
 
--- "each block's flags, id and bucket fit its role .. any made overflow block but the bitmap is an overflow page (flags 1) or unused
--- (flags 0), as its flags say, with a bucket at most max bucket"
+-- "each block's flags, id and bucket fit its role .. any made overflow block but the bitmap is an overflow page
+-- (flags 1) or unused (flags 0), as its flags say, with a bucket at most max bucket"
 unfoldable pub fits : (max : ℕ) → Role → List ℕ → Bool
 fits max meta l = unlinked metaFlags l
 fits max (bucketPage b) l =
     cond (leb b max) (bucketFlagsOk max b (flagsAt l) && (eqb (idAt l) pageId && eqb (bucketAt l) b)) (unused l)
 fits max (bitPage zero) l = unlinked bitmapFlags l
-fits max (bitPage (suc n)) l = cond (eqb (flagsAt l) overflowFlags) (eqb (idAt l) pageId && leb (bucketAt l) max) (unused l)
+fits max (bitPage (suc n)) l =
+    cond (eqb (flagsAt l) overflowFlags) (eqb (idAt l) pageId && leb (bucketAt l) max) (unused l)
 fits max unmade l = unused l
 
 -- a made overflow block, but for the bitmap, with the flags of an overflow page
@@ -94,7 +99,8 @@ abbrev pub distinct : List Entry → Bool
 distinct [] = true
 distinct (e ∷ es) = not (any (is (e .pair)) es) && distinct es
 
--- "each entry stands in its bucket, but the old bucket of a job may hold entries of the new one": of chain b, that maps to h
+-- "each entry stands in its bucket, but the old bucket of a job may hold entries of the new one": of chain b, that
+-- maps to h
 abbrev pub placed : Job → (new old h b : ℕ) → Bool
 placed idle new old h b = eqb h b
 placed copying new old h b = eqb h b || (eqb b old && eqb h new)

@@ -23,7 +23,8 @@ use Rattle.model.specs.Pages.{bitsOf, firstFree, isFree}
 use Rattle.model.specs.WellFormed.{uses}
 use Rattle.model.specs.TallyLaws.{b2n-le}
 use Rattle.image.specs.Layout.{mapBit, mapFront}
-use Rattle.image.specs.Decode.{bitFrom, metaAt, maxAt, pointAt, sparesAt, roleAt, blockOf, trail, readPage, readChain, decode}
+use Rattle.image.specs.Decode.{bitFrom, metaAt, maxAt, pointAt, sparesAt, roleAt, blockOf, trail, readPage}
+use Rattle.image.specs.Decode.{readChain, decode}
 use Rattle.image.specs.Rules.{buckets, isOverflow, linked, rule4, mapAt, bitAt, topAt, freeAt, bitOk, rule6}
 use Rattle.image.specs.BitmapLaws.{mapFront-bitOf}
 use Rattle.image.specs.FreeLaws.{free-same, first-zero}

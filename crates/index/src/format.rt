@@ -1,6 +1,7 @@
 // Format: a store made new, with no entries.
 use endian::raw::copy_over;
 use image::Meta;
+use meta::check_fill;
 use meta::put_meta;
 use model::Answer;
 use model::Order;
@@ -22,19 +23,11 @@ ghost use Rattle.lists.specs.Lists.{bind, upFrom};
 ghost use Rattle.lists.specs.Block.{blocks, setBlock};
 ghost use Rattle.store.specs.Flags.{bucketFlags, bitmapFlags, metaFlags};
 ghost use Rattle.store.specs.Store.{covered, sealed};
-ghost use Rattle.model.specs.Calls.{fillOk};
 ghost use Rattle.image.specs.Layout.{paged};
 ghost use Rattle.store.specs.Flags.{noLink};
 ghost use Rattle.outcomes.specs.Format.{formatMeta, formatBlock};
 ghost use Rattle.outcomes.specs.Outcomes.{formatOutcome};
 ghost use Rattle.chain.specs.Walk.{Sized};
-
-// Refusal 2.
-fn check_fill(fill: u32) -> bool
-    ensures { λ r. ⌜ r ≡ fillOk fill ⌝ }
-{
-    1 <= fill && fill <= 40
-}
 
 // The blocks of a new store, without their checks.
 

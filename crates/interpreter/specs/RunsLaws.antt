@@ -4,11 +4,13 @@ use mathlib.Core.Bool.{Bool, true, false, _&&_}
 use mathlib.Core.List.{List, _++_}
 use Prim.Native.Nat.{ℕ, _+_, _*_, _/_, _%_, _≤_, _<_}
 use native.Mathlib.Omega.{arith}
-use borrow.Author.Tests.{leb-true, le-leb, lt-leb}
+use borrow.Author.Tests.{leb-true, leb-false, le-leb, lt-leb}
 use lib.Dec.{eqb, leb}
 use lib.ListN.{length, take, drop, replicate, length-replicate, take-append-drop}
 use lib.Seq.{length-take-le}
+use Rattle.lists.specs.ListsLaws.{and-false}
 use Rattle.lists.specs.Block.{blocks}
+use Rattle.address.specs.Limits.{maxBlocks}
 use Rattle.page.specs.declared.Pair.{Pair}
 use Rattle.line.specs.declared.Command.{Command}
 use Rattle.text.specs.Text.{storeText, refusedText}
@@ -136,3 +138,31 @@ pub format-large : (line n fill : ℕ) (old : List ℕ) → scriptBlocks < n
     → record { text = refusedText line 1; store = old } ≡ runCommand (Command.Format n fill) line old
 unfolding runCommand
 format-large line n fill old h = ap (λ (b : Bool). formatLine b n fill line old) (sym (lt-leb n scriptBlocks h))
+
+-- With the largest N that the index has today the script's own test answers what format would.
+unfit : (n : ℕ) → scriptBlocks < n → lengthOk (replicate (512 * n) 0) ≡ false
+unfolding lengthOk blocks
+unfit n h =
+    let size : length (replicate {A = ℕ} (512 * n) 0) ≡ 512 * n = length-replicate (512 * n) 0 in
+    let count : length (replicate {A = ℕ} (512 * n) 0) / 512 ≡ n = omega arith in
+    rw (count, lt-leb n maxBlocks h, and-false (leb 4 n))
+    (and-false (eqb (length (replicate {A = ℕ} (512 * n) 0) % 512) 0))
+
+pub line-is-format : (line n fill : ℕ) (old : List ℕ)
+    → let c = formatOutcome (replicate (512 * n) 0) (orderOf fill) in
+    runCommand (Command.Format n fill) line old ≡ formatTurn line n fill (c .answer) old (c .store)
+unfolding runCommand formatOutcome
+line-is-format line n fill old = go (leb n scriptBlocks) refl
+  where
+    z : List ℕ
+    z = replicate (512 * n) 0
+
+    outcome : Bool → Changed
+    outcome l = formatOn l (formatOk (orderOf fill)) z (encode (format (blocks z) (orderOf fill)))
+
+    turn : Bool → Turn
+    turn l = formatTurn line n fill (outcome l .answer) old (outcome l .store)
+
+    go : (t : Bool) → leb n scriptBlocks ≡ t → formatLine t n fill line old ≡ turn (lengthOk z)
+    go true e = refl
+    go false e = ap turn (sym (unfit n (leb-false n scriptBlocks e)))

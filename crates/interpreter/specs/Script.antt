@@ -14,7 +14,7 @@ use Rattle.model.specs.declared.WorkAnswer.{WorkAnswer}
 use Rattle.model.specs.Answers.{refusalNo, stopNo}
 use Rattle.outcomes.specs.Outcomes.{formatOutcome, insertOutcome, removeOutcome, lookupOutcome, workOutcome}
 
--- ---- answers as text. "Each refusal is shown as in line 4 below."
+-- ---- answers as text. "Each refusal is shown as in line 4 below"
 
 abbrev pub answerText : (line : ℕ) → Answer → List ℕ
 answerText line Answer.Done = okText

@@ -1,6 +1,6 @@
 // The call of a line, on the first `blocks` blocks of a lent store.
+use crate::LineEnd;
 use crate::SCRIPT_BLOCKS;
-use crate::Turn;
 use crate::answers::put_answer;
 use crate::answers::put_looked;
 use crate::answers::put_worked;
@@ -29,7 +29,7 @@ fn run_format(
     standing: u32,
     store: &mut [u8],
     output: &mut [u8],
-) -> Turn
+) -> LineEnd
     requires { ⌜ Room standing (now store) (now output) ⌝ }
     ensures { λ r. ⌜ Runs (runCommand (command.Format blocks fill) line (take (512 * standing) (now (store .entry))))
         (now (store .entry)) (now (store .exit)) (r .blocks)
@@ -37,7 +37,7 @@ fn run_format(
 {
     if blocks > SCRIPT_BLOCKS {
         let written = put_refused(output, line, 1);
-        return Turn {
+        return LineEnd {
             blocks: standing,
             written,
         };
@@ -47,11 +47,11 @@ fn run_format(
     match answer {
         Answer::Done => {
             let written = put_store(output, blocks, fill);
-            Turn { blocks, written }
+            LineEnd { blocks, written }
         }
         Answer::Refused(refusal) => {
             let written = put_refused(output, line, refusal_number(refusal));
-            Turn {
+            LineEnd {
                 blocks: standing,
                 written,
             }
@@ -124,7 +124,7 @@ pub fn run_command(
     blocks: u32,
     store: &mut [u8],
     output: &mut [u8],
-) -> Turn
+) -> LineEnd
     requires { ⌜ Room blocks (now store) (now output) ⌝ }
     ensures { λ r. ⌜ Runs (runCommand command line (take (512 * blocks) (now (store .entry))))
         (now (store .entry)) (now (store .exit)) (r .blocks)
@@ -138,7 +138,7 @@ pub fn run_command(
             offset,
         } => {
             let written = run_insert(hash, block, offset, line, blocks, store, output);
-            Turn { blocks, written }
+            LineEnd { blocks, written }
         }
         Command::Remove {
             hash,
@@ -146,19 +146,19 @@ pub fn run_command(
             offset,
         } => {
             let written = run_remove(hash, block, offset, line, blocks, store, output);
-            Turn { blocks, written }
+            LineEnd { blocks, written }
         }
         Command::Lookup { hash } => {
             let written = run_lookup(hash, line, blocks, store, output);
-            Turn { blocks, written }
+            LineEnd { blocks, written }
         }
         Command::Work { budget } => {
             let written = run_work(budget, line, blocks, store, output);
-            Turn { blocks, written }
+            LineEnd { blocks, written }
         }
         Command::Unreadable => {
             let written = put_refused(output, line, 10);
-            Turn { blocks, written }
+            LineEnd { blocks, written }
         }
     }
 }

@@ -31,7 +31,7 @@ pub struct Fed {
 }
 
 // N of the store that stands after a line, and how many bytes the line wrote.
-struct Turn {
+struct LineEnd {
     blocks: u32,
     written: usize,
 }

@@ -7,8 +7,10 @@ use Prim.Native.Nat.{ℕ, zero, suc, _+_, _-_, _≤_, _<_}
 use native.Mathlib.Nat.{not-suc-le-zero, le-of-suc-le-suc, add-zero, add-suc, suc-add}
 use native.Mathlib.Omega.{arith}
 use lib.Dec.{eqb, eqb→eq}
-use lib.ListN.{length, getD, take, drop, set, replicate, length-set, length-take, length-drop, length-append, take-append-drop}
-use lib.Seq.{sets, length-sets, sets-eq, getD-set-same, getD-set-other, getD-take, getD-drop, drop-drop, take-at, drop-at, length-take-le, take-add}
+use lib.ListN.{length, getD, take, drop, set, replicate, length-set, length-take, length-drop, length-append}
+use lib.ListN.{take-append-drop}
+use lib.Seq.{sets, length-sets, sets-eq, getD-set-same, getD-set-other, getD-take, getD-drop, drop-drop, take-at}
+use lib.Seq.{drop-at, length-take-le, take-add}
 use Rattle.lists.specs.Lists.{all}
 use Rattle.lists.specs.ListsLaws.{and-left, and-right, eqb-eq}
 use Rattle.lists.specs.Bytes.{Bytes, part, allZero}

@@ -1,15 +1,11 @@
--- Tests that go on as a loop goes: a test that fails decides, and each turn takes one number off a run.
-use mathlib.Core.Path.{_≡_, refl, sym, ap, _∙_}
+-- Tests that go on as a loop goes: each turn takes one number off a run.
+use mathlib.Core.Path.{_≡_, sym, ap, _∙_}
 use mathlib.Core.Bool.{Bool, true, false, _&&_}
 use mathlib.Core.List.{List, _∷_}
 use Prim.Native.Nat.{ℕ, suc, _+_, _-_, _≤_, _<_}
 use native.Mathlib.Numerals.{add-one}
 use native.Mathlib.Omega.{arith}
 use Rattle.lists.specs.Lists.{all, upFrom}
-
-pub and-false : (a : Bool) → a && false ≡ false
-and-false true = refl
-and-false false = refl
 
 -- the numbers from i up to n
 pub run-turn : (i n : ℕ) → i < n → upFrom i (n - i) ≡ i ∷ upFrom (i + 1) (n - (i + 1))

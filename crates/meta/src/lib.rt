@@ -159,7 +159,8 @@ pub fn check_spares(spares: [u32; 16], s: u32) -> bool
     check_above(spares, s)
 }
 
-fn check_fill(fill: u16) -> bool
+// Whether a format's or a meta block's fill is good.
+pub fn check_fill(fill: u32) -> bool
     ensures { λ r. ⌜ r ≡ fillOk fill ⌝ }
 {
     1 <= fill && fill <= 40
@@ -169,7 +170,7 @@ fn check_fill(fill: u16) -> bool
 pub fn check_meta(m: Meta, size: u32) -> bool
     ensures { λ r. ⌜ r ≡ metaOk size m ⌝ }
 {
-    if !check_fill(m.fill) {
+    if !check_fill(m.fill as u32) {
         return false;
     }
     if m.max < 1 {

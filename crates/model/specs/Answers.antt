@@ -2,7 +2,8 @@
 use Prim.Native.Nat.{ℕ}
 use lib.IntN.{ℤ, pos}
 use Rattle.model.specs.declared.Refusal.{Refusal}
-use Rattle.model.specs.declared.Refusal.the-variants.{Length, Number, Damaged, NotIndex, HeldAlready, NotHeld, NoRoom, OutputShort}
+use Rattle.model.specs.declared.Refusal.the-variants.{Length, Number, Damaged, NotIndex, HeldAlready, NotHeld}
+use Rattle.model.specs.declared.Refusal.the-variants.{NoRoom, OutputShort}
 use Rattle.model.specs.declared.Answer.{Answer}
 use Rattle.model.specs.declared.LookupAnswer.{LookupAnswer}
 use Rattle.model.specs.declared.Stop.{Stop}

@@ -14,7 +14,8 @@ use Rattle.page.specs.declared.Pair.{Pair}
 use Rattle.page.specs.Pair.{same, is, ascending, pairOf}
 use Rattle.page.specs.SublistLaws.{sublist-keep}
 use Rattle.page.specs.AscendingLaws.{ascending-sublist}
-use Rattle.model.specs.Index.{idle, copying, Index, entriesIn, noChain, entriesAt, bucket, newBucket, oldBucket, topBit}
+use Rattle.model.specs.Index.{idle, copying, Index, entriesIn, noChain, entriesAt, bucket, newBucket, oldBucket}
+use Rattle.model.specs.Index.{topBit}
 use Rattle.model.specs.Held.{self, held}
 use Rattle.model.specs.Steps.{next, widen, moves, step}
 use Rattle.model.specs.Book.{movers}
@@ -23,7 +24,8 @@ use Rattle.model.specs.HeldIn.{heldIn}
 use Rattle.model.specs.PlacedLaws.{held-new}
 use Rattle.model.specs.HeldLaws.{is-parts, heldIn-held}
 use Rattle.model.specs.LaidLaws.{chain-wider}
-use Rattle.model.specs.ViewLaws.{Beginning, samePoint, newPoint, Stepping, began, copied, copiedAll, cleared, clearedAll, step-view}
+use Rattle.model.specs.ViewLaws.{Beginning, samePoint, newPoint, Stepping, began, copied, copiedAll, cleared}
+use Rattle.model.specs.ViewLaws.{clearedAll, step-view}
 use Rattle.model.specs.StepLaws.{widen-becomes}
 use Rattle.model.specs.SortedLaws.{tally-keep-pair, any-keep-pair, length-is}
 use Rattle.model.specs.StepsLeft.{oldEntries, stepsLeft}

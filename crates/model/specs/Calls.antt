@@ -114,7 +114,8 @@ pub record Looked : Type 0 where
 
 -- "ascending; later output bytes stay"; 8 where "output length / 6, rounded down, is below the number of matches"
 abbrev pub listed : (room : Bool) → List Pair → List ℕ → Looked
-listed true ps out = record { answer = LookupAnswer.Found (length ps); output = bind ps placeBytes ++ drop (6 * length ps) out }
+listed true ps out =
+    record { answer = LookupAnswer.Found (length ps); output = bind ps placeBytes ++ drop (6 * length ps) out }
 listed false ps out = record { answer = LookupAnswer.Refused (Refusal.OutputShort (length ps)); output = out }
 
 unfoldable pub lookup : Index → (hash : ℕ) → (output : List ℕ) → Looked

@@ -13,7 +13,8 @@ use Rattle.page.specs.declared.Entry.{Entry}
 use Rattle.page.specs.Pair.{is, pairOf}
 use Rattle.page.specs.AscendingLaws.{tally-enter}
 use Rattle.model.specs.Index.{Page, Chain, onPages, entriesIn}
-use Rattle.model.specs.Pages.{hasRoom, pageRoom, chainRoom, enterEntry, addMore, addEntry, addPage, bitsOf, thin, inUse, without}
+use Rattle.model.specs.Pages.{hasRoom, pageRoom, chainRoom, enterEntry, addMore, addEntry, addPage, bitsOf, thin}
+use Rattle.model.specs.Pages.{inUse, without}
 
 abbrev bitOf : Page → ℕ
 bitOf g = g .bit

@@ -15,7 +15,8 @@ use Rattle.page.specs.Pair.{is, pairOf}
 use Rattle.page.specs.SublistLaws.{sublist-keep, each-sublist, length-sublist}
 use Rattle.page.specs.AscendingLaws.{length-enter, each-enter, ascending-sublist, ascending-enter}
 use Rattle.model.specs.Index.{Page, Chain, onPages, entriesIn, noChain}
-use Rattle.model.specs.Pages.{hasRoom, pageRoom, enterEntry, addMore, addEntry, addPage, thinEntries, thin, inUse, without}
+use Rattle.model.specs.Pages.{hasRoom, pageRoom, enterEntry, addMore, addEntry, addPage, thinEntries, thin}
+use Rattle.model.specs.Pages.{inUse, without}
 use Rattle.model.specs.WellFormed.{EntryOk, PageOk, MoreOk, ChainOk}
 
 pub noChain-ok : ChainOk noChain

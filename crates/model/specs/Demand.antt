@@ -93,7 +93,8 @@ module _ (M : Machine) where
         }))
     pub job : JobIs (1 + t .begins) (phaseAt M (t .state))
     pub inserts : (p : Pair) → CallFits (inserting p) → pairOk p ≡ true
-        → (M .run (inserting p) (t .state) .reply ≡ plain (Answer.Refused Refusal.HeldAlready)) ↔ (has (t .book) p ≡ true)
+        → (M .run (inserting p) (t .state) .reply ≡ plain (Answer.Refused Refusal.HeldAlready))
+        ↔ (has (t .book) p ≡ true)
     -- an insert of another pair is done or finds no room
     pub inserted : (p : Pair) → CallFits (inserting p) → pairOk p ≡ true → has (t .book) p ≡ false
         → (M .run (inserting p) (t .state) .reply ≡ plain Answer.Done)

@@ -29,7 +29,8 @@ use Rattle.model.specs.Demand.{LookupsIs, JobIs}
 use Rattle.model.specs.Room.{NoPage}
 use Rattle.model.specs.RoomLaws.{insert-noRoom}
 use Rattle.model.specs.FrameLaws.{step-idle}
-use Rattle.model.specs.ViewLaws.{Inserting, already, noRoom, inserted, insert-view, Removing, absent, removed, remove-view}
+use Rattle.model.specs.ViewLaws.{Inserting, already, noRoom, inserted, insert-view, Removing, absent, removed}
+use Rattle.model.specs.ViewLaws.{remove-view}
 
 -- ---- 5 and 6
 

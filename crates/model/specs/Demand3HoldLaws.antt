@@ -17,7 +17,8 @@ use Rattle.model.specs.RoomLaws.{step-noRoom}
 use Rattle.model.specs.MatchesLaws.{matches-is}
 use Rattle.model.specs.CountLaws.{count-is}
 use Rattle.model.specs.StepsLeftLaws.{stepsLeft-at, stepsLeft-idle}
-use Rattle.model.specs.Demand3AnswerLaws.{heldAlready-is, notHeld-is, inserted-is, removed-is, noRoom-is, lookup-is}
+use Rattle.model.specs.Demand3AnswerLaws.{heldAlready-is, notHeld-is, inserted-is, removed-is, noRoom-is}
+use Rattle.model.specs.Demand3AnswerLaws.{lookup-is}
 use Rattle.model.specs.Demand3AnswerLaws.{standing-is, job-is, phase-none, rests-is, busy}
 use Rattle.model.specs.Demand3InvLaws.{Track, Inv}
 

@@ -1,4 +1,5 @@
--- A list of calls as the book is fed it (docs/RULES.md 7.1): "each call's arguments and whether the call was accepted (gave 0)".
+-- A list of calls as the book is fed it (docs/RULES.md 7.1): "each call's arguments and whether the call was
+-- accepted (gave 0)".
 use mathlib.Core.Bool.{Bool, true, false, cond}
 use mathlib.Core.List.{List, [], _∷_}
 use mathlib.Core.Option.{Option, none, some}

@@ -14,7 +14,9 @@ use Rattle.model.specs.Pages.{cut}
 use Rattle.model.specs.Held.{wanted}
 use Rattle.model.specs.Steps.{Step, next, stopped, step}
 use Rattle.model.specs.Calls.{done, insert, cutHeld, remove}
-use Rattle.model.specs.ViewLaws.{Putting, put-as, Inserting, inserted, insert-view, Removing, removed, remove-view, Stepping, resting, unbegun, began, uncopied, copied, copiedAll, cleared, clearedAll, step-view}
+use Rattle.model.specs.ViewLaws.{Putting, put-as, Inserting, inserted, insert-view, Removing, removed}
+use Rattle.model.specs.ViewLaws.{remove-view, Stepping, resting, unbegun, began, uncopied, copied, copiedAll}
+use Rattle.model.specs.ViewLaws.{cleared, clearedAll, step-view}
 use Rattle.model.specs.BeginLaws.{begin-widens}
 
 -- y differs from x in its spares, its chains and perhaps its job

@@ -12,8 +12,8 @@ use Rattle.page.specs.declared.Entry.{Entry}
 use Rattle.page.specs.Pair.{is, enter}
 use Rattle.model.specs.Index.{Job, idle, copying, clearing, Index, entriesAt, bucket, newBucket, oldBucket}
 
--- "a pair is held if it stands in its bucket's chain; if that bucket is being populated, only unmoved entries there count, together
--- with the old bucket's chain": the entries among which a pair of bucket b is held
+-- "a pair is held if it stands in its bucket's chain; if that bucket is being populated, only unmoved entries there
+-- count, together with the old bucket's chain": the entries among which a pair of bucket b is held
 abbrev pub sourcesIn : Job → Index → ℕ → (populated : Bool) → List Entry
 sourcesIn idle x b new = entriesAt x b
 sourcesIn clearing x b new = entriesAt x b

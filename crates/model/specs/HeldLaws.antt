@@ -9,7 +9,8 @@ use native.Mathlib.Omega.{arith}
 use lib.Dec.{eqb}
 use lib.ListN.{length}
 use Rattle.lists.specs.Lists.{b2n, any, tally, keep, find}
-use Rattle.lists.specs.ListsLaws.{eqb-yes, eqb-eq, tally-append, tally-keep, tally-cong, tally-le, any-no, any-yes, zero-any, find-no, find-yes}
+use Rattle.lists.specs.ListsLaws.{eqb-yes, eqb-eq, tally-append, tally-keep, tally-cong, tally-le, any-no, any-yes}
+use Rattle.lists.specs.ListsLaws.{zero-any, find-no, find-yes}
 use Rattle.address.specs.MaskLaws.{split-lt}
 use Rattle.address.specs.BucketLaws.{bucket-le}
 use Rattle.page.specs.declared.Pair.{Pair}

@@ -21,7 +21,8 @@ use Rattle.page.specs.declared.Pair.{Pair}
 use Rattle.page.specs.declared.Entry.{Entry}
 use Rattle.page.specs.Pair.{is}
 use Rattle.model.specs.Index.{Chain, Job, Index, noChain, chain, entriesAt, topBit, setChain, setJob}
-use Rattle.model.specs.Pages.{addEntry, addPage, bitsOf, bitsUsed, isFree, freeBit, Taken, takeFrom, takePage, without, cut}
+use Rattle.model.specs.Pages.{addEntry, addPage, bitsOf, bitsUsed, isFree, freeBit, Taken, takeFrom, takePage}
+use Rattle.model.specs.Pages.{without, cut}
 use Rattle.model.specs.Steps.{widen}
 use Rattle.model.specs.WellFormed.{EntryOk, ChainOk, uses, Laid}
 use Rattle.model.specs.ChainLaws.{bits-add, bits-page, bits-without}

@@ -13,7 +13,8 @@ use Rattle.model.specs.Answers.{answerNo, lookupNo, workNo, standingNo}
 use Rattle.model.specs.Index.{Index}
 use Rattle.model.specs.Held.{count}
 use Rattle.model.specs.Steps.{Step, Worked, step}
-use Rattle.model.specs.Calls.{Result, done, refused, budgetOk, formatted, insert, remove, Looked, lookup, standing, work}
+use Rattle.model.specs.Calls.{Result, done, refused, budgetOk, formatted, insert, remove, Looked, lookup}
+use Rattle.model.specs.Calls.{standing, work}
 
 -- A call with its numbers; a lookup lends an output.
 pub data Call : Type 0 where

@@ -101,7 +101,7 @@ thin p g = record { bit = g .bit; entries = thinEntries p (g .entries) }
 abbrev pub inUse : Page → Bool
 inUse g = ltb 0 (length (g .entries))
 
--- the chain without the pair; "an overflow page left empty is unlinked, made unused and its bit set to 0"
+-- the chain without the pair; "An overflow page left empty is unlinked, made unused and its bit set to 0"
 abbrev pub without : Pair → Chain → Chain
 without p c = record { first = thinEntries p (c .first); more = keep inUse (map (thin p) (c .more)) }
 

@@ -11,7 +11,8 @@ use Rattle.lists.specs.ListsLaws.{eqb-yes, eqb-eq}
 use Rattle.page.specs.declared.Pair.{Pair}
 use Rattle.page.specs.Pair.{same}
 use Rattle.page.specs.PairLaws.{no-way, same-eq}
-use Rattle.model.specs.Index.{Job, idle, copying, clearing, Index, chain, entriesAt, bucket, newBucket, oldBucket}
+use Rattle.model.specs.Index.{Job, idle, copying, clearing, Index, chain, entriesAt, bucket, newBucket}
+use Rattle.model.specs.Index.{oldBucket}
 use Rattle.model.specs.Pages.{without, cut}
 use Rattle.model.specs.Held.{held}
 use Rattle.model.specs.Calls.{done, cutHeld, remove}

@@ -29,7 +29,8 @@ use Rattle.model.specs.Room.{NoPage, NoPoint, NoStep}
 use Rattle.model.specs.TallyLaws.{or-left, or-right, tally-upFrom}
 use Rattle.model.specs.LaidLaws.{TakenAs, nothing, again, fresh, take-view}
 use Rattle.model.specs.ViewLaws.{Putting, full, inPage, inNew, put-view, Inserting, already, noRoom, inserted}
-use Rattle.model.specs.ViewLaws.{insert-view, Beginning, noPoint, samePoint, newPoint, Stepping, resting, unbegun}
+use Rattle.model.specs.ViewLaws.{insert-view, Beginning, noPoint, samePoint, newPoint, Stepping, resting}
+use Rattle.model.specs.ViewLaws.{unbegun}
 use Rattle.model.specs.ViewLaws.{began, uncopied, copied, copiedAll, cleared, clearedAll, step-view}
 
 -- ---- the chain

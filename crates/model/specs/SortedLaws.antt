@@ -10,9 +10,11 @@ use Rattle.lists.specs.ListsLaws.{tally-keep, tally-cong, any-yes, any-no}
 use Rattle.page.specs.declared.Pair.{Pair}
 use Rattle.page.specs.Pair.{same, before, ascending}
 use Rattle.page.specs.PairLaws.{same-refl, same-eq, before-conn}
-use Rattle.page.specs.AscendingLaws.{after-trans, ascending-tail, ascending-head, ascending-cons, ascending-once, ascending-any, tally-enter, length-enter, ascending-enter}
+use Rattle.page.specs.AscendingLaws.{after-trans, ascending-tail, ascending-head, ascending-cons, ascending-once}
+use Rattle.page.specs.AscendingLaws.{ascending-any, tally-enter, length-enter, ascending-enter}
 use Rattle.model.specs.Held.{self, sorted}
-use Rattle.model.specs.TallyLaws.{and-false, tally-false}
+use Rattle.model.specs.TallyLaws.{tally-false}
+use Rattle.lists.specs.ListsLaws.{and-false}
 
 -- ---- sorting
 

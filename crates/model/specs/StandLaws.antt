@@ -16,7 +16,8 @@ use Rattle.page.specs.Pair.{same, is}
 use Rattle.page.specs.PairLaws.{no-way, same-refl, same-eq}
 use Rattle.model.specs.Index.{Chain, Index, entriesIn, noChain, chain, entriesAt, setChain}
 use Rattle.model.specs.Pages.{without, cut}
-use Rattle.model.specs.TallyLaws.{and-false, tally-false}
+use Rattle.model.specs.TallyLaws.{tally-false}
+use Rattle.lists.specs.ListsLaws.{and-false}
 use Rattle.model.specs.ChainLaws.{tally-without}
 
 -- ---- a chain set anew

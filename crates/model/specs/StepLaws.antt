@@ -15,18 +15,23 @@ use Rattle.page.specs.declared.Pair.{Pair}
 use Rattle.page.specs.declared.Entry.{Entry}
 use Rattle.page.specs.Pair.{same, is}
 use Rattle.page.specs.PairLaws.{same-refl, same-eq}
-use Rattle.model.specs.Index.{Chain, idle, copying, clearing, Index, entriesIn, chain, entriesAt, bucket, newBucket, oldBucket, setChain, setJob}
+use Rattle.model.specs.Index.{Chain, idle, copying, clearing, Index, entriesIn, chain, entriesAt, bucket}
+use Rattle.model.specs.Index.{newBucket, oldBucket, setChain, setJob}
 use Rattle.model.specs.Pages.{cut}
 use Rattle.model.specs.Held.{held}
 use Rattle.model.specs.Steps.{next, widen, moves, toCopy, step}
 use Rattle.model.specs.WellFormed.{unmovedAt, movedAt, Laid, WF}
 use Rattle.model.specs.HeldIn.{heldNo, heldIn}
-use Rattle.model.specs.PlacedLaws.{turned-same, turned-at, copy-placed, clear-placed, begin-placed, copied-placed, cleared-placed}
+use Rattle.model.specs.PlacedLaws.{turned-same, turned-at, copy-placed, clear-placed, begin-placed}
+use Rattle.model.specs.PlacedLaws.{copied-placed, cleared-placed}
 use Rattle.model.specs.ChainOkLaws.{found-ok}
-use Rattle.model.specs.StandLaws.{having, marked, number-here, number-there, number-same, cut-same, cut-there, cut-less}
-use Rattle.model.specs.HeldLaws.{old-new, old-range, new-range, stands-none, none-stands, stands-passed, found-stands, moves-yes, heldIn-held, held-is}
+use Rattle.model.specs.StandLaws.{having, marked, number-here, number-there, number-same, cut-same, cut-there}
+use Rattle.model.specs.StandLaws.{cut-less}
+use Rattle.model.specs.HeldLaws.{old-new, old-range, new-range, stands-none, none-stands, stands-passed}
+use Rattle.model.specs.HeldLaws.{found-stands, moves-yes, heldIn-held, held-is}
 use Rattle.model.specs.LaidLaws.{cut-laid, put-laid, job-laid, chain-wider, begin-laid}
-use Rattle.model.specs.ViewLaws.{movedEntry, Putting, put-as, Beginning, samePoint, newPoint, Stepping, began, copied, copiedAll, cleared, clearedAll, step-view}
+use Rattle.model.specs.ViewLaws.{movedEntry, Putting, put-as, Beginning, samePoint, newPoint, Stepping, began}
+use Rattle.model.specs.ViewLaws.{copied, copiedAll, cleared, clearedAll, step-view}
 use Rattle.model.specs.BecomesLaws.{TurnedTo, unchanged, Becomes, becomes, placed-at, heldIn-at}
 use Rattle.model.specs.InsertLaws.{put-other}
 

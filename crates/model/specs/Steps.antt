@@ -10,7 +10,8 @@ use Rattle.address.specs.Address.{bucketsAt, point}
 use Rattle.page.specs.declared.Entry.{Entry}
 use Rattle.page.specs.Pair.{is}
 use Rattle.model.specs.declared.Stop.{Stop}
-use Rattle.model.specs.Index.{Job, idle, copying, clearing, Index, noChain, entriesAt, bucket, newBucket, oldBucket, topBit, setJob}
+use Rattle.model.specs.Index.{Job, idle, copying, clearing, Index, noChain, entriesAt, bucket, newBucket}
+use Rattle.model.specs.Index.{oldBucket, topBit, setJob}
 use Rattle.model.specs.Pages.{put, cut}
 use Rattle.model.specs.Held.{wanted}
 
@@ -37,7 +38,8 @@ widen x sp =
       chains = x .chains ++ noChain ∷ [];
     }
 
--- by whether the new bucket needs a new overflow point, and whether there is room for it; "spares[s+1] = spares[s]"
+-- by whether the new bucket needs a new point (the rules' "new group"), and whether there is room for it;
+-- "spares[s+1] = spares[s]"
 abbrev pub beginIn : (newPoint room : Bool) → Index → Option Index
 beginIn false room x = some (widen x (x .spares))
 beginIn true true x = some (widen x (x .spares ++ topBit x ∷ []))

@@ -13,7 +13,8 @@ use Rattle.page.specs.declared.Pair.{Pair}
 use Rattle.page.specs.declared.Entry.{Entry}
 use Rattle.page.specs.Pair.{same, is}
 use Rattle.page.specs.PairLaws.{same-refl, same-eq, same-sym}
-use Rattle.model.specs.Index.{Job, idle, copying, clearing, Index, entriesIn, chain, entriesAt, bucket, newBucket, oldBucket, setChain, setJob}
+use Rattle.model.specs.Index.{Job, idle, copying, clearing, Index, entriesIn, chain, entriesAt, bucket}
+use Rattle.model.specs.Index.{newBucket, oldBucket, setChain, setJob}
 use Rattle.model.specs.Pages.{without, cut}
 use Rattle.model.specs.Steps.{next, moves, toCopy, step}
 use Rattle.model.specs.WellFormed.{WF}
@@ -21,7 +22,8 @@ use Rattle.model.specs.TallyLaws.{tally-parts, any-more}
 use Rattle.model.specs.ChainLaws.{tally-without}
 use Rattle.model.specs.StandLaws.{number-here, chain-there}
 use Rattle.model.specs.HeldLaws.{old-new, old-range, new-range, is-parts}
-use Rattle.model.specs.ViewLaws.{movedEntry, PutAs, put-as, Stepping, began, copied, copiedAll, cleared, clearedAll, step-view}
+use Rattle.model.specs.ViewLaws.{movedEntry, PutAs, put-as, Stepping, began, copied, copiedAll, cleared}
+use Rattle.model.specs.ViewLaws.{clearedAll, step-view}
 use Rattle.model.specs.StepsLeft.{oldEntries, stepsIn, stepsLeft}
 use Rattle.model.specs.Steps.{copiesLeft}
 

@@ -20,10 +20,6 @@ and-comm true false = refl
 and-comm false true = refl
 and-comm false false = refl
 
-pub and-false : (a : Bool) → a && false ≡ false
-and-false true = refl
-and-false false = refl
-
 pub or-left : (a b : Bool) → a || b ≡ false → a ≡ false
 or-left true b h = h
 or-left false b h = refl

@@ -12,11 +12,14 @@ use Rattle.page.specs.declared.Pair.{Pair}
 use Rattle.page.specs.declared.Entry.{Entry}
 use Rattle.model.specs.declared.Refusal.{Refusal}
 use Rattle.model.specs.declared.Stop.{Stop}
-use Rattle.model.specs.Index.{Chain, Job, idle, copying, clearing, Index, entriesIn, chain, entriesAt, bucket, newBucket, oldBucket, topBit, setChain, setJob}
+use Rattle.model.specs.Index.{Chain, Job, idle, copying, clearing, Index, entriesIn, chain, entriesAt, bucket}
+use Rattle.model.specs.Index.{newBucket, oldBucket, topBit, setChain, setJob}
 use Rattle.model.specs.Pages.{chainRoom, addEntry, addPage, Taken, takePage, putIn, put, cut}
 use Rattle.model.specs.Held.{held, wanted}
-use Rattle.model.specs.Steps.{Step, next, stopped, orFull, widen, beginIn, begin, moves, toCopy, copyIn, clearIn, stepIn, step}
-use Rattle.model.specs.Calls.{pairOk, Result, done, refused, orNoRoom, insertIn, insert, cutHeld, removeIn, remove}
+use Rattle.model.specs.Steps.{Step, next, stopped, orFull, widen, beginIn, begin, moves, toCopy, copyIn, clearIn}
+use Rattle.model.specs.Steps.{stepIn, step}
+use Rattle.model.specs.Calls.{pairOk, Result, done, refused, orNoRoom, insertIn, insert, cutHeld, removeIn}
+use Rattle.model.specs.Calls.{remove}
 use Rattle.model.specs.ChainLaws.{tally-add, tally-page}
 
 abbrev pub unmovedEntry : Pair → Entry

@@ -13,13 +13,14 @@ use Rattle.address.specs.Role.{SparesOk}
 use Rattle.page.specs.declared.Pair.{Pair}
 use Rattle.page.specs.declared.Entry.{Entry}
 use Rattle.page.specs.Pair.{is, badPair, PairFits, ascending}
-use Rattle.model.specs.Index.{Page, Chain, Job, idle, copying, clearing, Index, chain, entriesAt, bucket, newBucket, oldBucket, topBit}
+use Rattle.model.specs.Index.{Page, Chain, Job, idle, copying, clearing, Index, chain, entriesAt, bucket}
+use Rattle.model.specs.Index.{newBucket, oldBucket, topBit}
 use Rattle.model.specs.Pages.{bitsUsed}
 use Rattle.address.specs.Limits.{maxBlocks}
 
 -- ---- pages
 
--- "no entry has offset 0 or reading block 4294967295", and the fields have their widths
+-- "No entry has offset 0 or reading block 4294967295", and the fields have their widths
 pub record EntryOk (e : Entry) : Type 0 where
   pub good : badPair (e .pair) ≡ false
   pub fits : PairFits (e .pair)

@@ -1,5 +1,6 @@
-// The types of the calls' numbers and answers. Document 01's number of each answer is a definition in specs/Answers.antt.
-pub mod numbers; // numbers.rt: those numbers in code
+// The types of the calls' numbers and answers. Document 01's number of each answer is a definition in
+// specs/Answers.antt.
+pub mod numbers; // numbers.rt: the numbers of answers, in code
 
 // The numbers that a caller gives format. N is none of them: it is the store's length.
 pub struct Order {

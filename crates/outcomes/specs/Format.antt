@@ -20,5 +20,6 @@ unfoldable pub formatBlock : (n fill k : ℕ) → List ℕ
 formatBlock n fill zero = paged (formatMeta n fill) noLink noLink noLink metaFlags
 formatBlock n fill (suc zero) = paged (replicate 492 0) 1 noLink 0 bucketFlags
 formatBlock n fill (suc (suc zero)) = paged (replicate 492 0) 1 noLink 1 bucketFlags
-formatBlock n fill (suc (suc (suc zero))) = paged (replicate 256 255 ++ replicate 236 0) noLink noLink noLink bitmapFlags
+formatBlock n fill (suc (suc (suc zero))) =
+    paged (replicate 256 255 ++ replicate 236 0) noLink noLink noLink bitmapFlags
 formatBlock n fill (suc (suc (suc (suc k)))) = blank

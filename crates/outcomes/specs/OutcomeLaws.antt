@@ -18,7 +18,8 @@ use Rattle.model.specs.declared.Stop.{Stop}
 use Rattle.model.specs.declared.WorkAnswer.{WorkAnswer}
 use Rattle.model.specs.Index.{Index}
 use Rattle.model.specs.Steps.{Step, next, stopped, step, iterate}
-use Rattle.model.specs.Calls.{Result, done, refused, formatOk, pairOk, budgetOk, format, insert, remove, listed, lookup}
+use Rattle.model.specs.Calls.{Result, done, refused, formatOk, pairOk, budgetOk, format, insert, remove, listed}
+use Rattle.model.specs.Calls.{lookup}
 use Rattle.model.specs.Held.{matches}
 use Rattle.model.specs.Machine.{Call, formatting, inserting, removing, looking, working, asking, Reply, plain, looked}
 use Rattle.model.specs.Machine.{worked, stands, accepted, Ran}

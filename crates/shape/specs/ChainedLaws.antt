@@ -21,7 +21,8 @@ use Rattle.image.specs.Decode.{maxAt, pointAt, sparesAt, roleAt, blockOf, trail
 use Rattle.image.specs.Rules.{overflowAs, buckets, isOverflow, linkOk, linked}
 use Rattle.reader.specs.Known.{Known2}
 use Rattle.reader.specs.KnownLaws.{spares-ok, max-under, bit-inside, role-at}
-use Rattle.shape.specs.SumLaws.{tally-absent, tally-different, run-absent, run-once, sums-equal, sum-tally, sum-length}
+use Rattle.shape.specs.SumLaws.{tally-absent, tally-different, run-absent, run-once, sums-equal, sum-tally}
+use Rattle.shape.specs.SumLaws.{sum-length}
 
 -- ---- overflow pages
 

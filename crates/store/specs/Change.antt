@@ -1,5 +1,5 @@
--- A change of some blocks: the first n of a list of numbers, and images, block j of which is the new body of the block
--- that the j-th number names.
+-- A change of some blocks: the first n of a list of numbers, and images, block j of which is what the block that the
+-- j-th number names is to become.
 use mathlib.Core.List.{List}
 use Prim.Native.Nat.{ℕ, zero, suc, _+_, _*_, _≤_, _<_}
 use lib.ListN.{length, getD}

@@ -1,5 +1,6 @@
 -- docs/RULES.md 3.3: "The flags are: overflow 1, bucket 2, bitmap 4, meta 8, being populated 16, being split 32, needs
--- split cleanup 64." A page of a pending job has two of them. The code's are in src/flags.rt.
+-- split cleanup 64." A page of a pending job has two of them. "None" and the page id are of 3.1 and 3.2. The code's
+-- names are in src/flags.rt.
 use Prim.Native.Nat.{ℕ, _+_}
 
 abbrev pub overflowFlags : ℕ

@@ -1,5 +1,5 @@
--- A block's trailer and check. docs/RULES.md 3.2: "Bytes 492..507 of every block but an unused one: previous (u32), next (u32), bucket (u32), flags (u16), page id 0xFF80 (u16). Bytes 508..511: CRC-32C
--- (RFC 3720) of bytes 0..507."
+-- A block's trailer and check. docs/RULES.md 3.2: "Bytes 492..507 of every block but an unused one: previous (u32),
+-- next (u32), bucket (u32), flags (u16), page id 0xFF80 (u16). Bytes 508..511: CRC-32C (RFC 3720) of bytes 0..507."
 use mathlib.Core.Bool.{Bool}
 use mathlib.Core.List.{List, _++_}
 use Prim.Native.Nat.{ℕ}

@@ -9,7 +9,7 @@ use Rattle.text.specs.Digits.{digits}
 abbrev pub lineOutput : ℕ
 lineOutput = 85006
 
--- two numbers, each after a word
+-- two numbers, each after a word, and LF
 abbrev pub twoText : (first : List ℕ) (a : ℕ) (second : List ℕ) (b : ℕ) → List ℕ
 twoText first a second b = first ++ digits a ++ second ++ digits b ++ (10 ∷ [])
 

@@ -16,7 +16,8 @@ use Rattle.model.specs.Pages.{pageRoom, chainRoom}
 use Rattle.image.specs.declared.Meta.{Meta}
 use Rattle.store.specs.Flags.{noLink}
 use Rattle.image.specs.Decode.{blockOf, trail, readPage, readChain, decode}
-use Rattle.frame.specs.Frame.{blockOfBit, chainBlocks, pageBlock, pageEntries, firstPlace, roomPlace, lastPlace, onPage, pairPlace}
+use Rattle.frame.specs.Frame.{blockOfBit, chainBlocks, pageBlock, pageEntries, firstPlace, roomPlace, lastPlace}
+use Rattle.frame.specs.Frame.{onPage, pairPlace}
 use Rattle.chain.specs.declared.Found.{Found}
 use Rattle.chain.specs.declared.Room.{Room}
 use Rattle.chain.specs.Walk.{walk, lastOf}

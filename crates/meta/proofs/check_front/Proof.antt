@@ -5,7 +5,7 @@ use lib.Dec.{eqb}
 use Rattle.lists.specs.Bytes.{part, allZero}
 use Rattle.endian.specs.Endian.{u32At}
 use Rattle.image.specs.Rules.{frontOk}
-use Rattle.meta.specs.TurnLaws.{and-false}
+use Rattle.lists.specs.ListsLaws.{and-false}
 use borrow.Author.Needs.{needs}
 use Rattle.meta.proofs.check_front.Statement.{statement}
 use Rattle.meta.proofs.check_front.Tie as tie

@@ -8,7 +8,7 @@ use lib.ListN.{length}
 use Rattle.address.specs.Address.{highMask, lowMask, point, made}
 use Rattle.model.specs.Calls.{fillOk}
 use Rattle.image.specs.Rules.{sparesOk, metaOk}
-use Rattle.meta.specs.TurnLaws.{and-false}
+use Rattle.lists.specs.ListsLaws.{and-false}
 use Rattle.meta.specs.SparesLaws.{point-high}
 use borrow.Author.Needs.{needs}
 use Rattle.meta.proofs.check_meta.Statement.{statement}
@@ -17,20 +17,23 @@ use Rattle.meta.proofs.check_meta.Tie as tie
 sixteen : (c : tie.Start) → length (c .args .m .spares) ≡ 16
 sixteen c = search needs
 
+cast-check-fill : tie.Need-cast-check-fill
+cast-check-fill c = search needs
+
 check-fill-requires : tie.Need-check-fill-requires
 check-fill-requires c κs = search needs
 
 returns : tie.Need-returns
 unfolding metaOk
 returns c =
-    let m = c .before .before .args .m in
+    let m = c .before .before .before .args .m in
     let t : fillOk (m .fill) ≡ false = cc (not-true (c .before .check-fill .result) (c .if1 .taken)) in
     simp t
 
 returns-2 : tie.Need-returns-2
 unfolding metaOk
 returns-2 c =
-    let m = c .before .before .before .before .args .m in
+    let m = c .before .before .before .before .before .args .m in
     simp (lt-leb 1 (m .max) (c .if2 .taken), and-false)
 
 high-mask-requires : tie.Need-high-mask-requires
@@ -39,7 +42,7 @@ high-mask-requires c κs = search needs
 returns-3 : tie.Need-returns-3
 unfolding metaOk
 returns-3 c =
-    let m = c .before .before .before .before .before .before .before .args .m in
+    let m = c .before .before .before .before .before .before .before .before .args .m in
     let e = c .before .before .high-mask .ensures in
     simp (ne-eqb (m .high) (highMask (m .max)) (λ p. c .if3 .taken (p ∙ sym e)), and-false)
 
@@ -49,7 +52,7 @@ low-mask-requires c κs = search needs
 returns-4 : tie.Need-returns-4
 unfolding metaOk
 returns-4 c =
-    let m = c .before .before .before .before .before .before .before .before .before .before .args .m in
+    let m = c .before .before .before .before .before .before .before .before .before .before .before .args .m in
     let e = c .before .before .low-mask .ensures in
     simp (ne-eqb (m .low) (lowMask (m .max)) (λ p. c .if4 .taken (p ∙ sym e)), and-false)
 
@@ -59,14 +62,15 @@ point-of-requires c κs = search needs
 returns-5 : tie.Need-returns-5
 unfolding metaOk
 returns-5 c =
-    let m = c .before .before .before .before .before .before .before .before .before .before .before .before .before .args .m in
+    let m = c .before .before .before .before .before .before .before .before .before .before .before .before .before .before .args .m in
     let e = c .before .before .point-of .ensures in
     simp (ne-eqb (m .point) (point (m .max)) (λ p. c .if5 .taken (p ∙ sym e)), and-false)
 
 returns-6 : tie.Need-returns-6
 unfolding metaOk
 returns-6 c =
-    let s = c .before .before .before .before .before .before .before .before .before .before .before .before .before .before in
+    let h = c .before .before .before .before .before .before .before in
+    let s = h .before .before .before .before .before .before .before .before in
     let m = s .args .m in
     let e = c .before .before .before .point-of .ensures in
     simp (point-high (point (m .max)) (m .spares) (sixteen s) (omega (arith, c .if6 .taken)), and-false)
@@ -77,7 +81,8 @@ check-spares-requires c κs = search needs
 returns-7 : tie.Need-returns-7
 unfolding metaOk
 returns-7 c =
-    let m = c .before .before .before .before .before .before .before .before .before .before .before .before .before .before .before .before .before .args .m in
+    let h = c .before .before .before .before .before .before .before .before .before in
+    let m = h .before .before .before .before .before .before .before .before .before .args .m in
     let t : sparesOk (point (m .max)) (m .spares) ≡ false =
     cc (not-true (c .before .check-spares .result) (c .if7 .taken)) in
     simp (t, and-false)
@@ -94,7 +99,7 @@ returns-8 c =
     let e₃ = e₄ .before .before .before in
     let e₂ = e₃ .before .before .before in
     let e₁ = e₂ .before .before in
-    let a = e₁ .before .before .args in
+    let a = e₁ .before .before .before .args in
     let m = a .m in
     let r = e₇ .before .check-spares in
     let p = e₅ .before .before .point-of .ensures in
@@ -113,6 +118,7 @@ pub check-meta-spec : {M : Type 1} → statement M
 check-meta-spec =
     tie.close
     (tie.spec
+    cast-check-fill
     check-fill-requires
     returns
     returns-2

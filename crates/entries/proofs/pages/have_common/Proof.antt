@@ -6,7 +6,8 @@ use Rattle.endian.specs.Endian.{u16At}
 use Rattle.page.specs.Pair.{same, before}
 use Rattle.page.specs.Entries.{entryAt}
 use Rattle.page.specs.RuleLaws.{number-le}
-use Rattle.entries.proofs.Merging.{Merge, merge-start, merge-end, merge-end-second, merge-same, merge-first, merge-second}
+use Rattle.entries.proofs.Merging.{Merge, merge-start, merge-end, merge-end-second, merge-same, merge-first}
+use Rattle.entries.proofs.Merging.{merge-second}
 use Rattle.entries.proofs.pages.have_common.Statement.{statement}
 use Rattle.entries.proofs.pages.have_common.Tie as tie
 

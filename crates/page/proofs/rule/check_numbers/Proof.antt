@@ -3,7 +3,8 @@ use Prim.Native.Nat.{_-_, _≤_}
 use native.Mathlib.Omega.{arith}
 use Rattle.page.specs.Rule.{numbersOk}
 use Rattle.page.specs.RuleLaws.{number-le}
-use Rattle.page.proofs.Turns.{holds, breaks, passed, failed, numbersFrom, numbers-start, numbers-turn, numbers-end}
+use Rattle.page.proofs.Turns.{holds, breaks, passed, failed, numbersFrom, numbers-start, numbers-turn}
+use Rattle.page.proofs.Turns.{numbers-end}
 use Rattle.page.proofs.rule.check_numbers.Statement.{statement}
 use Rattle.page.proofs.rule.check_numbers.Tie as tie
 

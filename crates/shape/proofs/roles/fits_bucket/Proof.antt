@@ -5,7 +5,7 @@ use borrow.Author.Tests.{eq-eqb, ne-eqb, le-leb, lt-leb, not-true, not-false}
 use lib.Dec.{eqb}
 use Rattle.store.specs.Store.{flagsAt, idAt}
 use Rattle.image.specs.Rules.{bucketFlagsOk, fits}
-use Rattle.meta.specs.TurnLaws.{and-false}
+use Rattle.lists.specs.ListsLaws.{and-false}
 use borrow.Author.Needs.{needs}
 use Rattle.shape.proofs.roles.fits_bucket.Statement.{statement}
 use Rattle.shape.proofs.roles.fits_bucket.Tie as tie

@@ -4,7 +4,7 @@ use borrow.Author.Tests.{eq-eqb, ne-eqb}
 use lib.Dec.{eqb}
 use Rattle.store.specs.Store.{prevAt, nextAt, flagsAt, idAt}
 use Rattle.store.specs.Flags.{noLink}
-use Rattle.meta.specs.TurnLaws.{and-false}
+use Rattle.lists.specs.ListsLaws.{and-false}
 use borrow.Author.Needs.{needs}
 use Rattle.shape.proofs.roles.is_unlinked.Statement.{statement}
 use Rattle.shape.proofs.roles.is_unlinked.Tie as tie
