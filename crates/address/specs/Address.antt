@@ -1,8 +1,8 @@
 -- docs/RULES.md 4, "Where things stand": buckets of hash codes, and blocks of buckets and overflow bits, by max bucket
 -- m, spares sp and overflow point s.
-use mathlib.Core.Bool.{Bool, true, false, cond, _&&_, _||_}
+use mathlib.Core.Bool.{true, false, cond, _&&_, _||_}
 use mathlib.Core.List.{List}
-use Prim.Native.Nat.{ℕ, zero, suc, pred, _+_, _-_, _*_, _/_, _%_, _^_}
+use Prim.Native.Nat.{ℕ, zero, suc, pred, _+_, _-_, _/_, _%_, _^_}
 use lib.Dec.{leb, ltb, eqb}
 use lib.ListN.{getD}
 
@@ -37,12 +37,12 @@ unfoldable pub bucketOf : ℕ → ℕ → ℕ
 bucketOf m h = let b = h % (highMask m + 1) in cond (leb b m) b (h % (lowMask m + 1))
 
 -- the number of binary digits
-unfoldable pub digits : ℕ → ℕ
-digits n = firstOver power n 0 n
+unfoldable pub bitLength : ℕ → ℕ
+bitLength n = firstOver power n 0 n
 
 -- "Bucket m splits off from m less its highest one bit."
 unfoldable pub splitFrom : ℕ → ℕ
-splitFrom m = m - 2 ^ pred (digits m)
+splitFrom m = m - 2 ^ pred (bitLength m)
 
 -- "the highest m from 2 to max bucket with m = b or m split off from b; 1 if none"
 unfoldable pub lastSplit : (max b : ℕ) → ℕ

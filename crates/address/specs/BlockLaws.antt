@@ -1,15 +1,15 @@
 -- Blocks of buckets and overflow bits: each its own, past the meta block and below the made ones; more spares move none.
-use mathlib.Core.Path.{_≡_, refl, sym, ap, _∙_, subst}
+use mathlib.Core.Path.{_≡_, refl, sym, ap, subst}
 use mathlib.Core.Logic.{_≢_}
 use mathlib.Core.Bool.{Bool, true, false}
-use mathlib.Core.List.{List, [], _∷_, _++_}
+use mathlib.Core.List.{List}
 use Prim.Native.Nat.{ℕ, zero, suc, pred, _+_, _≤_, _<_}
 use native.Mathlib.Omega.{arith}
 use native.Mathlib.Decide.{decLe, decLt}
 use lib.Dec.{ltb, T, ltb→lt, nltb→le}
 use lib.ListN.{getD}
 use Rattle.address.specs.Address.{bucketsAt, point, bucketPoint, bucketBlock, bitPoint, bitBlock, made}
-use Rattle.address.specs.OverLaws.{Over, over-is, over-unique, buckets-grow, buckets-mono, buckets-zero}
+use Rattle.address.specs.OverLaws.{Over, over-is, buckets-grow, buckets-mono, buckets-zero}
 use Rattle.address.specs.OverLaws.{buckets-one}
 use Rattle.address.specs.Role.{SparesOk}
 

@@ -2,14 +2,14 @@
 use mathlib.Core.Path.{_≡_, refl, sym, ap, _∙_}
 use mathlib.Core.Logic.{_≢_}
 use mathlib.Core.Bool.{Bool, true, false, cond}
-use Prim.Native.Nat.{ℕ, zero, suc, pred, _+_, _-_, _*_, _%_, _^_, _≤_, _<_}
+use Prim.Native.Nat.{ℕ, suc, pred, _-_, _*_, _%_, _^_, _≤_, _<_}
 use native.Mathlib.Nat.{mod-lt, mod-eq-of-lt, mod-eq-sub-mod, pow-succ'}
 use native.Mathlib.Numerals.{one-add}
 use native.Mathlib.Omega.{arith}
 use native.Mathlib.Decide.{decLt, decLe}
 use lib.Dec.{leb, T, leb→le, nleb→lt}
 use lib.Pow.{pow-pos, mod-mod-pow}
-use Rattle.address.specs.Address.{power, maskDigits, bucketOf, splitFrom, digits}
+use Rattle.address.specs.Address.{power, maskDigits, bucketOf, splitFrom, bitLength}
 use Rattle.address.specs.OverLaws.{Over, over-unique, power-grows}
 use Rattle.address.specs.MaskLaws.{mask-is, mask-suc, lowDigits, high-double, low-size, digits-mask}
 

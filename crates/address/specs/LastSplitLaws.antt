@@ -8,19 +8,19 @@ use native.Mathlib.Decide.{decLe, decLt}
 use borrow.Author.Tests.{lt-ltb, eq-eqb, ne-eqb}
 use lib.Dec.{ltb, eqb}
 use lib.Pow.{pow-pos, pow-mono}
-use Rattle.address.specs.Address.{power, digits, splitFrom, lastSplit}
+use Rattle.address.specs.Address.{power, bitLength, splitFrom, lastSplit}
 use Rattle.address.specs.OverLaws.{over-unique, power-grows}
 use Rattle.address.specs.MaskLaws.{digits-is, top-le, split-lt}
 
 -- ---- the highest one bit
 
-pub top-is : (m : ℕ) → 1 ≤ m → m ≡ splitFrom m + 2 ^ pred (digits m)
+pub top-is : (m : ℕ) → 1 ≤ m → m ≡ splitFrom m + 2 ^ pred (bitLength m)
 unfolding splitFrom
 top-is m h = omega (arith, top-le m h)
 
 -- m is below twice its highest one bit
-top-over : (m : ℕ) → 1 ≤ m → m < 2 * 2 ^ pred (digits m)
-top-over m h = go (digits m) (digits-is m .over)
+top-over : (m : ℕ) → 1 ≤ m → m < 2 * 2 ^ pred (bitLength m)
+top-over m h = go (bitLength m) (digits-is m .over)
   where
     go : (d : ℕ) → m < 2 ^ d → m < 2 * 2 ^ pred d
     go zero l = absurd (omega arith)
@@ -30,8 +30,8 @@ top-over m h = go (digits m) (digits-is m .over)
 pub split-add : (b k : ℕ) → b < 2 ^ k → splitFrom (b + 2 ^ k) ≡ b
 unfolding splitFrom
 split-add b k h =
-    let e : digits (b + 2 ^ k) ≡ suc k =
-    over-unique power power-grows 0 (b + 2 ^ k) (digits (b + 2 ^ k)) (suc k) (digits-is (b + 2 ^ k))
+    let e : bitLength (b + 2 ^ k) ≡ suc k =
+    over-unique power power-grows 0 (b + 2 ^ k) (bitLength (b + 2 ^ k)) (suc k) (digits-is (b + 2 ^ k))
     (record { from = omega arith; over = omega (arith, pow-succ' 2 k); least = λ _. omega arith }) in
     ap (λ (d : ℕ). b + 2 ^ k - 2 ^ pred d) e ∙ omega arith
 
@@ -40,7 +40,7 @@ no-between : (w j : ℕ) → w - splitFrom w < 2 ^ j → 2 ^ j ≤ w → ⊥
 no-between w j low up = go (decLe j k)
   where
     k : ℕ
-    k = pred (digits w)
+    k = pred (bitLength w)
 
     go : Dec (j ≤ k) → ⊥
     go (yes l) = omega (arith, top-is w (omega (arith, pow-pos j)), pow-mono l)
@@ -96,7 +96,7 @@ module _ (max b : ℕ) (l : b ≤ max) where
     where
       off : splitFrom m ≡ b → ⊥
       off e =
-          let k : ℕ = pred (digits m) in
+          let k : ℕ = pred (bitLength m) in
           let t : m ≡ splitFrom m + 2 ^ k = top-is m (omega arith) in
           no-between (max - b) k (top k (omega (arith, t, e, top-over m (omega arith))) (omega (arith, t, e)))
           (omega (arith, t, e))
@@ -112,11 +112,11 @@ module _ (max b : ℕ) (l : b ≤ max) where
       r : ℕ
       r = b + (w - splitFrom w)
 
-      top : w - splitFrom w ≡ 2 ^ pred (digits w)
+      top : w - splitFrom w ≡ 2 ^ pred (bitLength w)
       top = omega (arith, top-is w (omega arith))
 
       from : splitFrom r ≡ b
-      from = ap (λ (t : ℕ). splitFrom (b + t)) top ∙ split-add b (pred (digits w)) (omega (arith, top))
+      from = ap (λ (t : ℕ). splitFrom (b + t)) top ∙ split-add b (pred (bitLength w)) (omega (arith, top))
 
       off : (t : Bool) → (t || eqb (splitFrom r) b) ≡ true
       off true = refl

@@ -1,5 +1,5 @@
 -- Spares that grow: by an overflow page at the overflow point, or by a point. They keep their rule and move no block.
-use mathlib.Core.Path.{_≡_, refl, sym, ap, _∙_, subst}
+use mathlib.Core.Path.{_≡_, refl, sym, ap, _∙_}
 use mathlib.Core.Bool.{Bool, true, false, cond}
 use mathlib.Core.List.{List, [], _∷_, _++_}
 use Prim.Native.Nat.{ℕ, zero, suc, pred, _+_, _≤_, _<_}
@@ -11,7 +11,7 @@ use lib.ListN.{length, getD, set, length-set, length-append, List·getD-append}
 use lib.Seq.{getD-set-same, getD-set-other, getD-append-seam}
 use Rattle.address.specs.Address.{bucketsAt, point, bucketPoint, bucketBlock, bitPoint, bitBlock, made}
 use Rattle.address.specs.Role.{SparesOk}
-use Rattle.address.specs.OverLaws.{Over, over-unique, buckets-grow, buckets-mono}
+use Rattle.address.specs.OverLaws.{Over, over-unique, buckets-grow}
 use Rattle.address.specs.BlockLaws.{point-is, spares-mono, bucket-at}
 
 -- the overflow point of one bucket more

@@ -18,7 +18,7 @@ ghost use Rattle.chain.specs.Search.{slotIn, findIn, roomIn};
 ghost use Rattle.chain.specs.Within.{PagesOk, Within};
 
 // The slot of the pair in a page whose entries ascend.
-pub fn find_slot(page: &[u8], pair: Pair) -> Slot
+fn find_slot(page: &[u8], pair: Pair) -> Slot
     requires { ⌜ Sorted (now page) ⌝ }
     ensures { λ r. ⌜ r ≡ slotIn (entriesOf (now (page .entry))) pair ⌝ }
 {

@@ -1,7 +1,7 @@
 -- The merge of two sorted pages a and b: what is left from slot i of the first and slot j of the second on answers what was asked.
 use mathlib.Core.Path.{_≡_, refl, sym, ap, ap₂, _∙_}
-use mathlib.Core.Bool.{Bool, true, false}
-use mathlib.Core.List.{List, [], _∷_}
+use mathlib.Core.Bool.{true, false}
+use mathlib.Core.List.{List, _∷_}
 use Prim.Native.Nat.{ℕ, _+_, _≤_, _<_}
 use Rattle.endian.specs.Endian.{u16At}
 use Rattle.page.specs.declared.Entry.{Entry}

@@ -3,12 +3,12 @@ use mathlib.Core.Path.{_≡_, refl, sym, ap, ap₂, _∙_}
 use mathlib.Core.Bool.{Bool, true, false, not, _&&_, _||_}
 use mathlib.Core.List.{List, [], _∷_, _++_}
 use Prim.Native.Nat.{ℕ}
-use Rattle.lists.specs.Lists.{any, bind, Each}
+use Rattle.lists.specs.Lists.{any, bind}
 use Rattle.lists.specs.ListsLaws.{zero-any}
 use Rattle.page.specs.declared.Pair.{Pair}
 use Rattle.page.specs.declared.Entry.{Entry}
 use Rattle.page.specs.Pair.{same, before, is, ascending}
-use Rattle.page.specs.PairLaws.{same-sym, before-same, before-trans}
+use Rattle.page.specs.PairLaws.{same-sym, before-same}
 use Rattle.page.specs.Pair.{pairOf}
 use Rattle.page.specs.SublistLaws.{each-map, tally-no}
 use Rattle.page.specs.AscendingLaws.{After, after-trans, ascending-head, ascending-once}

@@ -6,7 +6,6 @@ use model::Stop;
 use model::WorkAnswer;
 use plan::Advance;
 ghost use mathlib.Core.Path.{_≡_};
-ghost use Prim.Native.Nat.{_≤_};
 ghost use Rattle.model.specs.Steps.{iterate};
 ghost use Rattle.outcomes.specs.Outcomes.{stepOutcome, workOutcome};
 ghost use Rattle.index.specs.Sound.{Sound, workedBy};

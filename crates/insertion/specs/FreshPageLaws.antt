@@ -21,7 +21,7 @@ use Rattle.image.specs.Layout.{metaFront, mapFront, mapBit, encodeBlock}
 use Rattle.store.specs.Flags.{noLink}
 use Rattle.image.specs.Decode.{decode}
 use Rattle.image.specs.BitmapLaws.{length-mapFront}
-use Rattle.frame.specs.Frame.{Apart, blockOfBit, mapBlock, pageBlock, lastPlace}
+use Rattle.frame.specs.Frame.{Apart, blockOfBit, mapBlock, lastPlace}
 use Rattle.frame.specs.ApartLaws.{page-map}
 use Rattle.frame.specs.ChainLaws.{Free}
 use Rattle.frame.specs.FreshLaws.{moreSpares, next-block, frame-fresh, fresh-blocks}

@@ -16,7 +16,7 @@ use Rattle.model.specs.WellFormed.{Laid, WF}
 use Rattle.image.specs.declared.Meta.{Meta}
 use Rattle.image.specs.Layout.{mapBit}
 use Rattle.image.specs.Decode.{bitOf, decode}
-use Rattle.frame.specs.Frame.{mapBlock, pageBlock, roomPlace, lastPlace}
+use Rattle.frame.specs.Frame.{mapBlock}
 use Rattle.frame.specs.ChainLaws.{Free as IsFree}
 use Rattle.frame.specs.FreshLaws.{moreSpares}
 use Rattle.chain.specs.declared.Free.{Free}

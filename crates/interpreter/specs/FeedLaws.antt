@@ -1,12 +1,12 @@
 -- What the private functions give is feed's and finish's outcome.
 use mathlib.Core.Path.{_≡_, refl, sym, ap, _∙_, subst}
-use mathlib.Core.Bool.{Bool, true, false, cond, _&&_}
-use mathlib.Core.List.{List, [], _∷_, _++_}
-use Prim.Native.Nat.{ℕ, suc, _*_, _/_, _≤_, min}
+use mathlib.Core.Bool.{Bool, true, false, cond}
+use mathlib.Core.List.{List}
+use Prim.Native.Nat.{ℕ, suc, _≤_}
 use native.Mathlib.Omega.{arith}
 use borrow.Author.Tests.{leb-true, le-leb, eq-eqb, ne-eqb}
 use lib.Dec.{eqb, leb, ltb}
-use lib.ListN.{length, take, drop}
+use lib.ListN.{length, take}
 use Rattle.lists.specs.ListsLaws.{and-left, and-right}
 use Rattle.lists.specs.Block.{blocks}
 use Rattle.line.specs.Words.{span}
@@ -17,7 +17,7 @@ use Rattle.interpreter.specs.declared.Fed.{Fed}
 use Rattle.interpreter.specs.declared.Gathered.{Gathered}
 use Rattle.interpreter.specs.Feed.{tooMany, gathered, storeBytes, ready, Feeding, fedAs, still}
 use Rattle.interpreter.specs.Script.{scriptBlocks}
-use Rattle.interpreter.specs.Feed.{nextLine, lineTurn, over, nextState, lineEnds, feedOutcome, finishOutcome}
+use Rattle.interpreter.specs.Feed.{nextLine, lineTurn, lineEnds, feedOutcome, finishOutcome}
 use Rattle.interpreter.specs.Runs.{Runs, Room}
 use Rattle.interpreter.specs.Held.{gatherIn}
 use Rattle.interpreter.specs.HeldLaws.{upTo, gather-is}

@@ -1,7 +1,7 @@
 -- A script run byte by byte: what is kept between bytes, and what each byte writes. It stands in the proof between
 -- scriptOutput and feed, and the program's own contracts cite it: who reads Script.antt and Feed.antt to believe the
 -- theorems need not read it.
-use mathlib.Core.Bool.{true, false, cond}
+use mathlib.Core.Bool.{cond}
 use mathlib.Core.List.{List, [], _∷_, _++_}
 use Prim.Native.Nat.{ℕ, _*_}
 use lib.Dec.{eqb, leb, ltb}

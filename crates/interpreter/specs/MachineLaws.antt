@@ -2,9 +2,9 @@
 use mathlib.Core.Path.{_≡_, refl, sym, ap, _∙_}
 use mathlib.Core.Bool.{Bool, true, false, cond}
 use mathlib.Core.List.{List, [], _∷_, _++_, append-assoc, append-nil}
-use Prim.Native.Nat.{ℕ, suc, _+_, _^_, _≤_, _<_}
+use Prim.Native.Nat.{ℕ, _+_, _^_, _<_}
 use native.Mathlib.Omega.{arith}
-use borrow.Author.Tests.{ltb-true, ltb-false, leb-true, leb-false, le-leb, lt-leb}
+use borrow.Author.Tests.{ltb-true, ltb-false, leb-false, le-leb, lt-leb}
 use lib.Dec.{eqb, ltb, leb}
 use lib.ListN.{length, length-append}
 use Rattle.lists.specs.Lists.{bind}
@@ -12,7 +12,7 @@ use Rattle.line.specs.declared.Command.{Command}
 use Rattle.line.specs.Words.{partsFrom}
 use Rattle.line.specs.Command.{maxLine, readLine}
 use Rattle.line.specs.CommandLaws.{line-long}
-use Rattle.interpreter.specs.Script.{Turn, runCommand, ended, runLines}
+use Rattle.interpreter.specs.Script.{runCommand, ended, runLines}
 use Rattle.interpreter.specs.Feed.{nextLine}
 use Rattle.interpreter.specs.Machine.{Pending, short, long, grow, commandAt, State, Reached, endLine}
 use Rattle.interpreter.specs.Machine.{keepByte, onByte, onBytes, endIn, atEnd, onPieces}

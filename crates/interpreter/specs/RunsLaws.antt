@@ -11,7 +11,6 @@ use lib.Seq.{length-take-le}
 use Rattle.lists.specs.ListsLaws.{and-false}
 use Rattle.lists.specs.Block.{blocks}
 use Rattle.address.specs.Limits.{maxBlocks}
-use Rattle.page.specs.declared.Pair.{Pair}
 use Rattle.line.specs.declared.Command.{Command}
 use Rattle.text.specs.Text.{storeText, refusedText}
 use Rattle.model.specs.declared.Order.{Order}

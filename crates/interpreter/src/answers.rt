@@ -9,7 +9,7 @@ use text::put_ok;
 use text::put_refused;
 use text::put_steps;
 ghost use mathlib.Core.Path.{_≡_};
-ghost use Prim.Native.Nat.{_*_, _≤_};
+ghost use Prim.Native.Nat.{_≤_};
 ghost use lib.ListN.{length};
 ghost use Rattle.text.specs.Text.{lineOutput};
 ghost use Rattle.text.specs.Wrote.{Wrote};

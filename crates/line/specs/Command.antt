@@ -1,6 +1,6 @@
 -- A line of a script read as a command (docs/RULES.md 8.1 and 8.2): "One line, one call", "at most 80 bytes", "Anything
 -- else, an empty line too, is refusal 10".
-use mathlib.Core.Bool.{Bool, true, false, cond}
+use mathlib.Core.Bool.{cond}
 use mathlib.Core.List.{List, [], _∷_}
 use Prim.Native.Nat.{ℕ}
 use lib.Dec.{eqb, leb}

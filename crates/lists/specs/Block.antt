@@ -1,5 +1,5 @@
 -- A store is a list of bytes; its block k is the 512 bytes from 512 * k on.
-use mathlib.Core.List.{List, [], _∷_, _++_}
+use mathlib.Core.List.{List, _++_}
 use Prim.Native.Nat.{ℕ, _+_, _*_, _/_}
 use lib.ListN.{length, take, drop}
 

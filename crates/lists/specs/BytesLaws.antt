@@ -1,16 +1,15 @@
 -- Runs of stores in a list, and parts of it.
 use mathlib.Core.Path.{_≡_, refl, sym, ap, _∙_}
 use mathlib.Core.Logic.{_⊎_, inl, inr, ⊎-elim}
-use mathlib.Core.Bool.{Bool, true, false, _&&_}
+use mathlib.Core.Bool.{true}
 use mathlib.Core.List.{List, [], _∷_, _++_}
 use Prim.Native.Nat.{ℕ, zero, suc, _+_, _-_, _≤_, _<_}
 use native.Mathlib.Nat.{not-suc-le-zero, le-of-suc-le-suc, add-zero, add-suc, suc-add}
 use native.Mathlib.Omega.{arith}
-use lib.Dec.{eqb, eqb→eq}
-use lib.ListN.{length, getD, take, drop, set, replicate, length-set, length-take, length-drop, length-append}
-use lib.ListN.{take-append-drop}
-use lib.Seq.{sets, length-sets, sets-eq, getD-set-same, getD-set-other, getD-take, getD-drop, drop-drop, take-at}
-use lib.Seq.{drop-at, length-take-le, take-add}
+use lib.Dec.{eqb}
+use lib.ListN.{length, getD, take, drop, set, replicate, length-set, length-take, length-drop}
+use lib.Seq.{sets, getD-set-same, getD-set-other, getD-take, getD-drop, drop-drop, take-at}
+use lib.Seq.{drop-at, take-add}
 use Rattle.lists.specs.Lists.{all}
 use Rattle.lists.specs.ListsLaws.{and-left, and-right, eqb-eq}
 use Rattle.lists.specs.Bytes.{Bytes, part, allZero}

@@ -1,14 +1,14 @@
 -- How the list functions with tests bear on each other: everything is counted by `tally`.
-use mathlib.Core.Path.{_≡_, refl, sym, ap, _∙_, subst}
+use mathlib.Core.Path.{_≡_, refl, sym, ap, subst}
 use mathlib.Core.Logic.{_≢_}
 use mathlib.Core.Bool.{Bool, true, false, cond, not, _&&_, _||_}
 use mathlib.Core.List.{List, [], _∷_, _++_, map}
 use mathlib.Core.Option.{Option, none, some}
-use Prim.Native.Nat.{ℕ, zero, suc, _+_, _≤_, _<_}
+use Prim.Native.Nat.{ℕ, zero, _+_, _≤_}
 use native.Mathlib.Omega.{arith}
 use lib.Dec.{eqb, T, eqb→eq, eqb-refl}
-use lib.ListN.{length, getD}
-use Rattle.lists.specs.Lists.{b2n, any, all, tally, keep, find, bind, Each, upFrom}
+use lib.ListN.{length}
+use Rattle.lists.specs.Lists.{b2n, any, all, tally, keep, find, bind, Each}
 
 -- ---- Booleans
 

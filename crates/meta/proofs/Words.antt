@@ -1,16 +1,12 @@
 -- Words, a turn at a time.
 use mathlib.Core.Path.{_≡_, refl, sym, ap, ap₂, _∙_}
-use mathlib.Core.Bool.{true, false}
 use mathlib.Core.List.{List, [], _∷_, _++_}
 use Prim.Native.Nat.{ℕ, zero, suc, _+_, _-_, _*_, _≤_, _<_}
 use native.Mathlib.Numerals.{add-one}
 use native.Mathlib.Omega.{arith}
-use borrow.Author.Tests.{eq-eqb, ne-eqb}
-use lib.Dec.{eqb}
-use lib.ListN.{length, getD, take, drop, set, replicate, drop-of-length-le}
+use lib.ListN.{length, getD, take, drop, set, drop-of-length-le}
 use lib.Seq.{sets, take-suc-set, drop-cons}
-use Rattle.lists.specs.Lists.{all, bind}
-use Rattle.lists.specs.Bytes.{allZero}
+use Rattle.lists.specs.Lists.{bind}
 use Rattle.lists.specs.BytesLaws.{sets-append}
 use Rattle.endian.specs.Endian.{le32, u32At}
 use Rattle.image.specs.Decode.{wordsAt}

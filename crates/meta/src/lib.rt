@@ -12,7 +12,7 @@ use image::Meta;
 ghost use mathlib.Core.Path.{_≡_};
 ghost use mathlib.Core.List.{_++_};
 ghost use Prim.Native.Nat.{suc, _+_, _-_, _*_, _≤_};
-ghost use lib.ListN.{length, getD, drop};
+ghost use lib.ListN.{length, drop};
 ghost use lib.Seq.{sets};
 ghost use Rattle.lists.specs.Lists.{all, bind, upFrom};
 ghost use Rattle.lists.specs.Bytes.{allZero};
@@ -143,7 +143,7 @@ fn check_above(spares: [u32; 16], s: u32) -> bool
 }
 
 // The spares of rule 2, at overflow point `s`.
-pub fn check_spares(spares: [u32; 16], s: u32) -> bool
+fn check_spares(spares: [u32; 16], s: u32) -> bool
     requires { ⌜ s ≤ 15 ⌝ }
     ensures { λ r. ⌜ r ≡ sparesOk s spares ⌝ }
 {

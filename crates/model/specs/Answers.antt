@@ -1,6 +1,6 @@
 -- The numbers of the answers (docs/RULES.md 2.1), and what each case gives besides (0 where nothing).
 use Prim.Native.Nat.{ℕ}
-use lib.IntN.{ℤ, pos}
+use lib.IntN.{pos}
 use Rattle.model.specs.declared.Refusal.{Refusal}
 use Rattle.model.specs.declared.Refusal.the-variants.{Length, Number, Damaged, NotIndex, HeldAlready, NotHeld}
 use Rattle.model.specs.declared.Refusal.the-variants.{NoRoom, OutputShort}

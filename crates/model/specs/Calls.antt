@@ -1,5 +1,5 @@
 -- The six calls on an index (docs/RULES.md 6), with their numbers as u32 and their answers.
-use mathlib.Core.Bool.{Bool, true, false, not, _&&_, _||_}
+use mathlib.Core.Bool.{Bool, true, false, not, _&&_}
 use mathlib.Core.List.{List, [], _∷_, _++_}
 use mathlib.Core.Option.{Option, none, some}
 use Prim.Native.Nat.{ℕ, suc, _*_, _/_}
@@ -9,16 +9,13 @@ use Rattle.lists.specs.Lists.{bind}
 use Rattle.endian.specs.Endian.{le16, le32}
 use Rattle.address.specs.Limits.{maxBlocks}
 use Rattle.page.specs.declared.Pair.{Pair}
-use Rattle.page.specs.declared.Entry.{Entry}
 use Rattle.page.specs.Pair.{badPair}
 use Rattle.model.specs.declared.Order.{Order}
 use Rattle.model.specs.declared.Refusal.{Refusal}
 use Rattle.model.specs.declared.Answer.{Answer}
 use Rattle.model.specs.declared.LookupAnswer.{LookupAnswer}
-use Rattle.model.specs.declared.WorkAnswer.{WorkAnswer}
 use Rattle.model.specs.declared.Phase.{Phase}
 use Rattle.model.specs.declared.Standing.{Standing}
-use Rattle.model.specs.declared.StandingAnswer.{StandingAnswer}
 use Rattle.model.specs.Index.{Job, idle, copying, clearing, Index, noChain, bucket, newBucket, oldBucket}
 use Rattle.model.specs.Pages.{put, cut}
 use Rattle.model.specs.Held.{held, matches, count, slack}

@@ -15,7 +15,7 @@ use Rattle.model.specs.Machine.{formatting, inserting, CallFits, accepte
 use Rattle.model.specs.MachineLaws.{never}
 use Rattle.model.specs.Book.{has, puts, takes, movers, Split, noSplit, since, oneStep, stirred}
 use Rattle.model.specs.BookLaws.{noted-ascending, has-puts, has-takes}
-use Rattle.model.specs.History.{Moment, stepIn, stepped, marked, start}
+use Rattle.model.specs.History.{Moment, stepAt, stepped, marked, start}
 use Rattle.model.specs.WellFormed.{WF}
 use Rattle.model.specs.FormatLaws.{format-wf, format-held}
 use Rattle.model.specs.FrameLaws.{insert-frame, remove-frame, begin-frame, job-frame}
@@ -137,7 +137,7 @@ step-inv t y i h = rw (phase-job x) (go (x .job) refl)
     newer : suc (x .maxBucket) ≡ 2 + t .begins
     newer = omega (arith, i .newest)
 
-    go : (j : Job) → x .job ≡ j → Inv (stepIn onIndex (phaseIn j (oldBucket x) (newBucket x)) t y)
+    go : (j : Job) → x .job ≡ j → Inv (stepAt onIndex (phaseIn j (oldBucket x) (newBucket x)) t y)
     go copying e = inJob (λ k. never (cc))
     go clearing e = inJob (λ k. never (cc))
     go idle e =

@@ -12,7 +12,7 @@ use Rattle.model.specs.Calls.{work}
 use Rattle.model.specs.Machine.{Call, formatting, CallFits, accepted, Ran, runIndex, onIndex}
 use Rattle.model.specs.MachineLaws.{never}
 use Rattle.model.specs.Book.{Effect, empties, puts, takes, leaves, hasSteps, effect}
-use Rattle.model.specs.History.{Moment, phaseAt, stepIn, stepped, stages, lastOf, within, marked, after, history}
+use Rattle.model.specs.History.{Moment, phaseAt, stepAt, stepped, stages, lastOf, within, marked, after, history}
 use Rattle.model.specs.History.{start, Always}
 use Rattle.model.specs.RunLaws.{Running, refuses, formats, inserts, removes, reads, works, run-view}
 use Rattle.model.specs.Demand3InvLaws.{Inv, start-inv, format-inv, insert-inv, remove-inv, step-inv}
@@ -36,7 +36,7 @@ stages-end : (n : ℕ) (t : Moment onIndex)
 stages-end zero t = refl
 stages-end (suc n) t = go (step (t .state)) refl (λ y. stages-end n (stepped onIndex t y))
   where
-    state-of : (ph : Phase) (y : Index) → stepIn onIndex ph t y .state ≡ y
+    state-of : (ph : Phase) (y : Index) → stepAt onIndex ph t y .state ≡ y
     state-of Phase.None y = refl
     state-of (Phase.Copying o n) y = refl
     state-of (Phase.Clearing o n) y = refl

@@ -1,5 +1,5 @@
 -- What is held, what a lookup matches, and the count of held pairs (docs/RULES.md 6.2, 6.5 and 6.6).
-use mathlib.Core.Bool.{Bool, true, false, cond, not, _&&_}
+use mathlib.Core.Bool.{Bool, true, false, not, _&&_}
 use mathlib.Core.List.{List, [], _∷_, _++_, map}
 use Prim.Native.Nat.{ℕ, suc, _*_}
 use lib.Dec.{eqb, ltb}

@@ -37,8 +37,8 @@ module _ (M : Machine) where
       ]
 
   -- a step at phase none is a begin
-  abbrev pub stepIn : Phase → Moment → State → Moment
-  stepIn Phase.None t s =
+  abbrev pub stepAt : Phase → Moment → State → Moment
+  stepAt Phase.None t s =
       record {
         state = s;
         book = t .book;
@@ -46,13 +46,13 @@ module _ (M : Machine) where
         begins = suc (t .begins);
         split = since true (movers (2 + t .begins) (t .book)) 1;
       }
-  stepIn (Phase.Copying o n) t s =
+  stepAt (Phase.Copying o n) t s =
       record { state = s; book = t .book; fill = t .fill; begins = t .begins; split = oneStep (t .split) }
-  stepIn (Phase.Clearing o n) t s =
+  stepAt (Phase.Clearing o n) t s =
       record { state = s; book = t .book; fill = t .fill; begins = t .begins; split = oneStep (t .split) }
 
   abbrev pub stepped : Moment → State → Moment
-  stepped t s = stepIn (phaseAt (t .state)) t s
+  stepped t s = stepAt (phaseAt (t .state)) t s
 
   -- after each single step of a work call
   abbrev pub stages : (budget : ℕ) → Moment → List Moment

@@ -11,7 +11,7 @@ use Rattle.model.specs.declared.Phase.{Phase}
 use Rattle.model.specs.Steps.{Step, next, stopped}
 use Rattle.model.specs.Machine.{Call, formatting, CallFits, accepted, Machine}
 use Rattle.model.specs.Book.{Effect, empties, puts, takes, leaves, hasSteps, effect, noted}
-use Rattle.model.specs.History.{Moment, phaseAt, stepIn, stepped, stages, lastOf, within, marked, after, history}
+use Rattle.model.specs.History.{Moment, phaseAt, stepAt, stepped, stages, lastOf, within, marked, after, history}
 use Rattle.model.specs.History.{start, Always}
 
 pub always-map : {M : Machine} (P Q : Moment M → Type 0) → ((t : Moment M) → P t → Q t) → Always M P → Always M Q
@@ -41,7 +41,7 @@ module _ (M : Machine) where
   stages-book zero t = refl
   stages-book (suc n) t = go (M .step (t .state)) refl (stages-book n)
     where
-      kept : (ph : Phase) (s : M .State) → stepIn M ph t s .book ≡ t .book
+      kept : (ph : Phase) (s : M .State) → stepAt M ph t s .book ≡ t .book
       kept Phase.None s = refl
       kept (Phase.Copying o n) s = refl
       kept (Phase.Clearing o n) s = refl
@@ -78,7 +78,7 @@ module _ (M : Machine) (P : M .State → Type 0)
   stepped-keeps : (t : Moment M) (s : M .State) → P s → At (stepped M t s)
   stepped-keeps t s p = go (phaseAt M (t .state))
     where
-      go : (ph : Phase) → At (stepIn M ph t s)
+      go : (ph : Phase) → At (stepAt M ph t s)
       go Phase.None = p
       go (Phase.Copying o n) = p
       go (Phase.Clearing o n) = p

@@ -1,8 +1,7 @@
 -- The hash index as a value, without its bytes and with nothing in it that follows from something else (docs/RULES.md
 -- 1, 3 and 4).
-use mathlib.Core.Bool.{Bool, cond}
 use mathlib.Core.List.{List, [], _∷_, _++_}
-use Prim.Native.Nat.{ℕ, suc}
+use Prim.Native.Nat.{ℕ}
 use lib.ListN.{getD, set}
 use Rattle.address.specs.Address.{bucketOf, splitFrom, point}
 use Rattle.page.specs.declared.Pair.{Pair}

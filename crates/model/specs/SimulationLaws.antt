@@ -14,7 +14,7 @@ use Rattle.model.specs.Machine.{Call, formatting, asking, CallFits, acce
 use Rattle.model.specs.MachineLaws.{never}
 use Rattle.model.specs.Book.{Effect, empties, puts, takes, leaves, hasSteps, effect, noted, movers, since}
 use Rattle.model.specs.Book.{oneStep, counted, filled, begun}
-use Rattle.model.specs.History.{Moment, phaseAt, stepIn, stepped, stages, lastOf, within, marked, after, history}
+use Rattle.model.specs.History.{Moment, phaseAt, stepAt, stepped, stages, lastOf, within, marked, after, history}
 use Rattle.model.specs.History.{start, Always}
 use Rattle.model.specs.Demand.{WorkIs}
 
@@ -103,7 +103,7 @@ module _ {M L : Machine} (R : L .State → M .State → Type 0) where
     pub split : t .split ≡ u .split
 
   stepIn-beside : (ph : Phase) (t : Moment L) (u : Moment M) (s : L .State) (x : M .State) → Beside t u → R s x
-      → Beside (stepIn L ph t s) (stepIn M ph u x)
+      → Beside (stepAt L ph t s) (stepAt M ph u x)
   stepIn-beside Phase.None t u s x b r =
       record {
         state = r;

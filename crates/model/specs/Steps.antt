@@ -4,7 +4,6 @@ use mathlib.Core.List.{List, [], _∷_, _++_}
 use mathlib.Core.Option.{Option, none, some}
 use Prim.Native.Nat.{ℕ, zero, suc, _+_}
 use lib.Dec.{leb, ltb, eqb}
-use lib.ListN.{getD}
 use Rattle.lists.specs.Lists.{any, find, tally}
 use Rattle.address.specs.Address.{bucketsAt, point}
 use Rattle.page.specs.declared.Entry.{Entry}

@@ -22,9 +22,9 @@ use Rattle.outcomes.specs.Outcomes.{runStore, onStore}
 -- ---- calls, one after the other
 
 module _ (M : Machine) where
-  abbrev pub after : List Call → M .State → M .State
-  after [] s = s
-  after (c ∷ cs) s = after cs (M .run c s .state)
+  abbrev pub stateAfter : List Call → M .State → M .State
+  stateAfter [] s = s
+  stateAfter (c ∷ cs) s = stateAfter cs (M .run c s .state)
 
   abbrev pub replies : List Call → M .State → List Reply
   replies [] s = []
@@ -35,19 +35,19 @@ abbrev pub orderOf : ℕ → Order
 orderOf fill = record { fill = fill }
 
 -- a hash code, with one reading's place for all
-abbrev pub pairOf : ℕ → Pair
-pairOf h = record { hash = h; block = 9; offset = 1 }
+abbrev pub cardPair : ℕ → Pair
+cardPair h = record { hash = h; block = 9; offset = 1 }
 
 -- k even hash codes from 0 on
 abbrev pub evens : ℕ → List Call
-evens k = map (λ (i : ℕ). inserting (pairOf (2 * i))) (upFrom 0 k)
+evens k = map (λ (i : ℕ). inserting (cardPair (2 * i))) (upFrom 0 k)
 
 -- E's 41 inserts, of which the last is hash 80; F's removal of that; G's three inserts, of hashes 0, 2, 4
 abbrev pub filledE : List Call
 filledE = formatting (orderOf 40) ∷ evens 41
 
 abbrev pub filledF : List Call
-filledF = filledE ++ removing (pairOf 80) ∷ []
+filledF = filledE ++ removing (cardPair 80) ∷ []
 
 abbrev pub filledG : List Call
 filledG = formatting (orderOf 1) ∷ evens 3
@@ -88,8 +88,8 @@ a is b = record { gives = map pos a; said = map pos b }
 -- `fresh n` is a store of n blocks before its first format, of any bytes
 module _ (fresh : ℕ → List ℕ) where
   -- the store of n blocks after the calls
-  abbrev pub storeAfter : ℕ → List Call → List ℕ
-  storeAfter n cs = after onStore cs (fresh n)
+  abbrev pub cardStore : ℕ → List Call → List ℕ
+  cardStore n cs = stateAfter onStore cs (fresh n)
 
   -- the numbers that the calls get, where 0 is done
   abbrev pub nos : ℕ → List Call → List ℕ
@@ -97,7 +97,7 @@ module _ (fresh : ℕ → List ℕ) where
 
   -- what one more call gets
   abbrev pub gets : ℕ → List Call → Call → List ℕ
-  gets n cs c = replyNumbers (runStore c (storeAfter n cs) .reply)
+  gets n cs c = replyNumbers (runStore c (cardStore n cs) .reply)
 
   unfoldable pub cards : List Card
   cards =
@@ -110,24 +110,24 @@ module _ (fresh : ℕ → List ℕ) where
       ∷ (nos 4 (formatting (orderOf 10) ∷ []) is (0 ∷ []))
       ∷ (nos 3 (formatting (orderOf 10) ∷ []) is (1 ∷ []))
       -- D. N = 4, fill 40: even hashes, 40 accepted, 41st gets 7; an odd one is accepted.
-      ∷ (nos 4 (formatting (orderOf 40) ∷ evens 41 ++ inserting (pairOf 1) ∷ []) is (0 ∷ replicate 40 0 ++ 7 ∷ 0 ∷ []))
+      ∷ (nos 4 (formatting (orderOf 40) ∷ evens 41 ++ inserting (cardPair 1) ∷ []) is (0 ∷ replicate 40 0 ++ 7 ∷ 0 ∷ []))
       -- E. Same with N = 5: the 41st goes to block 4, spares[1] = 2.
       ∷ (nos 5 filledE is (0 ∷ replicate 41 0))
-      ∷ (hashesOn (block (storeAfter 5 filledE) 4) is (80 ∷ []))
-      ∷ ((getD (metaAt (storeAfter 5 filledE) .spares) 1 0 ∷ []) is (2 ∷ []))
+      ∷ (hashesOn (block (cardStore 5 filledE) 4) is (80 ∷ []))
+      ∷ ((getD (metaAt (cardStore 5 filledE) .spares) 1 0 ∷ []) is (2 ∷ []))
       -- F. E, then the 41st's page emptied: bit 1 is 0, first free 1, block 4 is used next.
-      ∷ (hashesOn (block (storeAfter 5 filledF) 4) is [])
-      ∷ ((bitAt (storeAfter 5 filledF) 1 ∷ metaAt (storeAfter 5 filledF) .free ∷ []) is (0 ∷ 1 ∷ []))
-      ∷ (hashesOn (block (storeAfter 5 (filledF ++ inserting (pairOf 82) ∷ [])) 4) is (82 ∷ []))
+      ∷ (hashesOn (block (cardStore 5 filledF) 4) is [])
+      ∷ ((bitAt (cardStore 5 filledF) 1 ∷ metaAt (cardStore 5 filledF) .free ∷ []) is (0 ∷ 1 ∷ []))
+      ∷ (hashesOn (block (cardStore 5 (filledF ++ inserting (cardPair 82) ∷ [])) 4) is (82 ∷ []))
       -- G. N = 6, fill 1, hashes 0, 2, 4: slack −1, `w 9` gives 5 steps, stop 9.
-      ∷ record { gives = slackIn (runStore asking (storeAfter 6 filledG) .reply); said = minusOne ∷ [] }
+      ∷ record { gives = slackIn (runStore asking (cardStore 6 filledG) .reply); said = minusOne ∷ [] }
       ∷ (gets 6 filledG (working 9) is (0 ∷ 5 ∷ 9 ∷ []))
       -- H. G with N = 5: 0 steps, stop 7.
       ∷ (gets 5 filledG (working 9) is (0 ∷ 0 ∷ 7 ∷ []))
       -- I. G with `w 2`: hash 2 found once; removed; `w 9` gives 2 steps, stop 9.
       ∷ (gets 6 (filledG ++ working 2 ∷ []) (looking 2 (replicate 60 0)) is (0 ∷ 1 ∷ []))
-      ∷ (gets 6 (filledG ++ working 2 ∷ []) (removing (pairOf 2)) is (0 ∷ []))
-      ∷ (gets 6 (filledG ++ working 2 ∷ removing (pairOf 2) ∷ []) (working 9) is (0 ∷ 2 ∷ 9 ∷ []))
+      ∷ (gets 6 (filledG ++ working 2 ∷ []) (removing (cardPair 2)) is (0 ∷ []))
+      ∷ (gets 6 (filledG ++ working 2 ∷ removing (cardPair 2) ∷ []) (working 9) is (0 ∷ 2 ∷ 9 ∷ []))
       -- J. No match, output of 0 bytes: done, 0.
       ∷ (gets 4 (formatting (orderOf 1) ∷ []) (looking 7 []) is (0 ∷ 0 ∷ []))
       -- K. Budget 0: 0 steps, stop 0.

@@ -11,7 +11,7 @@ use lib.ListN.{length, getD, drop, replicate}
 use Rattle.lists.specs.Lists.{upFrom, Each}
 use Rattle.lists.specs.Block.{blocks, block}
 use Rattle.endian.specs.Endian.{le16, le32, u16At, u32At}
-use Rattle.address.specs.Address.{bucketsAt, maskDigits, highMask, lowMask, bucketOf, digits, splitFrom}
+use Rattle.address.specs.Address.{bucketsAt, maskDigits, highMask, lowMask, bucketOf, bitLength, splitFrom}
 use Rattle.address.specs.Address.{point, bucketPoint, bucketBlock, bitBlock, made}
 use Rattle.address.specs.Role.{roleOf}
 use Rattle.page.specs.Entries.{encodeEntry, encodePage, readEntry, entryAt, entriesFrom, entriesOf}
@@ -35,8 +35,8 @@ use Rattle.image.specs.EncodeLaws.{block-encode}
 use Rattle.image.specs.EncodePagesLaws.{meta-encode, point-encode, spares-encode}
 use Rattle.image.specs.SoundStore.{Encodes}
 use Rattle.outcomes.specs.OutcomeMachineLaws.{simulates}
-use Rattle.outcomes.specs.Cards.{after, replies, orderOf, pairOf, evens, replyNumbers, slackIn, hashesOn, Card}
-use Rattle.outcomes.specs.Cards.{storeAfter, nos, cards, Bench}
+use Rattle.outcomes.specs.Cards.{stateAfter, replies, orderOf, cardPair, evens, replyNumbers, slackIn, hashesOn, Card}
+use Rattle.outcomes.specs.Cards.{cardStore, nos, cards, Bench}
 
 -- ---- a store and the index whose bytes it is
 
@@ -59,7 +59,7 @@ module _ {s : List ℕ} {x : Index} (r : Encodes s x) where
 -- ---- the same calls on both
 
 after-encodes : (cs : List Call) → Each CallFits cs → (s : List ℕ) (x : Index) → Encodes s x
-    → Encodes (after onStore cs s) (after onIndex cs x)
+    → Encodes (stateAfter onStore cs s) (stateAfter onIndex cs x)
 after-encodes [] f s x r = r
 after-encodes (c ∷ cs) f s x r =
     after-encodes cs (f .1) (runStore c s .state) (runIndex c x .state) (simulates .state c (f .0) s x r)
@@ -75,7 +75,7 @@ replies-encode (c ∷ cs) f s x r =
 evens-fit : (k : ℕ) → k < 1000 → (cs : List Call) → Each CallFits cs → Each CallFits (evens k ++ cs)
 evens-fit k h cs f = go 0 k (omega arith)
   where
-    go : (i k : ℕ) → i + k < 1000 → Each CallFits (map (λ (i : ℕ). inserting (pairOf (2 * i))) (upFrom i k) ++ cs)
+    go : (i k : ℕ) → i + k < 1000 → Each CallFits (map (λ (i : ℕ). inserting (cardPair (2 * i))) (upFrom i k) ++ cs)
     go i zero h = f
     go i (suc k) h = ((omega arith, omega arith, omega arith), go (suc i) k (omega arith))
 
@@ -118,7 +118,7 @@ module _ (fresh : ℕ → List ℕ) (e : (n : ℕ) → length (fresh n) ≡ 512 
       abbrev cs : List Call
       cs = evens k ++ more
 
-      store-is : Encodes (storeAfter fresh n (formatting o ∷ cs)) (after onIndex cs (format n o))
+      store-is : Encodes (cardStore fresh n (formatting o ∷ cs)) (stateAfter onIndex cs (format n o))
       unfolding start
       store-is = after-encodes cs (evens-fit k h more f) start (format n o) format-encodes
 
@@ -130,32 +130,32 @@ module _ (fresh : ℕ → List ℕ) (e : (n : ℕ) → length (fresh n) ≡ 512 
           (replies-encode cs (evens-fit k h more f) start (format n o) format-encodes)
 
       reply-is : (c : Call) → CallFits c
-          → runStore c (storeAfter fresh n (formatting o ∷ cs)) .reply
-          ≡ runIndex c (after onIndex cs (format n o)) .reply
+          → runStore c (cardStore fresh n (formatting o ∷ cs)) .reply
+          ≡ runIndex c (stateAfter onIndex cs (format n o)) .reply
       reply-is c g =
-          simulates .reply c g (storeAfter fresh n (formatting o ∷ cs)) (after onIndex cs (format n o)) store-is
+          simulates .reply c g (cardStore fresh n (formatting o ∷ cs)) (stateAfter onIndex cs (format n o)) store-is
 
   -- cards C to K: E and F are the stores after those cards' calls, each with its index; G to J are what calls get
   calls : Each (λ (c : Card). c .gives ≡ c .said) (drop 3 (cards fresh))
   unfolding cards
-      bucketsAt maskDigits highMask lowMask bucketOf digits splitFrom point bucketPoint bucketBlock bitBlock made
+      bucketsAt maskDigits highMask lowMask bucketOf bitLength splitFrom point bucketPoint bucketBlock bitBlock made
       freeBit firstFree takePage put cut sources held matches count slack wanted begin step
       format insert remove lookup standing work runIndex
       metaOf padded mapFront roleOf encodeBlock sealedBlock image paged blank sealed covered trailer
       le16 le32 u16At u32At encodeEntry encodePage readEntry entryAt entriesFrom entriesOf
   calls =
       let E = store-is 5 (orderOf 40) refl refl 41 (omega arith) [] tt in
-      let F = store-is 5 (orderOf 40) refl refl 41 (omega arith) (removing (pairOf 80) ∷ []) (omega arith) in
+      let F = store-is 5 (orderOf 40) refl refl 41 (omega arith) (removing (cardPair 80) ∷ []) (omega arith) in
       let F₂ =
-      store-is 5 (orderOf 40) refl refl 41 (omega arith) (removing (pairOf 80) ∷ inserting (pairOf 82) ∷ []) (omega arith) in
+      store-is 5 (orderOf 40) refl refl 41 (omega arith) (removing (cardPair 80) ∷ inserting (cardPair 82) ∷ []) (omega arith) in
       let G = reply-is 6 (orderOf 1) refl refl 3 (omega arith) [] tt in
       let H = reply-is 5 (orderOf 1) refl refl 3 (omega arith) [] tt in
       let I = reply-is 6 (orderOf 1) refl refl 3 (omega arith) (working 2 ∷ []) (omega arith) in
-      let I₂ = reply-is 6 (orderOf 1) refl refl 3 (omega arith) (working 2 ∷ removing (pairOf 2) ∷ []) (omega arith) in
+      let I₂ = reply-is 6 (orderOf 1) refl refl 3 (omega arith) (working 2 ∷ removing (cardPair 2) ∷ []) (omega arith) in
       let J = reply-is 4 (orderOf 1) refl refl 0 (omega arith) [] tt in
       ap (map pos) (nos-are 4 (orderOf 10) refl refl 0 (omega arith) [] tt)
       also ap (map pos) refused-C
-      also ap (map pos) (nos-are 4 (orderOf 40) refl refl 41 (omega arith) (inserting (pairOf 1) ∷ []) (omega arith))
+      also ap (map pos) (nos-are 4 (orderOf 40) refl refl 41 (omega arith) (inserting (cardPair 1) ∷ []) (omega arith))
       also ap (map pos) (nos-are 5 (orderOf 40) refl refl 41 (omega arith) [] tt)
       also ap page (block-is E 4 (omega arith))
       also ap (λ (m : Meta). pos (getD (m .spares) 1 0) ∷ []) (meta-is E)
@@ -166,7 +166,7 @@ module _ (fresh : ℕ → List ℕ) (e : (n : ℕ) → length (fresh n) ≡ 512 
       also ap reply (G (working 9) (omega arith))
       also ap reply (H (working 9) (omega arith))
       also ap reply (I (looking 2 (replicate 60 0)) (omega arith))
-      also ap reply (I (removing (pairOf 2)) (omega arith))
+      also ap reply (I (removing (cardPair 2)) (omega arith))
       also ap reply (I₂ (working 9) (omega arith))
       also ap reply (J (looking 7 []) (omega arith))
       also ap reply (J (working 0) (omega arith))

@@ -1,10 +1,9 @@
 -- What each call does to a store: from bytes, numbers and output to answer, store and output. docs/RULES.md 2.2: "The
 -- order is 1, 2, 3, 4, 8, 5 or 6, 7. Format tests 1 and 2 only. Every refusal leaves store and output untouched, but
 -- for work (6.7)."
-use mathlib.Core.Bool.{Bool, true, false, cond, _&&_}
+use mathlib.Core.Bool.{Bool, true, false, cond}
 use mathlib.Core.List.{List}
-use Prim.Native.Nat.{ℕ, _%_}
-use lib.Dec.{eqb}
+use Prim.Native.Nat.{ℕ}
 use lib.ListN.{length}
 use Rattle.lists.specs.Block.{blocks}
 use Rattle.endian.specs.Endian.{u32At}
@@ -17,7 +16,7 @@ use Rattle.model.specs.declared.WorkAnswer.{WorkAnswer}
 use Rattle.model.specs.declared.StandingAnswer.{StandingAnswer}
 use Rattle.model.specs.Index.{Index}
 use Rattle.model.specs.Steps.{Step, next, stopped, Worked, step, iterate}
-use Rattle.model.specs.Calls.{Result, done, refused, sizeOk, formatOk, pairOk, budgetOk, format, insert, remove}
+use Rattle.model.specs.Calls.{Result, done, refused, formatOk, pairOk, budgetOk, format, insert, remove}
 use Rattle.model.specs.Calls.{Looked}
 use Rattle.model.specs.Calls.{lookup, standing}
 use Rattle.model.specs.Machine.{Call, formatting, inserting, removing, looking, working, asking, plain, looked}

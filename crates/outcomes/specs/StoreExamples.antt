@@ -7,7 +7,7 @@ use Rattle.lists.specs.Bytes.{part, allZero}
 use Rattle.lists.specs.Block.{blocks, block}
 use Rattle.endian.specs.Endian.{le16, le32, u16At, u32At}
 use Rattle.crc32c.specs.Crc.{crcBit, crcBits, crcByte, crcBytes, crcOf}
-use Rattle.address.specs.Address.{bucketsAt, maskDigits, highMask, lowMask, bucketOf, digits, splitFrom, lastSplit}
+use Rattle.address.specs.Address.{bucketsAt, maskDigits, highMask, lowMask, bucketOf, bitLength, splitFrom, lastSplit}
 use Rattle.address.specs.Address.{point, bucketPoint, bucketBlock, bitBlock, made}
 use Rattle.address.specs.Role.{roleOf}
 use Rattle.page.specs.Entries.{readEntry, entryAt, entriesFrom, entriesOf}
@@ -24,7 +24,7 @@ use Rattle.image.specs.Rules.{lengthOk}
 -- what verify answers, with all that it takes to compute it
 answer : List ℕ → Verdict
 unfolding verifyOutcome lengthOk part allZero blocks block le16 le32 u16At u32At crcBit crcBits crcByte crcBytes
-    crcOf bucketsAt maskDigits highMask lowMask bucketOf digits splitFrom lastSplit point bucketPoint bucketBlock
+    crcOf bucketsAt maskDigits highMask lowMask bucketOf bitLength splitFrom lastSplit point bucketPoint bucketBlock
     bitBlock made roleOf readEntry entryAt entriesFrom entriesOf numberOk flagsOk numbersOk orderOk restZero
     pageOk covered checkOf checks checked count wordsAt readMeta follow decode frontOk sparesOk metaOk fits
     overflowAs rule1 rule2 rule3 linked rule4 rule5 rule6 rule7 rule8 rules lowestDamaged lowestBroken verdict

@@ -7,10 +7,9 @@ use native.Mathlib.Numerals.{add-one}
 use native.Mathlib.Omega.{arith}
 use borrow.Author.Tests.{not-true, not-false}
 use lib.Dec.{eqb}
-use lib.ListN.{length, getD, take, drop}
-use lib.Seq.{drop-cons}
+use lib.ListN.{take}
 use Rattle.lists.specs.Lists.{all, upFrom}
-use Rattle.lists.specs.Bytes.{part, allZero}
+use Rattle.lists.specs.Bytes.{part}
 use Rattle.endian.specs.Endian.{u16At}
 use Rattle.page.specs.declared.Entry.{Entry}
 use Rattle.page.specs.Pair.{before, badPair, pairOf, ascending}

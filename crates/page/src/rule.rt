@@ -14,7 +14,7 @@ ghost use Rattle.page.specs.Entries.{entryAt};
 ghost use Rattle.page.specs.Rule.{numberOk, flagsOk, numbersOk, orderOk, restZero, pageOk};
 
 // Whether there are at most 40 entries.
-pub fn check_number(p: &[u8]) -> bool
+fn check_number(p: &[u8]) -> bool
     requires { ⌜ length (now p) ≡ 512 ⌝ }
     ensures { λ r. ⌜ r ≡ numberOk (now (p .entry)) ⌝ }
 {
@@ -22,7 +22,7 @@ pub fn check_number(p: &[u8]) -> bool
 }
 
 // Whether the bytes of the page that no entry uses are zero.
-pub fn check_rest(p: &[u8]) -> bool
+fn check_rest(p: &[u8]) -> bool
     requires { ⌜ (length (now p) ≡ 512) × (numberOk (now p) ≡ true) ⌝ }
     ensures { λ r. ⌜ r ≡ restZero (now (p .entry)) ⌝ }
 {
@@ -45,7 +45,7 @@ fn check_slot(p: &[u8], k: usize) -> bool
 }
 
 // Whether every entry may have its numbers and flags.
-pub fn check_numbers(p: &[u8]) -> bool
+fn check_numbers(p: &[u8]) -> bool
     requires { ⌜ (length (now p) ≡ 512) × (numberOk (now p) ≡ true) ⌝ }
     ensures { λ r. ⌜ r ≡ numbersOk (now (p .entry)) ⌝ }
 {
@@ -61,7 +61,7 @@ pub fn check_numbers(p: &[u8]) -> bool
 }
 
 // Whether each entry stands before the next.
-pub fn check_order(p: &[u8]) -> bool
+fn check_order(p: &[u8]) -> bool
     requires { ⌜ (length (now p) ≡ 512) × (numberOk (now p) ≡ true) ⌝ }
     ensures { λ r. ⌜ r ≡ orderOk (now (p .entry)) ⌝ }
 {

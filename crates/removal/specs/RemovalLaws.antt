@@ -26,7 +26,7 @@ use Rattle.chain.specs.declared.Found.{Found}
 use Rattle.view.specs.declared.Sources.{Sources}
 use Rattle.view.specs.Reads.{Reads}
 use Rattle.view.specs.ReadsLaws.{reads-laid, reads-count}
-use Rattle.view.specs.Places.{sourcesIn, sourcesOf, heldAt}
+use Rattle.view.specs.Places.{sourcesBy, sourcesOf, heldAt}
 use Rattle.view.specs.SourcesLaws.{sources-both}
 use Rattle.view.specs.HeldLaws.{heldAt-none, heldAt-some}
 use Rattle.plan.specs.Plan.{Plans, Settles, accepted, declined}
@@ -38,7 +38,7 @@ module _ (x : Index) (p : Pair) where
   unfolding sourcesOf
   cut-home b e = go (x .job) (eqb (bucket x p) (newBucket x)) e
     where
-      go : (j : Job) (t : Bool) → sourcesIn j (oldBucket x) (bucket x p) t ≡ Sources.Home b
+      go : (j : Job) (t : Bool) → sourcesBy j (oldBucket x) (bucket x p) t ≡ Sources.Home b
           → cutHeld j x p t ≡ cut p b x
       go idle t e = let q : bucket x p ≡ b = cc in ap (λ (a : ℕ). cut p a x) q
       go clearing t e = let q : bucket x p ≡ b = cc in ap (λ (a : ℕ). cut p a x) q
@@ -51,7 +51,7 @@ module _ (x : Index) (p : Pair) where
   cut-both new old e = go (x .job) (eqb (bucket x p) (newBucket x)) refl e
     where
       go : (j : Job) (t : Bool) → eqb (bucket x p) (newBucket x) ≡ t
-          → sourcesIn j (oldBucket x) (bucket x p) t ≡ Sources.Both new old → cutHeld j x p t ≡ cut p new (cut p old x)
+          → sourcesBy j (oldBucket x) (bucket x p) t ≡ Sources.Both new old → cutHeld j x p t ≡ cut p new (cut p old x)
       go idle t q e = never (cc)
       go clearing t q e = never (cc)
       go copying false q e = never (cc)

@@ -1,6 +1,6 @@
 -- The chain of a bucket by its blocks: the walk from the bucket's page, and the entries page by page.
 use mathlib.Core.Path.{_≡_, refl, sym, ap, _∙_, subst}
-use mathlib.Core.Bool.{Bool, true}
+use mathlib.Core.Bool.{true}
 use mathlib.Core.List.{List, [], _∷_, map}
 use Prim.Native.Nat.{ℕ, zero, suc, _≤_, _<_}
 use native.Mathlib.Omega.{arith}
@@ -9,7 +9,6 @@ use Rattle.lists.specs.Lists.{all, bind, Each}
 use Rattle.lists.specs.RunLaws.{all-get}
 use Rattle.lists.specs.Block.{blocks, block}
 use Rattle.address.specs.Address.{bucketBlock}
-use Rattle.page.specs.declared.Entry.{Entry}
 use Rattle.page.specs.Rule.{pageOk}
 use Rattle.model.specs.Index.{Page, Chain, Index, chain, entriesAt}
 use Rattle.image.specs.declared.Meta.{Meta}

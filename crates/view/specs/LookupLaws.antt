@@ -21,7 +21,7 @@ use Rattle.model.specs.Index.{Index, chain, entriesAt}
 use Rattle.model.specs.Held.{self, matches}
 use Rattle.model.specs.declared.Refusal.{Refusal}
 use Rattle.model.specs.declared.LookupAnswer.{LookupAnswer}
-use Rattle.model.specs.Calls.{Looked, lookup}
+use Rattle.model.specs.Calls.{lookup}
 use Rattle.model.specs.WellFormed.{EntryOk, WF}
 use Rattle.image.specs.declared.Meta.{Meta}
 use Rattle.image.specs.Decode.{decode}

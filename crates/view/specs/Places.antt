@@ -31,14 +31,14 @@ roomAt x b =
     cond (chainRoom c) (Room.Page (pageBlock x b (roomPlace c))) (Room.Full (pageBlock x b (lastPlace c)))
 
 -- the buckets among whose entries the pairs of a hash code are held
-abbrev pub sourcesIn : Job → (old home : ℕ) → (populated : Bool) → Sources
-sourcesIn idle old home new = Sources.Home home
-sourcesIn clearing old home new = Sources.Home home
-sourcesIn copying old home true = Sources.Both home old
-sourcesIn copying old home false = Sources.Home home
+abbrev pub sourcesBy : Job → (old home : ℕ) → (populated : Bool) → Sources
+sourcesBy idle old home new = Sources.Home home
+sourcesBy clearing old home new = Sources.Home home
+sourcesBy copying old home true = Sources.Both home old
+sourcesBy copying old home false = Sources.Home home
 
 unfoldable pub sourcesOf : Index → (hash : ℕ) → Sources
-sourcesOf x h = let b = bucketOf (x .maxBucket) h in sourcesIn (x .job) (oldBucket x) b (eqb b (newBucket x))
+sourcesOf x h = let b = bucketOf (x .maxBucket) h in sourcesBy (x .job) (oldBucket x) b (eqb b (newBucket x))
 
 -- the blocks of the chains of the sources: of the own bucket's chain, and of the old one's
 abbrev pub ownBlocks : Index → Sources → List ℕ

@@ -1,9 +1,9 @@
 -- What the searches along a bucket's chain find: the places of the index.
 use mathlib.Core.Path.{_≡_, refl, sym, ap, _∙_}
 use mathlib.Core.Bool.{Bool, true, false, cond}
-use mathlib.Core.List.{List, _∷_}
-use mathlib.Core.Option.{Option, none, some}
-use Prim.Native.Nat.{ℕ, suc, pred, _≤_, _<_}
+use mathlib.Core.List.{List}
+use mathlib.Core.Option.{none, some}
+use Prim.Native.Nat.{ℕ, suc, pred, _≤_}
 use native.Mathlib.Omega.{arith}
 use lib.ListN.{length, getD, length-map}
 use Rattle.lists.specs.Lists.{any, find}
@@ -11,18 +11,18 @@ use Rattle.page.specs.declared.Pair.{Pair}
 use Rattle.page.specs.declared.Entry.{Entry}
 use Rattle.page.specs.Pair.{is}
 use Rattle.page.specs.Places.{placeOf}
-use Rattle.model.specs.Index.{Page, Chain, Index, chain, entriesAt}
+use Rattle.model.specs.Index.{Page, Index, chain, entriesAt}
 use Rattle.model.specs.Pages.{pageRoom, chainRoom}
 use Rattle.image.specs.declared.Meta.{Meta}
 use Rattle.store.specs.Flags.{noLink}
-use Rattle.image.specs.Decode.{blockOf, trail, readPage, readChain, decode}
+use Rattle.image.specs.Decode.{blockOf, trail, readPage, decode}
 use Rattle.frame.specs.Frame.{blockOfBit, chainBlocks, pageBlock, pageEntries, firstPlace, roomPlace, lastPlace}
 use Rattle.frame.specs.Frame.{onPage, pairPlace}
 use Rattle.chain.specs.declared.Found.{Found}
 use Rattle.chain.specs.declared.Room.{Room}
 use Rattle.chain.specs.Walk.{walk, lastOf}
 use Rattle.chain.specs.WalkLaws.{walk-trail}
-use Rattle.chain.specs.Search.{pairOn, roomOn, foundAs, findIn, roomAs, roomIn, isFound}
+use Rattle.chain.specs.Search.{pairOn, roomOn, foundAs, findIn, roomAs, roomIn}
 use Rattle.chain.specs.Within.{entriesOn}
 use Rattle.chain.specs.FindLaws.{any-bind}
 use Rattle.chain.specs.DecodeLaws.{chain-decode, room-walk}

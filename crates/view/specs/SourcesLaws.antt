@@ -23,7 +23,7 @@ use Rattle.image.specs.Decode.{maxAt, blockOf, newFlags, oldFlags, decode}
 use Rattle.view.specs.declared.Sources.{Sources}
 use Rattle.view.specs.Reads.{Reads}
 use Rattle.view.specs.ReadsLaws.{reads-laid, reads-max}
-use Rattle.view.specs.Places.{sourcesIn, sourcesOf}
+use Rattle.view.specs.Places.{sourcesBy, sourcesOf}
 
 -- the entries of the sources
 abbrev pub entriesBy : Index → Sources → List Entry
@@ -37,7 +37,7 @@ sources-by x h = go (x .job) (eqb (bucketOf (x .maxBucket) h) (newBucket x))
     b : ℕ
     b = bucketOf (x .maxBucket) h
 
-    go : (j : Job) (new : Bool) → model.sourcesIn j x b new ≡ entriesBy x (sourcesIn j (oldBucket x) b new)
+    go : (j : Job) (new : Bool) → model.sourcesIn j x b new ≡ entriesBy x (sourcesBy j (oldBucket x) b new)
     go idle new = refl
     go clearing new = refl
     go copying true = refl
@@ -59,7 +59,7 @@ module _ (x : Index) (h : ℕ) where
   sources-both new old e = go (x .job) (eqb b (newBucket x)) refl refl e
     where
       go : (j : Job) (t : Bool) → x .job ≡ j → eqb b (newBucket x) ≡ t
-          → sourcesIn j (oldBucket x) b t ≡ Sources.Both new old → BothOf x h new old
+          → sourcesBy j (oldBucket x) b t ≡ Sources.Both new old → BothOf x h new old
       go idle t k f e = let z : _≡_ {A = ℕ} 0 1 = cc in absurd (omega arith)
       go clearing t k f e = let z : _≡_ {A = ℕ} 0 1 = cc in absurd (omega arith)
       go copying false k f e = let z : _≡_ {A = ℕ} 0 1 = cc in absurd (omega arith)
@@ -71,7 +71,7 @@ module _ (x : Index) (h : ℕ) where
   unfolding sourcesOf
   sources-home d e = go (x .job) (eqb b (newBucket x)) e
     where
-      go : (j : Job) (t : Bool) → sourcesIn j (oldBucket x) b t ≡ Sources.Home d → d ≡ b
+      go : (j : Job) (t : Bool) → sourcesBy j (oldBucket x) b t ≡ Sources.Home d → d ≡ b
       go idle t e = cc
       go clearing t e = cc
       go copying false e = cc
@@ -107,7 +107,7 @@ module _ {s : List ℕ} {m : Meta} (r : Reads s m) (h : ℕ) where
     bucket-is : b ≡ bucketOf max h
     bucket-is = home ∙ ap (λ (k : ℕ). bucketOf k h) max-is
 
-    single : (j : Job) → Sources.Home b ≡ sourcesIn j (splitFrom max) b false
+    single : (j : Job) → Sources.Home b ≡ sourcesBy j (splitFrom max) b false
     single idle = refl
     single clearing = refl
     single copying = refl
@@ -116,8 +116,8 @@ module _ {s : List ℕ} {m : Meta} (r : Reads s m) (h : ℕ) where
     unfolding decode sourcesOf
     source-other ne =
         single (decode s .job)
-        ∙ ap (sourcesIn (decode s .job) (splitFrom max) b) (sym (ne-eqb b max (λ q. ne (q ∙ sym max-is))))
-        ∙ ap (λ (k : ℕ). sourcesIn (decode s .job) (splitFrom max) k (eqb k max)) bucket-is
+        ∙ ap (sourcesBy (decode s .job) (splitFrom max) b) (sym (ne-eqb b max (λ q. ne (q ∙ sym max-is))))
+        ∙ ap (λ (k : ℕ). sourcesBy (decode s .job) (splitFrom max) k (eqb k max)) bucket-is
 
     module _ (same : b ≡ m .max) (f : ℕ) (flags : f ≡ flagsAt (block s (blockOf s b))) where
       flags-are : f ≡ newFlags s
@@ -127,11 +127,11 @@ module _ {s : List ℕ} {m : Meta} (r : Reads s m) (h : ℕ) where
       unfolding decode sourcesOf
       source-settled ne =
           go (eqb (oldFlags s) 66) (eqb b max)
-          ∙ ap (λ (t : Bool). sourcesIn (cond t copying (cond (eqb (oldFlags s) 66) clearing idle)) (splitFrom max) b (eqb b max))
+          ∙ ap (λ (t : Bool). sourcesBy (cond t copying (cond (eqb (oldFlags s) 66) clearing idle)) (splitFrom max) b (eqb b max))
           (sym (ne-eqb (newFlags s) 18 (λ q. ne (flags-are ∙ q))))
-          ∙ ap (λ (k : ℕ). sourcesIn (decode s .job) (splitFrom max) k (eqb k max)) bucket-is
+          ∙ ap (λ (k : ℕ). sourcesBy (decode s .job) (splitFrom max) k (eqb k max)) bucket-is
         where
-          go : (t c : Bool) → Sources.Home b ≡ sourcesIn (cond t clearing idle) (splitFrom max) b c
+          go : (t c : Bool) → Sources.Home b ≡ sourcesBy (cond t clearing idle) (splitFrom max) b c
           go true c = refl
           go false c = refl
 
@@ -139,7 +139,7 @@ module _ {s : List ℕ} {m : Meta} (r : Reads s m) (h : ℕ) where
       unfolding decode sourcesOf
       source-populated q =
           ap (λ (k : ℕ). Sources.Both b (splitFrom k)) (same ∙ max-is)
-          ∙ ap (sourcesIn copying (splitFrom max) b) (sym (eq-eqb b max (same ∙ max-is)))
-          ∙ ap (λ (t : Bool). sourcesIn (cond t copying (cond (eqb (oldFlags s) 66) clearing idle)) (splitFrom max) b (eqb b max))
+          ∙ ap (sourcesBy copying (splitFrom max) b) (sym (eq-eqb b max (same ∙ max-is)))
+          ∙ ap (λ (t : Bool). sourcesBy (cond t copying (cond (eqb (oldFlags s) 66) clearing idle)) (splitFrom max) b (eqb b max))
           (sym (eq-eqb (newFlags s) 18 (sym flags-are ∙ q)))
-          ∙ ap (λ (k : ℕ). sourcesIn (decode s .job) (splitFrom max) k (eqb k max)) bucket-is
+          ∙ ap (λ (k : ℕ). sourcesBy (decode s .job) (splitFrom max) k (eqb k max)) bucket-is

@@ -1,7 +1,7 @@
 use mathlib.Core.Path.{_≡_, refl, sym, ap, _∙_}
 use Prim.Native.Nat.{ℕ, zero, suc, _-_, _^_, _<_}
 use native.Mathlib.Omega.{arith}
-use Rattle.address.specs.Address.{highMask, maskDigits, digits}
+use Rattle.address.specs.Address.{highMask, maskDigits, bitLength}
 use Rattle.address.specs.MaskLaws.{digits-mask, high-mask}
 use Rattle.address.proofs.Leading.{digits-leading, leading-lt, shift-ones}
 use Rattle.address.proofs.high_mask.Statement.{statement}
@@ -22,7 +22,7 @@ shr-result c = let m = c .before .args .max in omega (arith, leading-lt m (omega
 returns-2 : tie.Need-returns-2
 returns-2 c =
     let m = c .before .args .max in
-    shift-ones _ (digits m) (digits-leading m (c .before .fits .max .fits))
+    shift-ones _ (bitLength m) (digits-leading m (c .before .fits .max .fits))
     ∙ ap (λ (d : ℕ). 2 ^ d - 1) (digits-mask m (omega arith))
     ∙ sym (high-mask m)
 

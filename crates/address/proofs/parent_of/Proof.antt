@@ -2,14 +2,14 @@ use mathlib.Core.Path.{_≡_, refl, ap}
 use Prim.Native.Nat.{ℕ, zero, suc, _-_}
 use native.Mathlib.Omega.{arith}
 use borrow.Author.Needs.{needs}
-use Rattle.address.specs.Address.{splitFrom, digits}
+use Rattle.address.specs.Address.{splitFrom, bitLength}
 use Rattle.address.specs.MaskLaws.{top-le}
 use Rattle.address.proofs.Leading.{leading-lt, shift-top}
 use Rattle.address.proofs.parent_of.Statement.{statement}
 use Rattle.address.proofs.parent_of.Tie as tie
 
 of-zero : (m : ℕ) → m ≡ 0 → 0 ≡ splitFrom m
-unfolding splitFrom digits
+unfolding splitFrom bitLength
 of-zero zero e = refl
 of-zero (suc m) e = absurd (omega arith)
 

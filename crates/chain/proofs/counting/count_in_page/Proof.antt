@@ -2,7 +2,6 @@ use mathlib.Core.Path.{_≡_}
 use mathlib.Core.Bool.{true, false}
 use native.Mathlib.Omega.{arith}
 use borrow.Author.Needs.{needs}
-use Rattle.page.specs.Entries.{entriesOf}
 use Rattle.page.specs.Places.{runLength}
 use Rattle.chain.specs.Next.{isMatch}
 use Rattle.chain.proofs.Tallies.{count-few}

@@ -1,11 +1,10 @@
 use mathlib.Core.Path.{_≡_, sym, ap, ap₂, _∙_}
-use mathlib.Core.Bool.{Bool, true, false, _&&_}
+use mathlib.Core.Bool.{true, false}
 use borrow.Author.Tests.{not-true, not-false}
 use lib.Dec.{eqb}
 use Rattle.lists.specs.Lists.{all}
 use Rattle.model.specs.Held.{count}
 use Rattle.image.specs.declared.Meta.{Meta}
-use Rattle.image.specs.Decode.{decode}
 use Rattle.image.specs.Rules.{buckets, rule8}
 use Rattle.entries.specs.Counts.{prevOk}
 use borrow.Author.Needs.{needs}

@@ -1,7 +1,6 @@
 use mathlib.Core.Path.{_≡_, refl, sym, subst}
 use native.Mathlib.Omega.{arith}
 use borrow.Author.Needs.{needs}
-use Rattle.image.specs.declared.Meta.{Meta}
 use Rattle.view.specs.Reads.{Reads}
 use Rattle.index.specs.SoundLaws.{settles-fits, settles-changed}
 use Rattle.index.proofs.sound.insert_sound.Statement.{statement}

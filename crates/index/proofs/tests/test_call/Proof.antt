@@ -6,7 +6,6 @@ use borrow.Author.Needs.{needs}
 use Rattle.image.specs.Rules.{verdict}
 use Rattle.outcomes.specs.Outcomes.{testedIn, tested}
 use Rattle.image.specs.Rules.{lengthOk}
-use Rattle.index.specs.declared.Test.{Test}
 use Rattle.index.specs.Tested.{testOf}
 use Rattle.index.proofs.tests.test_call.Statement.{statement}
 use Rattle.index.proofs.tests.test_call.Tie as tie

@@ -1,11 +1,8 @@
-use mathlib.Core.Path.{_≡_, refl, sym, ap, _∙_}
-use Prim.Native.Nat.{_≤_, _-_}
+use mathlib.Core.Path.{_≡_, refl}
+use Prim.Native.Nat.{_-_}
 use native.Mathlib.Omega.{arith}
 use borrow.Author.Needs.{needs}
 use lib.ListN.{length}
-use Rattle.model.specs.Steps.{iterate}
-use Rattle.outcomes.specs.Outcomes.{stepOutcome}
-use Rattle.index.specs.Sound.{Sound}
 use Rattle.index.specs.SoundLaws.{Working, working-next, working-stop, working-spent, working-none}
 use Rattle.index.proofs.work.work_sound.Statement.{statement}
 use Rattle.index.proofs.work.work_sound.Tie as tie
