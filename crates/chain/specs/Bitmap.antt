@@ -1,10 +1,11 @@
--- The lowest bit of a bitmap block that is 0, with the bits as rule 6 reads them. In a sound store the 0 bits are the
--- free ones.
+-- The lowest 0 bit of a bitmap block, and whether the bits from one on are all 1, with the bits as rule 6 reads them. In
+-- a sound store the 0 bits are the free ones.
+use mathlib.Core.Bool.{Bool}
 use mathlib.Core.List.{List}
 use mathlib.Core.Option.{Option, none, some}
-use Prim.Native.Nat.{ℕ}
+use Prim.Native.Nat.{ℕ, _-_}
 use lib.Dec.{eqb}
-use Rattle.lists.specs.Lists.{find, upFrom}
+use Rattle.lists.specs.Lists.{all, find, upFrom}
 use Rattle.image.specs.Decode.{bitOf}
 use Rattle.chain.specs.declared.Free.{Free}
 
@@ -15,6 +16,10 @@ freeAs (some n) = Free.Bit n
 -- "the lowest 0 bit"
 unfoldable pub lowestFree : List ℕ → Free
 lowestFree l = freeAs (find (λ n. eqb (bitOf l n) 0) (upFrom 0 2048))
+
+-- "Bit 1 means in use or not yet made": the bits from k on
+unfoldable pub onesFrom : List ℕ → (k : ℕ) → Bool
+onesFrom l k = all (λ n. eqb (bitOf l n) 1) (upFrom k (2048 - k))
 
 -- "the lowest 0 bit or, without one, spares[s]"
 abbrev pub freeOr : (top : ℕ) → Free → ℕ

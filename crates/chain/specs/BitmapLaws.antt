@@ -1,22 +1,22 @@
--- The search for the lowest free bit, a bit at a time, and what it finds.
+-- The search for the lowest free bit and the test for ones, a bit or a byte at a time, and what is found.
 use mathlib.Core.Path.{_≡_, refl, sym, ap, _∙_}
 use mathlib.Core.Logic.{_≢_}
-use mathlib.Core.Bool.{Bool}
+use mathlib.Core.Bool.{Bool, true, false, _&&_}
 use mathlib.Core.List.{List, _∷_}
 use mathlib.Core.Option.{Option, none, some, Option·getD}
-use Prim.Native.Nat.{ℕ, suc, _+_, _*_, _-_, _/_, _%_, _^_, _<_}
+use Prim.Native.Nat.{ℕ, zero, suc, _+_, _*_, _-_, _/_, _%_, _^_, _≤_, _<_}
 use native.Mathlib.Numerals.{add-one}
 use native.Mathlib.Omega.{arith}
 use borrow.Author.Tests.{eq-eqb, ne-eqb, eqb-true, eqb-false}
 use lib.Dec.{eqb}
 use lib.ListN.{getD}
-use Rattle.lists.specs.Lists.{find, upFrom}
-use Rattle.lists.specs.RunLaws.{find-run}
+use Rattle.lists.specs.Lists.{all, find, upFrom}
+use Rattle.lists.specs.RunLaws.{all-get, find-run}
 use Rattle.image.specs.Decode.{bitOf}
 use Rattle.frame.specs.ListsLaws.{find-hit, find-pass}
 use Rattle.image.specs.Rules.{mapAt, bitAt}
 use Rattle.chain.specs.declared.Free.{Free}
-use Rattle.chain.specs.Bitmap.{freeAs, lowestFree, freeOr}
+use Rattle.chain.specs.Bitmap.{freeAs, lowestFree, onesFrom, freeOr}
 use Rattle.chain.specs.FindLaws.{run-lower, run-none}
 
 -- bit j of byte i
@@ -25,6 +25,22 @@ bitOf-byte l i j h =
     let q : (8 * i + j) / 8 ≡ i = omega arith in
     let r : (8 * i + j) % 8 ≡ j = omega arith in
     λ t. getD l (q t) 0 / 2 ^ (r t) % 2
+
+-- each bit of the byte 255 is 1
+full-bit : (j : ℕ) → j < 8 → 255 / 2 ^ j % 2 ≡ 1
+full-bit j h = eqb-true _ 1 (all-get (λ j. eqb (255 / 2 ^ j % 2) 1) 0 8 refl j (omega arith) h)
+
+-- what stays the same past a bit that is 1 stays the same past any bits of a byte of ones
+module _ (l : List ℕ) {A : Type 0} (f : ℕ → A) (turn : (n : ℕ) → n < 2048 → bitOf l n ≢ 0 → f n ≡ f (n + 1))
+    (i : ℕ) (more : i < 256) (full : getD l i 0 ≡ 255) where
+  byte-passed : (j n : ℕ) → 8 * i ≤ n → n + j ≤ 8 * i + 8 → f n ≡ f (n + j)
+  byte-passed zero n h g = let e : n ≡ n + 0 = omega arith in ap f e
+  byte-passed (suc j) n h g =
+      let q : n / 8 ≡ i = omega arith in
+      let byte : getD l (n / 8) 0 ≡ 255 = ap (λ (k : ℕ). getD l k 0) q ∙ full in
+      let one : bitOf l n ≡ 1 = ap (λ (x : ℕ). x / 2 ^ (n % 8) % 2) byte ∙ full-bit (n % 8) (omega arith) in
+      let e : n + 1 + j ≡ n + suc j = omega arith in
+      turn n (omega arith) (λ z. omega (arith, one, z)) ∙ byte-passed j (n + 1) (omega arith) (omega arith) ∙ ap f e
 
 module _ (l : List ℕ) where
   abbrev isFree : ℕ → Bool
@@ -56,9 +72,37 @@ module _ (l : List ℕ) where
         ap (λ (ns : List ℕ). freeAs (find isFree ns)) left
         ∙ ap freeAs (find-pass isFree k (upFrom (k + 1) (2048 - (k + 1))) (ne-eqb (bitOf l k) 0 e))
 
+  pub free-byte : (i : ℕ) → i < 256 → getD l i 0 ≡ 255 → freeFrom (8 * i) ≡ freeFrom (8 * i + 8)
+  free-byte i more full = byte-passed l freeFrom free-later i more full 8 (8 * i) (omega arith) (omega arith)
+
   pub free-none : freeFrom 2048 ≡ Free.Nothing
   unfolding freeFrom
   free-none = refl
+
+  -- ---- ones
+
+  module _ (k : ℕ) (more : k < 2048) where
+    ones-turn : onesFrom l k ≡ eqb (bitOf l k) 1 && onesFrom l (k + 1)
+    unfolding onesFrom
+    ones-turn = ap (all (λ n. eqb (bitOf l n) 1)) (left k more)
+
+    pub ones-broken : bitOf l k ≡ 0 → onesFrom l k ≡ false
+    ones-broken e = ones-turn ∙ ap (λ (x : ℕ). eqb x 1 && onesFrom l (k + 1)) e
+
+    pub ones-later : bitOf l k ≢ 0 → onesFrom l k ≡ onesFrom l (k + 1)
+    ones-later e =
+        let one : bitOf l k ≡ 1 = omega arith in
+        ones-turn ∙ ap (λ (x : ℕ). eqb x 1 && onesFrom l (k + 1)) one
+
+  pub ones-byte : (k : ℕ) → k < 2048 → getD l (k / 8) 0 ≡ 255 → onesFrom l k ≡ onesFrom l (k / 8 * 8 + 8)
+  ones-byte k more full =
+      let e : k + (8 - k % 8) ≡ k / 8 * 8 + 8 = omega arith in
+      byte-passed l (onesFrom l) ones-later (k / 8) (omega arith) full (8 - k % 8) k (omega arith) (omega arith)
+      ∙ ap (onesFrom l) e
+
+  pub ones-end : onesFrom l 2048 ≡ true
+  unfolding onesFrom
+  ones-end = refl
 
   -- ---- what is found
 

@@ -1,10 +1,10 @@
 // Bits of a bitmap block, lowest bit of a byte first.
 use crate::Free;
 ghost use mathlib.Core.Path.{_≡_};
-ghost use Prim.Native.Nat.{_<_};
+ghost use Prim.Native.Nat.{_≤_, _<_};
 ghost use lib.ListN.{length};
 ghost use Rattle.image.specs.Decode.{bitOf};
-ghost use Rattle.chain.specs.Bitmap.{lowestFree};
+ghost use Rattle.chain.specs.Bitmap.{lowestFree, onesFrom};
 
 // Bit `n`.
 pub fn bit_of(map: &[u8], n: u32) -> u8
@@ -15,16 +15,37 @@ pub fn bit_of(map: &[u8], n: u32) -> u8
     (map[at] >> (n % 8)) % 2
 }
 
-// The lowest bit that is 0.
+// Whether every bit from bit `from` on is 1.
+pub fn all_ones(map: &[u8], from: u32) -> bool
+    requires { ⌜ (length (now map) ≡ 512) × (from ≤ 2048) ⌝ }
+    ensures { λ r. ⌜ r ≡ onesFrom (now (map .entry)) from ⌝ }
+{
+    let mut n = from;
+    while n < 2048 {
+        if map[(n / 8) as usize] == 255 {
+            n = n / 8 * 8 + 8;
+        } else {
+            if bit_of(map, n) == 0 {
+                return false;
+            }
+            n += 1;
+        }
+    }
+    true
+}
+
+// The lowest bit that is 0. A byte of ones is passed by whole.
 pub fn lowest_free(map: &[u8]) -> Free
     requires { ⌜ length (now map) ≡ 512 ⌝ }
     ensures { λ r. ⌜ r ≡ lowestFree (now (map .entry)) ⌝ }
 {
     let found = 'search: loop {
         for i in 0..256usize {
-            for j in 0..8usize {
-                if (map[i] >> j) % 2 == 0 {
-                    break 'search Free::Bit((8 * i + j) as u32);
+            if map[i] != 255 {
+                for j in 0..8usize {
+                    if (map[i] >> j) % 2 == 0 {
+                        break 'search Free::Bit((8 * i + j) as u32);
+                    }
                 }
             }
         }
