@@ -1,8 +1,8 @@
 -- Loops that test one element after the other: each turn takes one element off what is left to test.
-use mathlib.Core.Path.{_≡_, refl, sym, ap, _∙_}
+use mathlib.Core.Path.{_≡_, refl, sym, ap, ap₂, _∙_}
 use mathlib.Core.Bool.{Bool, true, false, _&&_, _||_}
 use mathlib.Core.List.{List, [], _∷_, _++_}
-use Prim.Native.Nat.{ℕ, suc, _+_, _-_, _≤_, _<_}
+use Prim.Native.Nat.{ℕ, zero, suc, _+_, _-_, _≤_, _<_}
 use native.Mathlib.Numerals.{add-one}
 use native.Mathlib.Omega.{arith}
 use Rattle.lists.specs.Lists.{all, bind, upFrom}
@@ -51,6 +51,24 @@ run-turn i n h =
 
 pub run-done : (i n : ℕ) → n ≤ i → upFrom i (n - i) ≡ []
 run-done i n h = let z : n - i ≡ 0 = omega arith in ap (upFrom i) z
+
+-- the first k of them, and the rest
+pub run-split : (i k n : ℕ) → k ≤ n → upFrom i n ≡ upFrom i k ++ upFrom (i + k) (n - k)
+run-split i zero n h =
+    let e : i ≡ i + 0 = omega arith in
+    let m : n ≡ n - 0 = omega arith in
+    ap₂ upFrom e m
+run-split i (suc k) zero h = absurd (omega arith)
+run-split i (suc k) (suc n) h =
+    let e : suc i + k ≡ i + suc k = omega arith in
+    let m : n - k ≡ suc n - suc k = omega arith in
+    ap (λ (ns : List ℕ). i ∷ ns)
+    (run-split (suc i) k n (omega arith) ∙ ap₂ (λ (j l : ℕ). upFrom (suc i) k ++ upFrom j l) e m)
+
+-- two tests that agree on them
+pub run-same : (t u : ℕ → Bool) (i n : ℕ) → ((k : ℕ) → i ≤ k → t k ≡ u k) → all t (upFrom i n) ≡ all u (upFrom i n)
+run-same t u i zero h = refl
+run-same t u i (suc n) h = ap₂ _&&_ (h i (omega arith)) (run-same t u (suc i) n (λ k l. h k (omega arith)))
 
 -- what is left to test of them
 abbrev pub left : (ℕ → Bool) → (n i : ℕ) → Bool

@@ -1,63 +1,66 @@
-use mathlib.Core.Path.{_≡_, sym, _∙_}
-use Prim.Native.Nat.{_-_, _≤_}
+use mathlib.Core.Path.{_≡_, sym, ap, ap₂, _∙_}
+use mathlib.Core.Bool.{Bool, _&&_}
+use Prim.Native.Nat.{_≤_}
 use native.Mathlib.Omega.{arith}
 use borrow.Author.Tests.{not-true, not-false}
-use Rattle.lists.specs.Lists.{all, upFrom}
-use Rattle.image.specs.Rules.{bitOk}
-use Rattle.shape.specs.LoopLaws.{passed, failed, left, left-start, left-turn, left-done}
+use Rattle.image.specs.Rules.{mapAt, topAt}
+use Rattle.chain.specs.Bitmap.{onesFrom}
+use Rattle.reader.specs.KnownLaws.{known-addressed, top-is, top-small}
+use Rattle.shape.proofs.Bitmaps.{map-full, map-split}
 use Rattle.shape.proofs.bits.check_map.Statement.{statement}
 use Rattle.shape.proofs.bits.check_map.Tie as tie
 
-abbrev Inv-loop : tie.InvT-loop
-Inv-loop store m n₀ n = (n ≤ 2048) × (left (bitOk store) 2048 n ≡ all (bitOk store) (upFrom 0 2048))
+top-inside : (c : tie.Start) → topAt (c .args .store .now) ≤ 2048
+top-inside c = omega (arith, top-small (c .pre))
 
-abbrev μ-loop : tie.MeasureT-loop
-μ-loop store m n₀ n = 2048 - n
+map-of-requires : tie.Need-map-of-requires
+map-of-requires c κs = c .before .pre
 
-loop-holds : tie.Need-loop-holds Inv-loop μ-loop
-loop-holds c = (omega arith, left-start (bitOk (c .before .args .store .now)) 2048)
+check-made-requires : tie.Need-check-made-requires
+check-made-requires c κs = (c .before .before .pre, c .map-of .ensures)
 
-check-bit-requires : tie.Need-check-bit-requires Inv-loop μ-loop
-check-bit-requires c κs = (c .before .before .before .pre, c .loop-test .taken)
-
-returns : tie.Need-returns Inv-loop μ-loop
+returns : tie.Need-returns
 returns c =
-    let b = c .before .check-bit in
-    let l = c .before .before .before .loop in
-    let s = c .before .before .before .before .before .args .store .now in
-    let test = sym (b .ensures) ∙ not-true (b .result) (c .if1 .taken) in
-    sym (sym (l .inv .1) ∙ failed (bitOk s (l .n)) _ _ (left-turn (bitOk s) 2048 (l .n) (omega arith)) test)
+    let f = c .before .check-made in
+    let s = c .before .before .before .before in
+    let l = s .args .store .now in
+    let bad = sym (f .ensures) ∙ not-true (f .result) (c .if1 .taken) in
+    sym (map-split l (top-inside s) ∙ ap (λ (b : Bool). b && onesFrom (mapAt l) (topAt l)) bad)
 
-add-n : tie.Need-add-n Inv-loop μ-loop
-add-n c = omega arith
+top-of-requires : tie.Need-top-of-requires
+top-of-requires c κs = known-addressed (c .before .before .before .before .pre)
 
-loop-less : tie.Need-loop-less Inv-loop μ-loop
-loop-less c = omega arith
+-- the bits past the made ones begin where the code takes them to
+top : (c : tie.After-top-of)
+    → c .top-of .result ≡ topAt (c .before .before .before .before .before .args .store .now)
+top c = c .top-of .ensures ∙ top-is (c .before .before .before .before .before .pre)
 
-loop-again : tie.Need-loop-again Inv-loop μ-loop
-loop-again c =
-    let b = c .before .check-bit in
-    let l = c .before .before .before .loop in
-    let s = c .before .before .before .before .before .args .store .now in
-    let test = sym (b .ensures) ∙ not-false (b .result) (c .if1 .left) in
-    (omega arith, passed (bitOk s (l .n)) _ _ (left-turn (bitOk s) 2048 (l .n) (omega arith)) test ∙ l .inv .1)
+all-ones-requires : tie.Need-all-ones-requires
+all-ones-requires c κs =
+    let m = c .before .before .before in
+    let s = m .before .before in
+    (map-full (s .pre) (m .map-of .result .now) (m .map-of .ensures), omega (arith, top c, top-inside s))
 
-returns-2 : tie.Need-returns-2 Inv-loop μ-loop
+returns-2 : tie.Need-returns-2
 returns-2 c =
-    let l = c .before .loop in
-    let s = c .before .before .before .args .store .now in
-    sym (sym (l .inv .1) ∙ left-done (bitOk s) 2048 (l .n) (omega arith))
+    let t = c .before in
+    let e = t .before in
+    let f = e .before .check-made in
+    let m = e .before .before in
+    let s = m .before .before in
+    let l = s .args .store .now in
+    let good = sym (f .ensures) ∙ not-false (f .result) (e .if1 .left) in
+    c .all-ones .ensures
+    ∙ ap₂ onesFrom (m .map-of .ensures) (top t)
+    ∙ sym (map-split l (top-inside s) ∙ ap (λ (b : Bool). b && onesFrom (mapAt l) (topAt l)) good)
 
 pub check-map-spec : {M : Type 1} → statement M
 check-map-spec =
     tie.close
     (tie.spec
-    Inv-loop
-    μ-loop
-    loop-holds
-    check-bit-requires
+    map-of-requires
+    check-made-requires
     returns
-    add-n
-    loop-less
-    loop-again
+    top-of-requires
+    all-ones-requires
     returns-2)
