@@ -116,5 +116,10 @@ pub fn seal(block: &mut Block) {
 
 /// Whether the block is unused: all zero before its check.
 pub fn unused(block: &Block) -> bool {
-    block[..CHECK].iter().all(|&byte| byte == 0)
+    zero(&block[..CHECK])
+}
+
+/// Whether all of some bytes are zero.
+pub fn zero(bytes: &[u8]) -> bool {
+    bytes.iter().all(|&byte| byte == 0)
 }

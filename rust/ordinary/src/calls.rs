@@ -1,13 +1,13 @@
 //! The seven calls.
 
-use crate::answer::{Refusal, Standing, Stop, Worked};
+use crate::answer::{Refusal, Standing, Worked};
 use crate::block::{self, Block, Trailer, BITMAP, BUCKET, NONE};
 use crate::check::sound;
 use crate::edit::Edit;
 use crate::meta::{Meta, MOST};
 use crate::page::{Entry, Pair};
 use crate::view::View;
-use crate::work::step;
+use crate::work::Work;
 
 /// The bytes of a match in the output.
 const MATCH: usize = 6;
@@ -60,9 +60,9 @@ pub fn insert(store: &mut [u8], hash: u32, block: u32, offset: u32) -> Result<()
     if edit.view().held(pair).is_some() {
         return Err(Refusal::HeldAlready);
     }
-    edit.place(edit.meta.bucket_of(hash), Entry { pair, moved: false })?;
-    edit.meta.count += 1;
-    edit.finish();
+    edit.place(edit.meta().bucket_of(hash), Entry { pair, moved: false })?;
+    edit.meta_mut().count += 1;
+    edit.seal();
     Ok(())
 }
 
@@ -75,15 +75,15 @@ pub fn remove(store: &mut [u8], hash: u32, block: u32, offset: u32) -> Result<()
     let Some(spot) = edit.view().held(pair) else {
         return Err(Refusal::NotHeld);
     };
-    edit.take_away(spot);
-    let bucket = edit.meta.bucket_of(hash);
+    edit.take_away(spot.page, spot.slot);
+    let bucket = edit.meta().bucket_of(hash);
     if edit.view().populated_from(bucket).is_some() {
         if let Some(copy) = edit.view().find(bucket, pair) {
-            edit.take_away(copy);
+            edit.take_away(copy.page, copy.slot);
         }
     }
-    edit.meta.count -= 1;
-    edit.finish();
+    edit.meta_mut().count -= 1;
+    edit.seal();
     Ok(())
 }
 
@@ -110,19 +110,7 @@ pub fn work(store: &mut [u8], budget: u32) -> Result<Worked, Refusal> {
         return Err(Refusal::Number);
     }
     let meta = sound(blocks)?;
-    let mut edit = Edit::new(blocks, meta);
-    let mut steps = 0;
-    let stop = loop {
-        if steps == budget {
-            break Stop::Spent;
-        }
-        match step(&mut edit) {
-            Ok(()) => steps += 1,
-            Err(stop) => break stop,
-        }
-    };
-    edit.finish();
-    Ok(Worked { steps, stop })
+    Ok(Work::new(Edit::new(blocks, meta), budget).run())
 }
 
 /// How the index stands.

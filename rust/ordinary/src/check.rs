@@ -5,6 +5,7 @@ use crate::block::{self, Block, Trailer, BITMAP, BUCKET, CLEANUP, CONTENT, META,
 use crate::meta::{splits_from, Meta, Role, MOST};
 use crate::page::{self, Pair};
 use crate::view::View;
+use std::cell::OnceCell;
 
 /// The meta block of a sound store, or what is wrong with the store.
 pub fn sound(blocks: &[Block]) -> Result<Meta, Refusal> {
@@ -26,7 +27,7 @@ fn broken_rule(blocks: &[Block], meta: &Meta) -> Option<u32> {
     if !meta.rule2() {
         return Some(2);
     }
-    let store = Store { view: View { blocks, meta }, roles: meta.roles() };
+    let store = Store { view: View { blocks, meta }, roles: meta.roles(), originals: OnceCell::new() };
     let rules = [Store::rule3, Store::rule4, Store::rule5, Store::rule6, Store::rule7, Store::rule8];
     rules.iter().zip(3..).find_map(|(rule, number)| (!rule(&store)).then_some(number))
 }
@@ -35,6 +36,8 @@ fn broken_rule(blocks: &[Block], meta: &Meta) -> Option<u32> {
 struct Store<'a> {
     view: View<'a>,
     roles: [Role; MOST],
+    /// The pairs of the bucket that the last one split off from, ascending: rules 5 and 7 need them.
+    originals: OnceCell<Vec<Pair>>,
 }
 
 impl Store<'_> {
@@ -126,21 +129,24 @@ impl Store<'_> {
     }
 
     fn has_no_twins(&self, bucket: u32) -> bool {
-        // One page is strictly ascending.
-        block::next(self.bucket_page(bucket)) == NONE
-            || self.sorted_pairs(bucket).windows(2).all(|pairs| pairs[0] != pairs[1])
+        let distinct = |pairs: &[Pair]| pairs.windows(2).all(|pairs| pairs[0] != pairs[1]);
+        if block::next(self.bucket_page(bucket)) == NONE {
+            true // One page is strictly ascending.
+        } else if bucket == self.view.meta.job_old() {
+            distinct(self.originals())
+        } else {
+            distinct(&self.view.sorted_pairs(bucket))
+        }
     }
 
-    fn sorted_pairs(&self, bucket: u32) -> Vec<Pair> {
-        let mut pairs: Vec<_> = self.view.entries(bucket).map(|spot| spot.entry.pair).collect();
-        pairs.sort_unstable();
-        pairs
+    fn originals(&self) -> &[Pair] {
+        self.originals.get_or_init(|| self.view.sorted_pairs(self.view.meta.job_old()))
     }
 
-    /// The bitmap, and first free.
+    /// The bitmap, and first free. By rule 3 an overflow block is unused if its flags say so.
     fn rule6(&self) -> bool {
         let meta = self.view.meta;
-        let free = |&bit: &u32| block::unused(&self.view.blocks[meta.bit_block(bit)]);
+        let free = |&bit: &u32| block::flags(&self.view.blocks[meta.bit_block(bit)]) != OVERFLOW;
         let mut bits = [0xFF; CONTENT];
         bits[256..].fill(0);
         for bit in (1..meta.bits()).filter(free) {
@@ -152,26 +158,28 @@ impl Store<'_> {
 
     /// Entries stand in their buckets; while copying, old and new bucket fit together.
     fn rule7(&self) -> bool {
-        let placed = self.buckets().all(|bucket| self.stand_right(bucket));
-        match self.view.phase() {
-            Phase::Copying { old, new } => placed && self.copies_fit(old, new),
+        let phase = self.view.phase();
+        let guest = |bucket| match phase {
+            Phase::Copying { old, new } | Phase::Clearing { old, new } if old == bucket => new,
+            _ => bucket,
+        };
+        let placed = self.buckets().all(|bucket| self.stand_right(bucket, guest(bucket)));
+        match phase {
+            Phase::Copying { new, .. } => placed && self.copies_fit(new),
             _ => placed,
         }
     }
 
-    fn stand_right(&self, bucket: u32) -> bool {
-        let guest = match self.view.phase() {
-            Phase::Copying { old, new } | Phase::Clearing { old, new } if old == bucket => new,
-            _ => bucket,
-        };
+    /// Whether each entry of a chain is its bucket's or the guest's.
+    fn stand_right(&self, bucket: u32, guest: u32) -> bool {
         self.view.entries(bucket).all(|spot| {
             let own = self.view.meta.bucket_of(spot.entry.pair.hash);
             own == bucket || own == guest
         })
     }
 
-    fn copies_fit(&self, old: u32, new: u32) -> bool {
-        let originals = self.sorted_pairs(old);
+    fn copies_fit(&self, new: u32) -> bool {
+        let originals = self.originals();
         self.view.entries(new).all(|spot| spot.entry.moved == originals.binary_search(&spot.entry.pair).is_ok())
     }
 
@@ -189,7 +197,8 @@ impl Store<'_> {
     /// The number of held pairs.
     fn held(&self) -> usize {
         let entries = |bucket| self.view.entries(bucket).map(|spot| spot.entry);
-        let all: usize = self.buckets().map(|bucket| entries(bucket).count()).sum();
+        let pages = self.buckets().flat_map(|bucket| self.view.chain(bucket));
+        let all: usize = pages.map(|number| page::len(&self.view.blocks[number])).sum();
         match self.view.phase() {
             Phase::None => all,
             Phase::Copying { new, .. } => all - entries(new).filter(|entry| entry.moved).count(),

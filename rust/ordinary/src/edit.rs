@@ -1,16 +1,16 @@
-//! Changes of a sound store. Checks are written at the end, once for each block that was touched.
+//! Changes of a sound store. A change is whole when it is sealed.
 
 use crate::answer::Refusal;
 use crate::block::{self, Block, Trailer, NONE, OVERFLOW};
 use crate::meta::Meta;
 use crate::page::{self, Entry, ROOM};
-use crate::view::{Spot, View};
+use crate::view::View;
 
-/// A sound store that is being changed. Its meta block is written by `finish`.
+/// A sound store that is being changed.
 pub struct Edit<'a> {
     blocks: &'a mut [Block],
-    pub meta: Meta,
-    /// The blocks whose checks are out of date, one bit each.
+    meta: Meta,
+    /// The blocks changed since the last seal, one bit each.
     touched: u128,
 }
 
@@ -23,23 +23,30 @@ impl<'a> Edit<'a> {
         View { blocks: self.blocks, meta: &self.meta }
     }
 
-    /// A block, to be changed.
+    pub fn meta(&self) -> &Meta {
+        &self.meta
+    }
+
+    /// The meta block's fields, to be changed.
+    pub fn meta_mut(&mut self) -> &mut Meta {
+        self.touched |= 1;
+        &mut self.meta
+    }
+
+    /// A block other than meta, to be changed.
     pub fn block(&mut self, number: usize) -> &mut Block {
         self.touched |= 1 << number;
         &mut self.blocks[number]
     }
 
-    /// Writes the meta block, and the checks of all blocks that were touched.
-    pub fn finish(mut self) {
-        if self.touched == 0 {
-            return;
+    /// Writes the meta block if it was changed, and the checks of exactly the blocks that were.
+    pub fn seal(&mut self) {
+        if self.touched & 1 == 1 {
+            self.meta.write(&mut self.blocks[0]);
         }
-        let meta = self.meta.clone();
-        meta.write(self.block(0));
-        for (number, block) in self.blocks.iter_mut().enumerate() {
-            if self.touched >> number & 1 == 1 {
-                block::seal(block);
-            }
+        while self.touched != 0 {
+            block::seal(&mut self.blocks[self.touched.trailing_zeros() as usize]);
+            self.touched &= self.touched - 1;
         }
     }
 
@@ -76,16 +83,16 @@ impl<'a> Edit<'a> {
         } else {
             return Err(Refusal::NoRoom);
         }
-        self.meta.first_free = self.lowest_free();
+        self.meta_mut().first_free = self.lowest_free();
         Ok(self.meta.bit_block(free))
     }
 
     /// Takes an entry away, and with it an overflow page that it leaves empty.
-    pub fn take_away(&mut self, spot: Spot) {
-        let page = self.block(spot.page);
-        page::remove(page, spot.slot);
+    pub fn take_away(&mut self, number: usize, slot: usize) {
+        let page = self.block(number);
+        page::remove(page, slot);
         if page::len(page) == 0 && block::flags(page) == OVERFLOW {
-            self.free(spot.page);
+            self.free(number);
         }
     }
 
@@ -99,8 +106,10 @@ impl<'a> Edit<'a> {
         self.block(number).fill(0);
         if let Some(bit) = self.meta.bit_of(number) {
             self.set_bit(bit, false);
+            if bit < self.meta.first_free {
+                self.meta_mut().first_free = bit;
+            }
         }
-        self.meta.first_free = self.lowest_free();
     }
 
     fn set_bit(&mut self, bit: u32, used: bool) {

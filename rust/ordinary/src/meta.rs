@@ -1,6 +1,6 @@
 //! The meta block, and the addresses that follow from it.
 
-use crate::block::{get16, get32, put16, put32, Block, Trailer, CONTENT, META};
+use crate::block::{get16, get32, put16, put32, zero, Block, Trailer, CONTENT, META};
 
 /// The most blocks of a store.
 pub const MOST: usize = 128;
@@ -74,7 +74,6 @@ impl Meta {
 
     /// Rule 1, of the block that these fields were read from.
     pub fn rule1(&self, block: &Block, blocks: usize) -> bool {
-        let zero = |bytes: &[u8]| bytes.iter().all(|&byte| byte == 0);
         get32(block, 0) == MAGIC
             && get32(block, 4) == EDITION
             && self.blocks as usize == blocks

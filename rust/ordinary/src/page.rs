@@ -1,7 +1,7 @@
 //! The entries of a bucket or overflow page.
 
 use crate::answer::Refusal;
-use crate::block::{get16, get32, put16, put32, Block, CONTENT};
+use crate::block::{get16, get32, put16, put32, zero, Block, CONTENT};
 
 /// The most entries of a page.
 pub const ROOM: usize = 40;
@@ -25,6 +25,10 @@ impl Pair {
             _ => Err(Refusal::Number),
         }
     }
+
+    fn of(slot: &Slot) -> Self {
+        Pair { hash: get32(slot, 0), block: get32(slot, 4), offset: get16(slot, 8) }
+    }
 }
 
 /// A pair as it stands in a page.
@@ -34,24 +38,36 @@ pub struct Entry {
     pub moved: bool,
 }
 
+/// The bytes of an entry.
+type Slot = [u8; SIZE];
+
+impl Entry {
+    fn of(slot: &Slot) -> Self {
+        Entry { pair: Pair::of(slot), moved: flags(slot) == MOVED }
+    }
+}
+
+fn flags(slot: &Slot) -> u16 {
+    get16(slot, 10)
+}
+
 /// The number of entries, as the page says.
 pub fn len(page: &Block) -> usize {
     usize::from(get16(page, 0))
 }
 
-pub fn entry(page: &Block, slot: usize) -> Entry {
-    let at = FIRST + slot * SIZE;
-    Entry { pair: pair(page, slot), moved: get16(page, at + 10) == MOVED }
+/// The entries of a page that has at most `ROOM`, as bytes.
+fn slots(page: &Block) -> &[Slot] {
+    page[FIRST..FIRST + len(page) * SIZE].as_chunks().0
 }
 
-fn pair(page: &Block, slot: usize) -> Pair {
-    let at = FIRST + slot * SIZE;
-    Pair { hash: get32(page, at), block: get32(page, at + 4), offset: get16(page, at + 8) }
+pub fn entry(page: &Block, slot: usize) -> Entry {
+    Entry::of(&slots(page)[slot])
 }
 
 /// The entries of a page that keeps the page rule, in order.
 pub fn entries(page: &Block) -> impl Iterator<Item = Entry> + '_ {
-    (0..len(page)).map(move |slot| entry(page, slot))
+    slots(page).iter().map(Entry::of)
 }
 
 /// Rule 5 within one page.
@@ -59,46 +75,26 @@ pub fn well_formed(page: &Block) -> bool {
     let len = len(page);
     len <= ROOM
         && get16(page, 2) == 0
-        && page[FIRST + len * SIZE..CONTENT].iter().all(|&byte| byte == 0)
-        && (0..len).all(|slot| fits(page, slot))
-        && (1..len).all(|slot| pair(page, slot - 1) < pair(page, slot))
+        && zero(&page[FIRST + len * SIZE..CONTENT])
+        && slots(page).iter().all(fits)
+        && slots(page).is_sorted_by(|slot, next| Pair::of(slot) < Pair::of(next))
 }
 
 /// Whether the slot's numbers are an entry's.
-fn fits(page: &Block, slot: usize) -> bool {
-    let Pair { block, offset, .. } = pair(page, slot);
-    let flags = get16(page, FIRST + slot * SIZE + 10);
-    offset != 0 && block != u32::MAX && (flags == 0 || flags == MOVED)
-}
-
-/// The number of leading entries of the page that satisfy `before`.
-fn count_while(page: &Block, before: impl Fn(Pair) -> bool) -> usize {
-    let (mut low, mut high) = (0, len(page));
-    while low < high {
-        let middle = (low + high) / 2;
-        if before(pair(page, middle)) {
-            low = middle + 1;
-        } else {
-            high = middle;
-        }
-    }
-    low
+fn fits(slot: &Slot) -> bool {
+    let Pair { block, offset, .. } = Pair::of(slot);
+    offset != 0 && block != u32::MAX && (flags(slot) == 0 || flags(slot) == MOVED)
 }
 
 /// The slot of the pair, or else the slot where it would go.
 pub fn search(page: &Block, wanted: Pair) -> Result<usize, usize> {
-    let slot = count_while(page, |pair| pair < wanted);
-    if slot < len(page) && pair(page, slot) == wanted {
-        Ok(slot)
-    } else {
-        Err(slot)
-    }
+    slots(page).binary_search_by_key(&wanted, Pair::of)
 }
 
 /// The page's entries with this hash code.
 pub fn run(page: &Block, hash: u32) -> impl Iterator<Item = Entry> + '_ {
-    let start = count_while(page, |pair| pair.hash < hash);
-    (start..len(page)).map(move |slot| entry(page, slot)).take_while(move |entry| entry.pair.hash == hash)
+    let start = slots(page).partition_point(|slot| Pair::of(slot).hash < hash);
+    slots(page)[start..].iter().map(Entry::of).take_while(move |entry| entry.pair.hash == hash)
 }
 
 /// Puts an entry in at a slot; the page has room.

@@ -37,6 +37,13 @@ impl<'a> View<'a> {
         })
     }
 
+    /// The pairs of a bucket's chain, ascending.
+    pub fn sorted_pairs(self, bucket: u32) -> Vec<Pair> {
+        let mut pairs: Vec<_> = self.entries(bucket).map(|spot| spot.entry.pair).collect();
+        pairs.sort_unstable();
+        pairs
+    }
+
     /// The pair in a bucket's chain, moved or not.
     pub fn find(self, bucket: u32, pair: Pair) -> Option<Spot> {
         self.chain(bucket).find_map(|number| {

@@ -1,76 +1,124 @@
-//! The steps of a split.
+//! The steps of splits.
 
-use crate::answer::{Phase, Stop};
+use crate::answer::{Phase, Stop, Worked};
 use crate::block::{self, Trailer, BUCKET, CLEANUP, NONE, POPULATED, SPLIT};
+use crate::check::sound;
 use crate::edit::Edit;
 use crate::meta::splits_from;
-use crate::page::Entry;
-use crate::view::Spot;
+use crate::page::{self, Entry, Pair};
 
-/// Makes one step, or says why there is none.
-pub fn step(edit: &mut Edit) -> Result<(), Stop> {
-    match edit.view().phase() {
-        Phase::None if edit.view().slack() >= 0 => Err(Stop::Idle),
-        Phase::None => begin(edit),
-        Phase::Copying { old, new } => copy(edit, old, new),
-        Phase::Clearing { old, new } => {
-            clear(edit, old, new);
-            Ok(())
+/// A work call under way.
+pub struct Work<'a> {
+    edit: Edit<'a>,
+    budget: u32,
+    steps: u32,
+}
+
+impl<'a> Work<'a> {
+    pub fn new(edit: Edit<'a>, budget: u32) -> Self {
+        Work { edit, budget, steps: 0 }
+    }
+
+    /// Makes steps until the budget is spent or there is no further step.
+    pub fn run(mut self) -> Worked {
+        let stop = loop {
+            if let Err(stop) = self.go_on() {
+                break stop;
+            }
+        };
+        Worked { steps: self.steps, stop }
+    }
+
+    /// Makes the steps of one phase.
+    fn go_on(&mut self) -> Result<(), Stop> {
+        if self.left() == 0 {
+            return Err(Stop::Spent);
+        }
+        match self.edit.view().phase() {
+            Phase::None if self.edit.view().slack() >= 0 => Err(Stop::Idle),
+            Phase::None => self.begin(),
+            Phase::Copying { old, new } => self.copy(old, new),
+            Phase::Clearing { old, new } => self.clear(old, new),
         }
     }
-}
 
-/// Makes the next bucket, empty, and flags it and the one that it splits off from.
-fn begin(edit: &mut Edit) -> Result<(), Stop> {
-    let new = edit.meta.max_bucket + 1;
-    let point = edit.meta.point as usize;
-    if new == 1 << point {
-        let bits = edit.meta.bits();
-        if (2 << point) + bits + 1 > edit.meta.blocks {
-            return Err(Stop::NoRoom);
-        }
-        edit.meta.spares[point + 1] = bits;
-        edit.meta.point += 1;
+    fn left(&self) -> u32 {
+        self.budget - self.steps
     }
-    edit.meta.set_max_bucket(new);
-    let page = edit.block(edit.meta.bucket_block(new));
-    Trailer::new(new, NONE, new, BUCKET | POPULATED).put(page);
-    let old = splits_from(new);
-    block::set_previous(edit.block(edit.meta.bucket_block(old)), new);
-    set_flags(edit, old, BUCKET | SPLIT);
-    Ok(())
-}
 
-/// Copies the first entry of the new bucket that has no copy there, or else ends the copying.
-fn copy(edit: &mut Edit, old: u32, new: u32) -> Result<(), Stop> {
-    let view = edit.view();
-    let wanting = view.entries(old).find(|spot| belongs(edit, spot, new) && view.find(new, spot.entry.pair).is_none());
-    match wanting {
-        Some(spot) => {
-            let copy = Entry { moved: true, ..spot.entry };
-            edit.place(new, copy).map_err(|_| Stop::NoRoom)
+    /// Ends a step: the store is sound after each, so the blocks that the step changed are sealed here and not once at
+    /// the end of the call.
+    fn step(&mut self) -> Result<(), Stop> {
+        self.edit.seal();
+        debug_assert!(sound(self.edit.view().blocks).is_ok());
+        self.steps += 1;
+        if self.left() == 0 {
+            return Err(Stop::Spent);
         }
-        None => {
-            set_flags(edit, new, BUCKET);
-            set_flags(edit, old, BUCKET | CLEANUP);
-            Ok(())
+        Ok(())
+    }
+
+    /// Makes the next bucket, empty, and flags it and the one that it splits off from.
+    fn begin(&mut self) -> Result<(), Stop> {
+        let edit = &mut self.edit;
+        let new = edit.meta().max_bucket + 1;
+        let point = edit.meta().point as usize;
+        if new == 1 << point {
+            let bits = edit.meta().bits();
+            if (2 << point) + bits + 1 > edit.meta().blocks {
+                return Err(Stop::NoRoom);
+            }
+            edit.meta_mut().spares[point + 1] = bits;
+            edit.meta_mut().point += 1;
         }
+        edit.meta_mut().set_max_bucket(new);
+        let page = edit.block(edit.meta().bucket_block(new));
+        Trailer::new(new, NONE, new, BUCKET | POPULATED).put(page);
+        let old = splits_from(new);
+        block::set_previous(edit.block(edit.meta().bucket_block(old)), new);
+        self.set_flags(old, BUCKET | SPLIT);
+        self.step()
     }
-}
 
-/// Takes away the old bucket's first entry of the new one, or else ends the job.
-fn clear(edit: &mut Edit, old: u32, new: u32) {
-    let first = edit.view().entries(old).find(|spot| belongs(edit, spot, new));
-    match first {
-        Some(spot) => edit.take_away(spot),
-        None => set_flags(edit, old, BUCKET),
+    /// Copies the old chain's entries of the new bucket that have no copy there, then ends the copying.
+    fn copy(&mut self, old: u32, new: u32) -> Result<(), Stop> {
+        let view = self.edit.view();
+        let copied = view.sorted_pairs(new);
+        let guests = view.entries(old).map(|spot| spot.entry.pair).filter(|pair| view.meta.bucket_of(pair.hash) == new);
+        let wanting = guests.filter(|pair| copied.binary_search(pair).is_err());
+        // The old chain stays as it is meanwhile.
+        let wanting: Vec<Pair> = wanting.take(self.left() as usize).collect();
+        for pair in wanting {
+            self.edit.place(new, Entry { pair, moved: true }).map_err(|_| Stop::NoRoom)?;
+            self.step()?;
+        }
+        self.set_flags(new, BUCKET);
+        self.set_flags(old, BUCKET | CLEANUP);
+        self.step()
     }
-}
 
-fn belongs(edit: &Edit, spot: &Spot, bucket: u32) -> bool {
-    edit.meta.bucket_of(spot.entry.pair.hash) == bucket
-}
+    /// Takes away the old chain's entries of the new bucket, then ends the job.
+    fn clear(&mut self, old: u32, new: u32) -> Result<(), Stop> {
+        let pages: Vec<usize> = self.edit.view().chain(old).collect();
+        for number in pages {
+            let mut slot = 0;
+            // A page that is left empty and freed has no more entries either.
+            while slot < page::len(&self.edit.view().blocks[number]) {
+                let entry = page::entry(&self.edit.view().blocks[number], slot);
+                if self.edit.meta().bucket_of(entry.pair.hash) == new {
+                    self.edit.take_away(number, slot);
+                    self.step()?;
+                } else {
+                    slot += 1;
+                }
+            }
+        }
+        self.set_flags(old, BUCKET);
+        self.step()
+    }
 
-fn set_flags(edit: &mut Edit, bucket: u32, flags: u16) {
-    block::set_flags(edit.block(edit.meta.bucket_block(bucket)), flags);
+    fn set_flags(&mut self, bucket: u32, flags: u16) {
+        let number = self.edit.meta().bucket_block(bucket);
+        block::set_flags(self.edit.block(number), flags);
+    }
 }
