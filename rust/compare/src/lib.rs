@@ -1,8 +1,8 @@
 //! The proved index and the ordinary one, side by side.
 //!
 //! The tests in `tests/` make calls through [`twin::Twin`], which makes each on both and compares answers, stores and
-//! outputs to the byte. Everything else here is aid: a generator of numbers, stores built or spoilt from outside, and
-//! the book of demand 3.
+//! outputs to the byte. Everything else here is aid: a generator of numbers, stores built or spoilt from outside, the
+//! book of demand 3, and what the benchmark measures.
 
 #![forbid(unsafe_code)]
 
@@ -10,8 +10,10 @@ pub mod book;
 pub mod build;
 pub mod lists;
 pub mod random;
+pub mod rows;
 pub mod sha256;
 pub mod side;
 pub mod spoil;
+pub mod stores;
 pub mod twin;
 pub mod vectors;

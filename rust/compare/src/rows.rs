@@ -1,0 +1,145 @@
+//! What the benchmark measures: calls on stores, a row each.
+
+use crate::side::Side;
+use crate::stores::{chain, copying, crowd, even, wanting, Order, CODE, EACH};
+use std::hint::black_box;
+
+/// A call, and what it has to answer.
+#[derive(Clone, Copy)]
+enum Call {
+    Verdict,
+    /// A lookup with so many matches.
+    Lookup(u32),
+    /// An insert, and the removal of the same pair.
+    Pair,
+    /// Work with a budget, that makes so many steps.
+    Work(u32, u32),
+}
+
+/// A store of `stores`.
+#[derive(Clone, Copy)]
+enum Kind {
+    Even,
+    Splitting,
+    Chain(u32),
+    Crowd(u32, Order),
+    Copying,
+    Wanting,
+}
+
+/// A row of the tables.
+pub struct Row {
+    pub blocks: u32,
+    pub name: String,
+    call: Call,
+    kind: Kind,
+}
+
+impl Row {
+    fn new(blocks: u32, name: impl Into<String>, call: Call, kind: Kind) -> Self {
+        Row { blocks, name: name.into(), call, kind }
+    }
+
+    /// How often the call is made for its instructions to be counted: often where each time differs.
+    pub fn times(&self) -> u32 {
+        match self.kind {
+            Kind::Even => 8,
+            Kind::Wanting => 1,
+            _ => 2,
+        }
+    }
+
+    /// Whether the row, written as its N and its name, has these words in it.
+    pub fn has(&self, words: &str) -> bool {
+        format!("{} {}", self.blocks, self.name).contains(words)
+    }
+
+    pub fn store(&self) -> Vec<u8> {
+        match self.kind {
+            Kind::Even => even(self.blocks, EACH, false),
+            // Of 4 blocks the old bucket has one page, which holds the entries of both.
+            Kind::Splitting => even(self.blocks, if self.blocks == 4 { 20 } else { EACH }, true),
+            Kind::Chain(pages) => chain(self.blocks, pages),
+            Kind::Crowd(matches, order) => crowd(self.blocks, matches, order),
+            Kind::Copying => copying(),
+            Kind::Wanting => wanting(self.blocks),
+        }
+    }
+}
+
+/// All rows: calls by N, verdicts by the pages of a chain, lookups by matches, whole splits by the entries of a chain.
+pub fn rows() -> Vec<Row> {
+    let calls = [
+        ("verdict", Call::Verdict, Kind::Even),
+        ("lookup of 4", Call::Lookup(4), Kind::Even),
+        ("insert and removal", Call::Pair, Kind::Even),
+        ("work, one step", Call::Work(1, 1), Kind::Splitting),
+    ];
+    let by_size = calls.iter().flat_map(|&(name, call, kind)| [4, 16, 64, 128].map(|n| Row::new(n, name, call, kind)));
+    let chain = |pages| Row::new(128, format!("verdict, chain of {pages}"), Call::Verdict, Kind::Chain(pages));
+    let lookup = |blocks, name: String, matches, order| {
+        Row::new(blocks, name, Call::Lookup(matches), Kind::Crowd(matches, order))
+    };
+    let all = |blocks| {
+        let matches = (blocks - 3) * EACH;
+        lookup(blocks, format!("lookup of all, {matches}"), matches, Order::Ascending)
+    };
+    let split = |blocks| {
+        let (name, steps) = (format!("work, whole split of {}", 10 * blocks), 10 * blocks + 3);
+        Row::new(blocks, name, Call::Work(65_535, steps), Kind::Wanting)
+    };
+    by_size
+        .chain([1, 16, 64, 125].map(chain))
+        .chain([Row::new(128, "verdict, long copying", Call::Verdict, Kind::Copying)])
+        .chain([1, 40, 640, 2_560, 5_000].map(|m| lookup(128, format!("lookup of {m}"), m, Order::Interleaved)))
+        .chain([640, 2_560, 5_000].map(|m| lookup(128, format!("lookup of {m}, in order"), m, Order::Ascending)))
+        .chain([16, 64, 128].map(all))
+        .chain([Row::new(128, "work, one step, long copying", Call::Work(1, 1), Kind::Copying)])
+        .chain([16, 64, 128].map(split))
+        .collect()
+}
+
+/// A row's store, ready for its call.
+pub struct Bench {
+    call: Call,
+    store: Vec<u8>,
+    scratch: Vec<u8>,
+    codes: Vec<u32>,
+    output: Vec<u8>,
+}
+
+impl Bench {
+    pub fn new(row: &Row) -> Self {
+        let store = row.store();
+        let codes = match row.kind {
+            Kind::Even => first_codes(&store),
+            _ => vec![CODE],
+        };
+        Bench { call: row.call, scratch: store.clone(), store, codes, output: vec![0; 30_000] }
+    }
+
+    /// Makes the call `times` times. Each must be done as it has to.
+    pub fn run<S: Side>(&mut self, times: u32) {
+        for code in self.codes.iter().copied().cycle().take(times as usize) {
+            let done = match self.call {
+                Call::Verdict => S::verify(black_box(&self.store)).done(),
+                Call::Lookup(matches) => S::lookup(black_box(&self.store), code, &mut self.output).gives == matches,
+                Call::Pair => {
+                    S::insert(black_box(&mut self.store), code ^ 0x100, 7, 7).done()
+                        && S::remove(black_box(&mut self.store), code ^ 0x100, 7, 7).done()
+                }
+                Call::Work(budget, steps) => {
+                    self.scratch.copy_from_slice(&self.store);
+                    S::work(black_box(&mut self.scratch), budget).steps == steps
+                }
+            };
+            assert!(done, "the call was not done");
+        }
+    }
+}
+
+/// The first hash code of each bucket page.
+fn first_codes(store: &[u8]) -> Vec<u32> {
+    let pages = store.chunks_exact(512).filter(|page| page[504] == 2 && page[0] > 0);
+    pages.map(|page| u32::from_le_bytes([page[4], page[5], page[6], page[7]])).collect()
+}

@@ -1,0 +1,154 @@
+//! The stores that the benchmark measures on: sound, and the same in every run.
+
+use crate::build::{deal, encode, Chains, Entries, Layout, NONE};
+use crate::random::Random;
+
+/// 70 % of the 40 entries of a page.
+pub const EACH: u32 = 28;
+/// The hash code of the stores with one hash code alone.
+pub const CODE: u32 = 2;
+
+/// As many buckets as `blocks` blocks have room for, `each` random pairs in each, four to a hash code, and fill `each`.
+/// If `splitting`, the last split is in the midst of its copying.
+pub fn even(blocks: u32, each: u32, splitting: bool) -> Vec<u8> {
+    let mut random = Random::new(u64::from(blocks) + 1);
+    let point = (1..7).filter(|s| (1 << s) + 2 <= blocks).max().unwrap_or(1);
+    let mut spares = [0; 16];
+    spares[1..point as usize].fill(1);
+    spares[point as usize] = blocks - (1 << point) - 1;
+    let layout = Layout { blocks, max: (1 << point) - 1, point, spares };
+    let (old, new) = (layout.max ^ (1 << layout.max.ilog2()), layout.max);
+    let mut buckets = vec![Entries::new(); layout.max as usize + 1];
+    for _ in 0..each * (layout.max + 1) / 4 {
+        let hash = random.number();
+        let home = match layout.bucket_of(hash) {
+            bucket if splitting && bucket == new => old,
+            bucket => bucket,
+        };
+        buckets[home as usize].extend((0..4).map(|_| (under(&mut random, hash), false)));
+    }
+    if splitting {
+        let guests = buckets[old as usize].keys().filter(|pair| layout.bucket_of(pair.0) == new);
+        buckets[new as usize] = guests.step_by(2).map(|&pair| (pair, true)).collect();
+    }
+    let mut free: Vec<u32> = (1..layout.bits()).rev().map(|bit| layout.bit_block(bit)).collect();
+    let chain = |(entries, bucket)| deal(&mut random, layout.bucket_block(bucket), entries, &mut free);
+    let chains: Chains = buckets.into_iter().zip(0..).map(chain).collect();
+    encode(&layout, each, u32::from(splitting), (old, new), &chains)
+}
+
+/// One chain of so many pages, of random pairs, its entries dealt to its pages at random.
+pub fn chain(blocks: u32, pages: u32) -> Vec<u8> {
+    let mut random = Random::new(u64::from(pages));
+    let entries = (0..pages * EACH).map(|_| (of(&mut random, 4, 0), false)).collect();
+    let pages = interleaved(&mut random, entries, pages);
+    lone(blocks, pages)
+}
+
+/// How the places of a hash code stand on the pages of its chain.
+#[derive(Clone, Copy)]
+pub enum Order {
+    Ascending,
+    Interleaved,
+}
+
+/// One chain of full pages, of so many random places under `CODE`.
+pub fn crowd(blocks: u32, matches: u32, order: Order) -> Vec<u8> {
+    let mut random = Random::new(u64::from(matches));
+    let entries: Entries = (0..matches).map(|_| (under(&mut random, CODE), false)).collect();
+    let pages = match order {
+        Order::Ascending => dealt(entries.into_iter().collect(), 40),
+        Order::Interleaved => interleaved(&mut random, entries, matches.div_ceil(40)),
+    };
+    lone(blocks, pages)
+}
+
+/// In the midst of a long copying job: an old chain of 64 pages, half of whose entries are the new bucket's and half of
+/// those, the first ones, copied; a new chain of 40 pages, its entries inserted since for the rest. 128 blocks.
+pub fn copying() -> Vec<u8> {
+    let mut random = Random::new(7);
+    let (old, new) = (0, 2);
+    let mut spares = [0; 16];
+    spares[1..3].copy_from_slice(&[64, 64 + 39]);
+    let layout = Layout { blocks: 128, max: new, point: 2, spares };
+    let halves = (0..64 * EACH).map(|i| (of(&mut random, 4, if i % 2 == 0 { old } else { new }), false)).collect();
+    let old_pages = interleaved(&mut random, halves, 64);
+    let guests = old_pages.iter().flatten().filter(|(pair, _)| layout.bucket_of(pair.0) == new);
+    let mut guests: Vec<_> = guests.map(|(&pair, _)| (pair, true)).collect();
+    guests.truncate(guests.len() / 2);
+    let fresh = 40 * EACH - guests.len() as u32;
+    let copies = guests.into_iter().chain((0..fresh).map(|_| (of(&mut random, 4, new), false))).collect();
+    let new_pages = interleaved(&mut random, copies, 40);
+    let mut free = (1..layout.bits()).map(|bit| layout.bit_block(bit));
+    let mut linked = |bucket, pages| linked(&layout, bucket, pages, &mut free);
+    let chains = vec![linked(old, old_pages), linked(1, vec![Entries::new()]), linked(new, new_pages)];
+    encode(&layout, EACH, 1, (old, new), &chains)
+}
+
+/// A store that wants exactly one split, of a chain of N / 2 pages with 10 N random pairs, half of which move. N is a
+/// power of two from 16 on.
+pub fn wanting(blocks: u32) -> Vec<u8> {
+    let mut random = Random::new(u64::from(blocks));
+    let size = blocks / 4;
+    let (point, old, new) = (size.ilog2(), size / 2 - 1, size - 1);
+    let mut spares = [0; 16];
+    spares[1..point as usize].fill(1);
+    spares[point as usize] = blocks / 2;
+    let layout = Layout { blocks, max: new - 1, point, spares };
+    let halves = (0..10 * blocks).map(|i| (of(&mut random, size, if i % 2 == 0 { old } else { new }), false)).collect();
+    let mut pages = Some(interleaved(&mut random, halves, blocks / 2));
+    let mut free = (1..layout.bits()).map(|bit| layout.bit_block(bit));
+    let mut chain = |bucket| {
+        let pages = if bucket == old { pages.take() } else { None };
+        linked(&layout, bucket, pages.unwrap_or(vec![Entries::new()]), &mut free)
+    };
+    let chains = (0..new).map(&mut chain).collect();
+    encode(&layout, 40, 0, (0, 0), &chains)
+}
+
+type Pair = (u32, u32, u16);
+
+/// A random pair under a hash code.
+fn under(random: &mut Random, hash: u32) -> Pair {
+    (hash, random.below(NONE), 1 + random.below(65_535) as u16)
+}
+
+/// A random pair under a random hash code with this remainder.
+fn of(random: &mut Random, size: u32, bucket: u32) -> Pair {
+    let hash = random.number() / size * size + bucket;
+    under(random, hash)
+}
+
+/// Pages of `each` entries, in order.
+fn dealt(entries: Vec<(Pair, bool)>, each: usize) -> Vec<Entries> {
+    entries.chunks(each).map(|page| page.iter().copied().collect()).collect()
+}
+
+/// So many pages of random entries, as many on each.
+fn interleaved(random: &mut Random, entries: Entries, pages: u32) -> Vec<Entries> {
+    let mut entries: Vec<_> = entries.into_iter().collect();
+    random.shuffle(&mut entries);
+    let each = entries.len().div_ceil(pages as usize);
+    dealt(entries, each)
+}
+
+/// The pages of a bucket's chain with their blocks.
+fn linked(
+    layout: &Layout,
+    bucket: u32,
+    pages: Vec<Entries>,
+    free: &mut impl Iterator<Item = u32>,
+) -> Vec<(u32, Entries)> {
+    let blocks = std::iter::once(layout.bucket_block(bucket)).chain(free);
+    pages.into_iter().zip(blocks).map(|(entries, block)| (block, entries)).collect()
+}
+
+/// A store with nothing but the chain of bucket 0.
+fn lone(blocks: u32, pages: Vec<Entries>) -> Vec<u8> {
+    let mut spares = [0; 16];
+    spares[1] = pages.len() as u32;
+    let layout = Layout { blocks, max: 1, point: 1, spares };
+    let mut free = (1..layout.bits()).map(|bit| layout.bit_block(bit));
+    let chains = vec![linked(&layout, 0, pages, &mut free), linked(&layout, 1, vec![Entries::new()], &mut free)];
+    encode(&layout, 40, 0, (0, 0), &chains)
+}
