@@ -8,6 +8,7 @@ pub mod work; // work.rt: the steps of splits
 
 use model::Refusal;
 use page::Pair;
+use plan::Advance;
 
 // What the tests before a call find: a sound store, or the refusal.
 enum Test {
@@ -19,4 +20,10 @@ enum Test {
 enum PairTest {
     Passed(Pair),
     Failed(Refusal),
+}
+
+// What a step came to, and the place in the old chain that the next one may search from.
+struct Stride {
+    advance: Advance,
+    place: usize,
 }

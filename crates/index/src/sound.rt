@@ -1,10 +1,10 @@
 // What the calls do to a store that passed the tests: the change is planned, and then sealed and written.
+use crate::Stride;
 use image::Meta;
 use insertion::insert::plan_insert;
 use meta::read_meta;
 use model::Answer;
 use page::Pair;
-use plan::Advance;
 use removal::plan_remove;
 use split::step::plan_step;
 use store::block_at;
@@ -14,6 +14,8 @@ ghost use mathlib.Core.Bool.{true};
 ghost use Rattle.model.specs.Calls.{pairOk, insert, remove};
 ghost use Rattle.image.specs.Decode.{metaAt, decode};
 ghost use Rattle.outcomes.specs.Outcomes.{changed};
+ghost use Rattle.plan.specs.declared.Advance.{Advance};
+ghost use Rattle.split.specs.Seek.{From};
 ghost use Rattle.index.specs.Sound.{Sound, Stepped};
 
 // The fields of the meta block.
@@ -48,14 +50,19 @@ pub fn remove_sound(store: &mut [u8], pair: Pair) -> Answer
     plan.answer
 }
 
-// One step; where it stops, the store stays.
-pub fn step_sound(store: &mut [u8]) -> Advance
-    requires { ⌜ Sound (now store) ⌝ }
-    ensures { λ r. ⌜ Stepped (now (store .entry)) r (now (store .exit)) ⌝ }
+// One step; where it stops, the store stays. A job's search begins at the place `from`.
+pub fn step_sound(store: &mut [u8], from: usize) -> Stride
+    requires { ⌜ (Sound (now store)) × (From (decode (now store)) from) ⌝ }
+    ensures { λ r. ⌜ Stepped (now (store .entry)) (r .advance) (now (store .exit)) ⌝ }
+    ensures { λ r. ⌜ (r .advance ≡ Advance.Next → From (decode (now (store .exit))) (r .place)) ⌝ }
 {
     let m = read_fields(store);
     let mut images = [0u8; 4096];
-    let plan = plan_step(store, m, &mut images);
+    let plan = plan_step(store, m, from, &mut images);
     finish(store, plan.change, &mut images);
-    plan.advance
+    let advance = plan.advance;
+    Stride {
+        advance,
+        place: plan.place,
+    }
 }

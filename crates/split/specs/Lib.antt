@@ -1,7 +1,10 @@
 pub mod Mover
+pub mod Seek
+pub mod SeekLaws
 pub mod MoverLaws
 pub mod Step
 pub mod StepLaws
+pub mod FromLaws
 pub mod CopyLaws
 pub mod Job
 pub mod JobLaws

@@ -1,16 +1,24 @@
--- The entry that a step of a pending split moves.
+-- The entry that a step of a pending split moves, and the walk in which it looks for copies.
+use mathlib.Core.Path.{_≡_}
 use mathlib.Core.Bool.{Bool, true, false}
-use mathlib.Core.Option.{Option, none, some}
+use mathlib.Core.List.{List}
+use Prim.Native.Nat.{ℕ}
+use lib.ListN.{length, take}
 use Rattle.page.specs.declared.Entry.{Entry}
-use Rattle.model.specs.Index.{Index}
+use Rattle.model.specs.Index.{Index, chain, newBucket}
 use Rattle.model.specs.Steps.{moves, toCopy}
-use Rattle.split.specs.declared.Mover.{Mover}
+use Rattle.frame.specs.Frame.{chainBlocks}
 
 -- an entry that is left to copy; to clear
 abbrev pub movable : (copying : Bool) → Index → Entry → Bool
 movable true x e = toCopy x e
 movable false x e = moves x e
 
-abbrev pub moverOf : Option Entry → Mover
-moverOf none = Mover.Nothing
-moverOf (some e) = Mover.At e
+-- the first n of bs are the blocks of the new chain
+pub record NewChain (x : Index) (bs : List ℕ) (n : ℕ) : Type 0 where
+  pub blocks : take n bs ≡ chainBlocks x (newBucket x) (chain x (newBucket x))
+  pub count : n ≡ length (take n bs)
+
+-- where the step copies, they are
+abbrev pub Copies : (copying : Bool) → Index → List ℕ → ℕ → Type 0
+Copies c x bs n = c ≡ true → NewChain x bs n

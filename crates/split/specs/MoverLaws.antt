@@ -1,35 +1,63 @@
 -- Whether an entry is left to move, as code tests it, and the search for one among a page's slots.
-use mathlib.Core.Path.{_≡_, refl, sym, ap, _∙_}
+use mathlib.Core.Path.{_≡_, sym, ap, _∙_}
 use mathlib.Core.Logic.{_≢_}
 use mathlib.Core.Bool.{Bool, true, false, not, _&&_}
 use mathlib.Core.List.{List}
-use mathlib.Core.Option.{Option, none, some}
+use mathlib.Core.Option.{some}
 use Prim.Native.Nat.{ℕ, _+_, _≤_, _<_}
 use native.Mathlib.Omega.{arith}
 use borrow.Author.Tests.{eq-eqb, ne-eqb}
 use lib.Dec.{eqb}
-use lib.ListN.{length, drop}
-use Rattle.lists.specs.Lists.{any, find}
+use lib.ListN.{length, take}
+use Rattle.lists.specs.Lists.{any}
 use Rattle.address.specs.Address.{bucketOf}
 use Rattle.endian.specs.Endian.{u16At}
 use Rattle.page.specs.declared.Entry.{Entry}
 use Rattle.page.specs.Pair.{is}
 use Rattle.page.specs.Entries.{entryAt, entriesOf}
 use Rattle.page.specs.EntriesLaws.{length-entriesOf, getD-entriesOf}
-use Rattle.model.specs.Index.{Index, entriesAt, newBucket, oldBucket}
+use Rattle.model.specs.Index.{Index, chain, entriesAt, newBucket}
 use Rattle.model.specs.Steps.{moves}
-use Rattle.model.specs.MachineLaws.{never}
 use Rattle.image.specs.declared.Meta.{Meta}
-use Rattle.image.specs.Decode.{decode}
+use Rattle.image.specs.Decode.{blockOf, decode}
+use Rattle.frame.specs.Frame.{chainBlocks}
 use Rattle.chain.specs.declared.Found.{Found}
-use Rattle.chain.specs.Search.{isFound}
-use Rattle.chain.specs.FindLaws.{find-here, find-later, find-end}
+use Rattle.chain.specs.declared.Walk.{Walk}
+use Rattle.chain.specs.Walk.{Walked}
+use Rattle.chain.specs.Search.{isFound, findIn}
+use Rattle.chain.specs.Within.{PagesOk, Within}
+use Rattle.chain.specs.FindLaws.{find-here}
 use Rattle.view.specs.Reads.{Reads}
 use Rattle.view.specs.ReadsLaws.{reads-max}
-use Rattle.view.specs.Places.{findAt}
+use Rattle.view.specs.PlacesLaws.{find-read}
+use Rattle.view.specs.ChainLaws.{blocks-within, blocks-pages, walks-blocks, walks-count}
 use Rattle.view.specs.HeldLaws.{isFound-findAt}
 use Rattle.split.specs.declared.Mover.{Mover}
-use Rattle.split.specs.Mover.{movable, moverOf}
+use Rattle.split.specs.Mover.{movable, NewChain}
+use Rattle.split.specs.Seek.{Before, Seeks, sought, nothing}
+use Rattle.split.specs.SeekLaws.{before-find, before-all, before-next}
+
+-- ---- the walk along the new chain
+
+module _ {s : List ℕ} {m : Meta} (r : Reads s m) where
+  new-made : newBucket (decode s) ≤ m .max
+  new-made = omega (arith, reads-max r)
+
+  module _ {bs : List ℕ} {n : ℕ} (h : NewChain (decode s) bs n) where
+    pub copies-within : Within s bs n
+    copies-within = blocks-within r (newBucket (decode s)) new-made bs n (h .blocks) (h .count)
+
+    pub copies-pages : PagesOk s (take n bs)
+    copies-pages = blocks-pages r (newBucket (decode s)) new-made bs n (h .blocks) (h .count)
+
+  -- a walk of it
+  pub walks-copies : {w : Walk} → Walked s (blockOf s (m .max)) w → NewChain (decode s) (w .blocks) (w .count)
+  walks-copies {w} h =
+      let y = decode s in
+      record {
+        blocks = walks-blocks r (m .max) (omega arith) h ∙ ap (λ (b : ℕ). chainBlocks y b (chain y b)) (reads-max r);
+        count = walks-count r (m .max) (omega arith) h;
+      }
 
 -- ---- one entry
 
@@ -55,16 +83,16 @@ module _ {s : List ℕ} {m : Meta} (r : Reads s m) (e : Entry) where
     pub movable-clear : (c : Bool) → c ≡ false → b ≡ m .max → true ≡ movable c (decode s) e
     movable-clear c k q = sym (ap (λ (d : Bool). movable d x e) k ∙ moves-home q)
 
-    -- f is what the search for a copy found
-    pub movable-copy : (c : Bool) → c ≡ true → b ≡ m .max → (f : Found) → f ≡ findAt (decode s) (m .max) (e .pair)
-        → not (isFound f) ≡ movable c (decode s) e
-    movable-copy c k q f g =
+    -- f is what the search for a copy found in the new chain
+    pub movable-copy : {c : Bool} {bs : List ℕ} {n : ℕ} → c ≡ true → NewChain (decode s) bs n → b ≡ m .max
+        → (f : Found) → f ≡ findIn s (take n bs) (e .pair) → not (isFound f) ≡ movable c (decode s) e
+    movable-copy k h q f g =
         sym
         (ap (λ (d : Bool). movable d x e) k
         ∙ ap (λ (t : Bool). t && not (any (is (e .pair)) (entriesAt x (newBucket x)))) (moves-home q)
         ∙ ap not (sym (isFound-findAt x (newBucket x) (e .pair))
-        ∙ ap (λ (n : ℕ). isFound (findAt x n (e .pair))) (sym (reads-max r))
-        ∙ ap isFound (sym g)))
+        ∙ ap isFound (sym (g ∙ ap (λ (ks : List ℕ). findIn s ks (e .pair)) (h .blocks)
+        ∙ find-read r (newBucket x) (new-made r) (e .pair)))))
 
 -- ---- the slots of a page, from slot i on
 
@@ -73,33 +101,16 @@ module _ (t : Entry → Bool) (l : List ℕ) (i : ℕ) where
     inList : i < length (entriesOf l)
     inList = omega (arith, length-entriesOf l)
 
-    pub slot-here : t (entryAt l i) ≡ true → find t (drop i (entriesOf l)) ≡ some (entryAt l i)
-    slot-here h =
+    pub slot-here : Before t (entriesOf l) i → t (entryAt l i) ≡ true
+        → Seeks t (entriesOf l) (Mover.At (entryAt l i) i)
+    slot-here z h =
         let g = getD-entriesOf l i (entryAt l i) more in
-        find-here t (entriesOf l) i (entryAt l i) inList (ap t g ∙ h) ∙ ap some g
+        let first = find-here t (entriesOf l) i (entryAt l i) inList (ap t g ∙ h) ∙ ap some g in
+        sought {k = i} (before-find t (entriesOf l) i z ∙ first) (omega (arith, inList)) z
 
-    pub slot-later : t (entryAt l i) ≡ false → find t (drop i (entriesOf l)) ≡ find t (drop (i + 1) (entriesOf l))
-    slot-later h = find-later t (entriesOf l) i (entryAt l i) inList (ap t (getD-entriesOf l i (entryAt l i) more) ∙ h)
+    pub slot-later : Before t (entriesOf l) i → t (entryAt l i) ≡ false → Before t (entriesOf l) (i + 1)
+    slot-later z h =
+        before-next t (entriesOf l) i (entryAt l i) inList (ap t (getD-entriesOf l i (entryAt l i) more) ∙ h) z
 
-  pub slot-end : u16At l 0 ≤ i → find t (drop i (entriesOf l)) ≡ none
-  slot-end past = find-end t (entriesOf l) i (omega (arith, length-entriesOf l))
-
--- ---- what was found
-
-module _ (s : List ℕ) (copying : Bool) {r : Mover}
-    (q : r ≡ moverOf (find (movable copying (decode s)) (entriesAt (decode s) (oldBucket (decode s))))) where
-  pub mover-at : {e : Entry} → r ≡ Mover.At e
-      → find (movable copying (decode s)) (entriesAt (decode s) (oldBucket (decode s))) ≡ some e
-  mover-at {e} h = go (find (movable copying (decode s)) (entriesAt (decode s) (oldBucket (decode s)))) (sym h ∙ q)
-    where
-      go : (o : Option Entry) → Mover.At e ≡ moverOf o → o ≡ some e
-      go none k = never (cc)
-      go (some d) k = cc
-
-  pub mover-none : r ≡ Mover.Nothing
-      → find (movable copying (decode s)) (entriesAt (decode s) (oldBucket (decode s))) ≡ none
-  mover-none h = go (find (movable copying (decode s)) (entriesAt (decode s) (oldBucket (decode s)))) (sym h ∙ q)
-    where
-      go : (o : Option Entry) → Mover.Nothing ≡ moverOf o → o ≡ none
-      go none k = refl
-      go (some d) k = never (cc)
+  pub slot-end : Before t (entriesOf l) i → u16At l 0 ≤ i → Seeks t (entriesOf l) Mover.Nothing
+  slot-end z past = nothing (before-all t (entriesOf l) i (omega (arith, length-entriesOf l)) z)

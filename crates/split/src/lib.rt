@@ -5,9 +5,19 @@ mod begin; // begin.rt: the begin of a split
 pub mod step; // step.rt: one step
 
 use page::Entry;
+use plan::Advance;
+use store::Change;
 
-// The first entry of the old chain that is left to copy or to clear.
+// The first entry of the old chain that is left to copy or to clear, and its place: a place is a number of entries
+// from the chain's start.
 pub enum Mover {
-    At(Entry),
+    At { entry: Entry, place: usize },
     Nothing,
+}
+
+// A planned step, and the place in the old chain that the next one may search from.
+pub struct SplitPlan {
+    pub advance: Advance,
+    pub change: Change,
+    pub place: usize,
 }

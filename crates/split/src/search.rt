@@ -4,27 +4,51 @@ use address::bucket_of;
 use address::limits::MAX_BLOCKS;
 use address::parent_of;
 use chain::Found;
+use chain::Walk;
 use chain::links::page_on;
+use chain::search::find_pair;
 use image::Meta;
 use page::Entry;
 use page::slots::count_entries;
 use page::slots::get_entry;
 use reader::buckets::walk_bucket;
-use view::chains::find_in;
 ghost use mathlib.Core.Path.{_≡_};
+ghost use Prim.Native.Nat.{_-_};
 ghost use lib.ListN.{take};
-ghost use Rattle.lists.specs.Lists.{find, bind};
+ghost use Rattle.lists.specs.Lists.{bind};
 ghost use Rattle.page.specs.Entries.{entriesOf};
 ghost use Rattle.page.specs.Allowed.{Sorted};
 ghost use Rattle.model.specs.Index.{entriesAt, oldBucket};
 ghost use Rattle.image.specs.Decode.{decode};
 ghost use Rattle.chain.specs.Within.{entriesOn, PagesOk, Within};
 ghost use Rattle.view.specs.Reads.{Reads};
-ghost use Rattle.split.specs.Mover.{movable, moverOf};
+ghost use Rattle.split.specs.Mover.{movable, Copies};
+ghost use Rattle.split.specs.Seek.{Before, Seeks};
+
+// Where the step copies, the walk along the new chain, in which copies are looked for.
+fn walk_copies(store: &[u8], m: Meta, copying: bool) -> Walk
+    requires { ⌜ Reads (now store) m ⌝ }
+    ensures { λ r. ⌜ Copies copying (decode (now (store .entry))) (r .blocks) (r .count) ⌝ }
+{
+    if copying {
+        return walk_bucket(store, m, m.max);
+    }
+    Walk {
+        count: 0,
+        blocks: [0u32; MAX_BLOCKS + 1],
+    }
+}
 
 // Whether the entry maps to the new bucket and, where the step copies, has no copy there.
-fn is_movable(store: &[u8], m: Meta, copying: bool, e: Entry) -> bool
-    requires { ⌜ Reads (now store) m ⌝ }
+fn is_movable(
+    store: &[u8],
+    copies: &[u32; MAX_BLOCKS + 1],
+    number: usize,
+    m: Meta,
+    copying: bool,
+    e: Entry,
+) -> bool
+    requires { ⌜ (Reads (now store) m) × (Copies copying (decode (now store)) (now copies) number) ⌝ }
     ensures { λ r. ⌜ r ≡ movable copying (decode (now (store .entry))) e ⌝ }
 {
     let new = m.max;
@@ -35,7 +59,7 @@ fn is_movable(store: &[u8], m: Meta, copying: bool, e: Entry) -> bool
     if !copying {
         return true;
     }
-    let found = find_in(store, m, new, pair);
+    let found = find_pair(store, copies, number, pair);
     if let Found::At { block: _, slot: _ } = found {
         false
     } else {
@@ -43,54 +67,87 @@ fn is_movable(store: &[u8], m: Meta, copying: bool, e: Entry) -> bool
     }
 }
 
-fn first_in_page(page: &[u8], store: &[u8], m: Meta, copying: bool) -> Mover
-    requires { ⌜ (Sorted (now page)) × (Reads (now store) m) ⌝ }
-    ensures { λ r. ⌜ r ≡ moverOf (find (movable copying (decode (now (store .entry))))
-        (entriesOf (now (page .entry)))) ⌝ }
+// The first entry of a page that a step moves; before slot `from` there is none.
+fn first_in_page(
+    page: &[u8],
+    store: &[u8],
+    copies: &[u32; MAX_BLOCKS + 1],
+    number: usize,
+    m: Meta,
+    copying: bool,
+    from: usize,
+) -> Mover
+    requires { ⌜ (Sorted (now page)) × (Reads (now store) m)
+        × (Copies copying (decode (now store)) (now copies) number) ⌝ }
+    requires { ⌜ Before (movable copying (decode (now store))) (entriesOf (now page)) from ⌝ }
+    ensures { λ r. ⌜ Seeks (movable copying (decode (now (store .entry)))) (entriesOf (now (page .entry))) r ⌝ }
 {
     let n = count_entries(page);
-    let mut i = 0;
+    let mut i = from;
     while i < n {
-        let e = get_entry(page, i);
-        if is_movable(store, m, copying, e) {
-            return Mover::At(e);
+        let entry = get_entry(page, i);
+        if is_movable(store, copies, number, m, copying, entry) {
+            return Mover::At { entry, place: i };
         }
         i += 1;
     }
     Mover::Nothing
 }
 
+// How far `a` is past `b`, or 0.
+fn past(a: usize, b: usize) -> usize
+    ensures { λ r. ⌜ r ≡ a - b ⌝ }
+{
+    if a < b { 0 } else { a - b }
+}
+
+// The first entry on the pages of a walk that a step moves; among the first `from` there is none.
 fn first_in_walk(
     store: &[u8],
     blocks: &[u32; MAX_BLOCKS + 1],
     count: usize,
+    copies: &[u32; MAX_BLOCKS + 1],
+    number: usize,
     m: Meta,
     copying: bool,
+    from: usize,
 ) -> Mover
     requires { ⌜ (Within (now store) (now blocks) count) × (PagesOk (now store) (take count (now blocks)))
-        × (Reads (now store) m) ⌝ }
-    ensures { λ r. ⌜ r ≡ moverOf (find (movable copying (decode (now (store .entry))))
-        (bind (take count (now (blocks .entry))) (entriesOn (now (store .entry))))) ⌝ }
+        × (Reads (now store) m) × (Copies copying (decode (now store)) (now copies) number) ⌝ }
+    requires { ⌜ Before (movable copying (decode (now store)))
+        (bind (take count (now blocks)) (entriesOn (now store))) from ⌝ }
+    ensures { λ r. ⌜ Seeks (movable copying (decode (now (store .entry))))
+        (bind (take count (now (blocks .entry))) (entriesOn (now (store .entry)))) r ⌝ }
 {
+    let mut passed = 0;
     let mut i = 0;
     while i < count {
-        let found = first_in_page(page_on(store, blocks, count, i), store, m, copying);
-        if let Mover::At(e) = found {
-            return Mover::At(e);
+        let page = page_on(store, blocks, count, i);
+        let found = first_in_page(page, store, copies, number, m, copying, past(from, passed));
+        if let Mover::At { entry, place } = found {
+            let at = passed + place;
+            return Mover::At { entry, place: at };
         }
+        passed += count_entries(page);
         i += 1;
     }
     Mover::Nothing
 }
 
-// The first entry of the old chain that is left to copy or, where the step clears, to take away.
-pub fn first_mover(store: &[u8], m: Meta, copying: bool) -> Mover
+// The first entry of the old chain that is left to copy or, where the step clears, to take away; among its first
+// `from` entries there is none.
+pub fn first_mover(store: &[u8], m: Meta, copying: bool, from: usize) -> Mover
     requires { ⌜ Reads (now store) m ⌝ }
-    ensures { λ r. ⌜ r ≡ moverOf (find (movable copying (decode (now (store .entry))))
-        (entriesAt (decode (now (store .entry))) (oldBucket (decode (now (store .entry)))))) ⌝ }
+    requires { ⌜ Before (movable copying (decode (now store)))
+        (entriesAt (decode (now store)) (oldBucket (decode (now store)))) from ⌝ }
+    ensures { λ r. ⌜ Seeks (movable copying (decode (now (store .entry))))
+        (entriesAt (decode (now (store .entry))) (oldBucket (decode (now (store .entry))))) r ⌝ }
 {
     let walk = walk_bucket(store, m, parent_of(m.max));
     let blocks = walk.blocks;
     let count = walk.count;
-    first_in_walk(store, &blocks, count, m, copying)
+    let made = walk_copies(store, m, copying);
+    let copies = made.blocks;
+    let number = made.count;
+    first_in_walk(store, &blocks, count, &copies, number, m, copying, from)
 }

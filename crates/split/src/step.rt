@@ -1,5 +1,6 @@
 // One step: of the pending job, or the begin of a split that is wanted.
 use crate::Mover;
+use crate::SplitPlan;
 use crate::begin::plan_begin;
 use crate::job::plan_cleared;
 use crate::job::plan_copied;
@@ -35,6 +36,7 @@ ghost use Rattle.image.specs.Layout.{metaOf};
 ghost use Rattle.image.specs.Decode.{decode};
 ghost use Rattle.view.specs.Reads.{Reads};
 ghost use Rattle.plan.specs.Plan.{Plans, Advances};
+ghost use Rattle.split.specs.Seek.{From, Leads};
 ghost use Rattle.split.specs.Step.{advanceOf};
 
 // A put as a step: without room it stops.
@@ -74,23 +76,42 @@ fn step_idle(store: &[u8], m: Meta, images: &mut [u8]) -> StepPlan
     or_full(plan_begin(store, m, images))
 }
 
-// The first entry of the old chain without a copy is copied, marked moved; without one copying ends.
-fn step_copying(store: &[u8], m: Meta, images: &mut [u8]) -> StepPlan
+// A step, and the place that the next one may search from.
+fn with_place(step: StepPlan, place: usize) -> SplitPlan
+    ensures { λ r. ⌜ (r .change ≡ step .change) × (r .advance ≡ step .advance) × (r .place ≡ place) ⌝ }
+{
+    let advance = step.advance;
+    let change = step.change;
+    SplitPlan {
+        advance,
+        change,
+        place,
+    }
+}
+
+// The first entry of the old chain without a copy is copied, marked moved; without one copying ends. The search begins
+// at the place `from`.
+fn step_copying(store: &[u8], m: Meta, from: usize, images: &mut [u8]) -> SplitPlan
     requires { ⌜ (Reads (now store) m) × (length (now images) ≡ 4096) ⌝ }
-    requires { ⌜ decode (now store) .job ≡ copying ⌝ }
+    requires { ⌜ (decode (now store) .job ≡ copying) × (From (decode (now store)) from) ⌝ }
     ensures { λ r. ⌜ Advances (now (store .entry)) (r .change) (now (images .exit))
         (step (decode (now (store .entry)))) (r .advance) ⌝ }
+    ensures { λ r. ⌜ Leads (decode (now (store .entry))) (r .place) ⌝ }
 {
-    let mover = first_mover(store, m, true);
-    let Mover::At(e) = mover else {
-        return StepPlan {
+    let mover = first_mover(store, m, true, from);
+    let Mover::At { entry, place } = mover else {
+        return SplitPlan {
             advance: Advance::Next,
             change: plan_copied(store, m, images),
+            place: 0,
         };
     };
-    let pair = e.pair;
+    let pair = entry.pair;
     let copy = Entry { pair, moved: true };
-    or_full(plan_put(store, m, m.max, copy, m.count, images))
+    with_place(
+        or_full(plan_put(store, m, m.max, copy, m.count, images)),
+        place,
+    )
 }
 
 // Takes the pair out of the old chain, in which it stands.
@@ -117,30 +138,32 @@ fn step_clearing(store: &[u8], m: Meta, images: &mut [u8]) -> StepPlan
     ensures { λ r. ⌜ Advances (now (store .entry)) (r .change) (now (images .exit))
         (step (decode (now (store .entry)))) (r .advance) ⌝ }
 {
-    let mover = first_mover(store, m, false);
-    let Mover::At(e) = mover else {
+    let mover = first_mover(store, m, false, 0);
+    let Mover::At { entry, place: _ } = mover else {
         return StepPlan {
             advance: Advance::Next,
             change: plan_cleared(store, m, images),
         };
     };
-    let pair = e.pair;
+    let pair = entry.pair;
     StepPlan {
         advance: Advance::Next,
         change: clear_pair(store, m, pair, images),
     }
 }
 
-// Plans one step of the pending job, or the begin of a split that is wanted.
-pub fn plan_step(store: &[u8], m: Meta, images: &mut [u8]) -> StepPlan
+// Plans one step of the pending job, or the begin of a split that is wanted. A job's search begins at the place `from`.
+pub fn plan_step(store: &[u8], m: Meta, from: usize, images: &mut [u8]) -> SplitPlan
     requires { ⌜ (Reads (now store) m) × (length (now images) ≡ 4096) ⌝ }
+    requires { ⌜ From (decode (now store)) from ⌝ }
     ensures { λ r. ⌜ Advances (now (store .entry)) (r .change) (now (images .exit))
         (step (decode (now (store .entry)))) (r .advance) ⌝ }
+    ensures { λ r. ⌜ Leads (decode (now (store .entry))) (r .place) ⌝ }
 {
     let phase = read_job(store, m);
     match phase {
-        Phase::None => step_idle(store, m, images),
-        Phase::Copying { old: _, new: _ } => step_copying(store, m, images),
-        Phase::Clearing { old: _, new: _ } => step_clearing(store, m, images),
+        Phase::None => with_place(step_idle(store, m, images), 0),
+        Phase::Copying { old: _, new: _ } => step_copying(store, m, from, images),
+        Phase::Clearing { old: _, new: _ } => with_place(step_clearing(store, m, images), 0),
     }
 }

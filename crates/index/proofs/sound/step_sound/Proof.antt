@@ -1,12 +1,12 @@
 use mathlib.Core.Path.{_≡_, refl, sym, subst}
 use borrow.Author.Needs.{needs}
 use Rattle.view.specs.Reads.{Reads}
-use Rattle.index.specs.SoundLaws.{advances-fits, advances-stepped}
+use Rattle.index.specs.SoundLaws.{advances-fits, advances-stepped, advances-from}
 use Rattle.index.proofs.sound.step_sound.Statement.{statement}
 use Rattle.index.proofs.sound.step_sound.Tie as tie
 
 read-fields-requires : tie.Need-read-fields-requires
-read-fields-requires c κs = c .before .before .pre
+read-fields-requires c κs = c .before .before .pre .0
 
 slice-aggregate-plan-step : tie.Need-slice-aggregate-plan-step
 slice-aggregate-plan-step c = search needs
@@ -15,14 +15,14 @@ plan-step-requires : tie.Need-plan-step-requires
 plan-step-requires c κs =
     let m = c .before .before in
     let s = m .before .before .before in
-    (subst (Reads (s .args .store .now)) (sym (m .read-fields .ensures)) (s .pre), refl)
+    ((subst (Reads (s .args .store .now)) (sym (m .read-fields .ensures)) (s .pre .0), refl), s .pre .1)
 
 slice-aggregate-finish : tie.Need-slice-aggregate-finish
 slice-aggregate-finish c = search needs
 
 finish-requires : tie.Need-finish-requires
 finish-requires c κs =
-    let p = c .before .before .before .plan-step in (advances-fits (p .ensures), p .kept .1 .1 .0)
+    let p = c .before .before .before .plan-step in (advances-fits (p .ensures .0), p .kept .1 .1 .1 .0)
 
 same-length : tie.Need-same-length
 same-length c = search needs
@@ -31,7 +31,11 @@ returns : tie.Need-returns
 returns c =
     let f = c .before .before .before in
     let p = f .before .before .before .before in
-    advances-stepped (p .before .before .before .before .before .before .pre) (p .plan-step .ensures) refl _ (f .finish .ensures)
+    let r = p .before .before .before .before .before .before .pre .0 in
+    let e = p .plan-step .ensures in (
+      advances-stepped r (e .0) refl _ (f .finish .ensures),
+      advances-from r (e .0) refl _ (f .finish .ensures) (p .plan-step .result .place) (e .1),
+    )
 
 pub step-sound-spec : {M : Type 1} → statement M
 step-sound-spec =

@@ -3,6 +3,9 @@ use Prim.Native.Nat.{_-_}
 use native.Mathlib.Omega.{arith}
 use borrow.Author.Needs.{needs}
 use lib.ListN.{length}
+use Rattle.image.specs.Decode.{decode}
+use Rattle.split.specs.Seek.{From}
+use Rattle.split.specs.FromLaws.{from-start}
 use Rattle.index.specs.SoundLaws.{Working, working-next, working-stop, working-spent, working-none}
 use Rattle.index.proofs.work.work_sound.Statement.{statement}
 use Rattle.index.proofs.work.work_sound.Tie as tie
@@ -11,16 +14,16 @@ use Rattle.index.proofs.work.work_sound.Lts as lts
 use Rattle.index.proofs.sound.step_sound.Reads as step-sound-reads
 
 abbrev Inv-loop : tie.InvT-loop
-Inv-loop store₀ budget steps₀ store steps = Working budget store₀ store steps
+Inv-loop store₀ budget steps₀ place₀ store steps place = Working budget store₀ store steps × From (decode store) place
 
 abbrev μ-loop : tie.MeasureT-loop
-μ-loop store₀ budget steps₀ store steps = budget - steps
+μ-loop store₀ budget steps₀ place₀ store steps place = budget - steps
 
 loop-holds : tie.Need-loop-holds Inv-loop μ-loop
-loop-holds c = working-none _ _ (c .before .pre)
+loop-holds c = (working-none _ _ (c .before .pre), from-start (decode (c .before .args .store .now)))
 
 step-sound-requires : tie.Need-step-sound-requires Inv-loop μ-loop
-step-sound-requires c κs = c .before .before .loop .inv .sound
+step-sound-requires c κs = let h = c .before .before .loop .inv in (h .0 .sound, h .1)
 
 enum-known-advance : tie.Need-enum-known-advance Inv-loop μ-loop
 enum-known-advance c = search needs
@@ -33,7 +36,7 @@ returns c =
     let k = c .before in
     let a = k .before .before .before .before in
     let l = a .before .before in
-    working-stop (l .before .loop .inv) (l .loop-test .taken) (a .step-sound .ensures) _ (k .advance .given .1)
+    working-stop (l .before .loop .inv .0) (l .loop-test .taken) (a .step-sound .ensures .0) _ (k .advance .given .1)
 
 enum-told : tie.Need-enum-told Inv-loop μ-loop
 enum-told c = search needs
@@ -48,14 +51,17 @@ loop-again : tie.Need-loop-again Inv-loop μ-loop
 loop-again c =
     let a = c .before .before .before .before in
     let l = a .before .before in
-    working-next (l .before .loop .inv) (l .loop-test .taken) (a .step-sound .ensures) (c .enum-told .given .1)
-    (a .step-sound .kept .0)
+    let e = a .step-sound .ensures in (
+      working-next (l .before .loop .inv .0) (l .loop-test .taken) (e .0) (c .enum-told .given .1)
+          (a .step-sound .kept .0),
+      e .1 (c .enum-told .given .1),
+    )
 
 same-length-2 : tie.Need-same-length-2 Inv-loop μ-loop
 same-length-2 c = search needs
 
 returns-2 : tie.Need-returns-2 Inv-loop μ-loop
-returns-2 c = working-spent (c .before .loop .inv) (c .loop-test .left)
+returns-2 c = working-spent (c .before .loop .inv .0) (c .loop-test .left)
 
 pub work-sound-spec : {M : Type 1} → statement M
 work-sound-spec =

@@ -1,31 +1,29 @@
-use mathlib.Core.Path.{_≡_, refl, sym, ap, _∙_}
+use mathlib.Core.Path.{_≡_, sym, ap, _∙_, subst}
 use Prim.Native.Nat.{_-_, _<_}
 use native.Mathlib.Omega.{arith}
-use lib.ListN.{drop}
-use Rattle.lists.specs.Lists.{find}
 use Rattle.endian.specs.Endian.{u16At}
+use Rattle.page.specs.declared.Entry.{Entry}
 use Rattle.page.specs.Entries.{entryAt, entriesOf}
 use Rattle.page.specs.RuleLaws.{number-le}
 use Rattle.image.specs.Decode.{decode}
 use Rattle.split.specs.declared.Mover.{Mover}
-use Rattle.split.specs.Mover.{movable, moverOf}
+use Rattle.split.specs.Mover.{movable}
+use Rattle.split.specs.Seek.{Before, Seeks}
 use Rattle.split.specs.MoverLaws.{slot-here, slot-later, slot-end}
 use Rattle.split.proofs.search.first_in_page.Statement.{statement}
 use Rattle.split.proofs.search.first_in_page.Tie as tie
 
 abbrev Inv-loop : tie.InvT-loop
-Inv-loop page store m copying n i₀ i =
-    find (movable copying (decode store)) (entriesOf page)
-    ≡ find (movable copying (decode store)) (drop i (entriesOf page))
+Inv-loop page store copies number m copying from n i₀ i = Before (movable copying (decode store)) (entriesOf page) i
 
 abbrev μ-loop : tie.MeasureT-loop
-μ-loop page store m copying n i₀ i = n - i
+μ-loop page store copies number m copying from n i₀ i = n - i
 
 count-entries-requires : tie.Need-count-entries-requires Inv-loop μ-loop
-count-entries-requires c κs = omega (arith, c .before .before .pre .0 .whole)
+count-entries-requires c κs = omega (arith, c .before .before .pre .0 .0 .whole)
 
 loop-holds : tie.Need-loop-holds Inv-loop μ-loop
-loop-holds c = refl
+loop-holds c = c .before .before .before .pre .1
 
 inside : (c : tie.In-loop Inv-loop μ-loop)
     → c .before .loop .i < u16At (c .before .before .before .before .before .args .page .now) 0
@@ -34,10 +32,12 @@ inside c = omega (arith, c .loop-test .taken, c .before .before .count-entries .
 get-entry-requires : tie.Need-get-entry-requires Inv-loop μ-loop
 get-entry-requires c κs =
     let s = c .before .before .before .before .before in
-    (omega (arith, inside c, number-le (s .args .page .now) (s .pre .0 .number)), s .pre .0 .whole)
+    (omega (arith, inside c, number-le (s .args .page .now) (s .pre .0 .0 .number)), s .pre .0 .0 .whole)
 
 is-movable-requires : tie.Need-is-movable-requires Inv-loop μ-loop
-is-movable-requires c κs = c .before .before .before .before .before .before .pre .1
+is-movable-requires c κs =
+    let s = c .before .before .before .before .before .before in
+    (s .pre .0 .1, s .pre .0 .2)
 
 -- the test of the entry in slot i
 tested : (c : tie.After-is-movable Inv-loop μ-loop)
@@ -53,11 +53,11 @@ returns c =
     let v = c .before in
     let l = v .before .before .before in
     let a = l .before .before .before .before .args in
-    sym
-    (ap moverOf (l .loop .inv
-    ∙ slot-here (movable (a .copying) (decode (a .store .now))) (a .page .now) (l .loop .i)
-    (inside (v .before .before)) (sym (tested v) ∙ c .if1 .taken))
-    ∙ ap Mover.At (sym (v .before .get-entry .ensures)))
+    let t = movable (a .copying) (decode (a .store .now)) in
+    subst (λ (e : Entry). Seeks t (entriesOf (a .page .now)) (Mover.At e (l .loop .i)))
+    (sym (v .before .get-entry .ensures))
+    (slot-here t (a .page .now) (l .loop .i) (inside (v .before .before)) (l .loop .inv)
+    (sym (tested v) ∙ c .if1 .taken))
 
 add-i : tie.Need-add-i Inv-loop μ-loop
 add-i c = omega arith
@@ -70,18 +70,15 @@ loop-again c =
     let v = c .before in
     let l = v .before .before .before in
     let a = l .before .before .before .before .args in
-    l .loop .inv
-    ∙ slot-later (movable (a .copying) (decode (a .store .now))) (a .page .now) (l .loop .i)
-    (inside (v .before .before)) (sym (tested v) ∙ c .if1 .left)
+    slot-later (movable (a .copying) (decode (a .store .now))) (a .page .now) (l .loop .i)
+    (inside (v .before .before)) (l .loop .inv) (sym (tested v) ∙ c .if1 .left)
 
 returns-2 : tie.Need-returns-2 Inv-loop μ-loop
 returns-2 c =
     let l = c .before in
     let a = l .before .before .before .before .args in
-    sym
-    (ap moverOf (l .loop .inv
-    ∙ slot-end (movable (a .copying) (decode (a .store .now))) (a .page .now) (l .loop .i)
-    (omega (arith, c .loop-test .left, l .before .count-entries .ensures))))
+    slot-end (movable (a .copying) (decode (a .store .now))) (a .page .now) (l .loop .i) (l .loop .inv)
+    (omega (arith, c .loop-test .left, l .before .count-entries .ensures))
 
 pub first-in-page-spec : {M : Type 1} → statement M
 first-in-page-spec =

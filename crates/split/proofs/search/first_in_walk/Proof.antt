@@ -1,55 +1,89 @@
-use mathlib.Core.Path.{_≡_, refl, sym, ap, _∙_}
-use mathlib.Core.List.{List}
-use Prim.Native.Nat.{_-_}
+use mathlib.Core.Path.{_≡_, sym, _∙_, subst}
+use Prim.Native.Nat.{_-_, _≤_}
 use native.Mathlib.Omega.{arith}
 use borrow.Author.Needs.{needs}
-use lib.ListN.{take, drop}
-use Rattle.lists.specs.Lists.{find, bind}
-use Rattle.page.specs.declared.Entry.{Entry}
+use lib.ListN.{length}
+use Rattle.page.specs.Entries.{entriesOf}
+use Rattle.page.specs.EntriesLaws.{length-entriesOf}
+use Rattle.page.specs.RuleLaws.{number-le}
 use Rattle.image.specs.Decode.{decode}
-use Rattle.chain.specs.Within.{entriesOn}
-use Rattle.chain.specs.WithinLaws.{rest-done}
-use Rattle.split.specs.Mover.{movable, moverOf}
-use Rattle.split.proofs.Searching.{walk-here, walk-later}
+use Rattle.split.specs.Mover.{movable}
+use Rattle.split.specs.Seek.{Before}
+use Rattle.split.specs.SeekLaws.{seeks-place}
+use Rattle.split.proofs.Searching.{Behind, behind-start, page-start, page-found, page-later, walk-end}
 use Rattle.split.proofs.search.first_in_walk.Statement.{statement}
 use Rattle.split.proofs.search.first_in_walk.Tie as tie
 
 abbrev Inv-loop : tie.InvT-loop
-Inv-loop store blocks count m copying i₀ i =
-    moverOf (find (movable copying (decode store)) (bind (take count blocks) (entriesOn store)))
-    ≡ moverOf (find (movable copying (decode store)) (bind (drop i (take count blocks)) (entriesOn store)))
+Inv-loop store blocks count copies number m copying from passed₀ i₀ passed i =
+    Behind store blocks count (movable copying (decode store)) passed i
 
 abbrev μ-loop : tie.MeasureT-loop
-μ-loop store blocks count m copying i₀ i = count - i
+μ-loop store blocks count copies number m copying from passed₀ i₀ passed i = count - i
 
 loop-holds : tie.Need-loop-holds Inv-loop μ-loop
-loop-holds c = refl
+loop-holds c = behind-start _ _ _ _
 
 page-on-requires : tie.Need-page-on-requires Inv-loop μ-loop
-page-on-requires c κs = (c .before .before .before .pre .0, c .loop-test .taken)
+page-on-requires c κs = (c .before .before .before .pre .0 .0, c .loop-test .taken)
+
+past-requires : tie.Need-past-requires Inv-loop μ-loop
+past-requires c κs = search needs
 
 first-in-page-requires : tie.Need-first-in-page-requires Inv-loop μ-loop
 first-in-page-requires c κs =
-    let s = c .before .before .before .before in
-    (c .page-on .ensures .sorted (s .pre .1), s .pre .2)
+    let p = c .before in
+    let l = p .before .before in
+    let s = l .before .before in
+    let h = p .page-on .ensures in (
+      (h .sorted (s .pre .0 .1), s .pre .0 .2, s .pre .0 .3),
+      subst (Before (movable (s .args .copying) (decode (s .args .store .now))) (entriesOf (p .page-on .result .now)))
+          (sym (c .past .ensures))
+          (page-start (s .pre .0 .0) (l .loop .inv) (p .before .loop-test .taken) h (s .args .from) (s .pre .1)),
+    )
 
 enum-known-found : tie.Need-enum-known-found Inv-loop μ-loop
 enum-known-found c = search needs
 
+-- a page has at most 40 entries
+few : (c : tie.After-page-on Inv-loop μ-loop) → length (entriesOf (c .page-on .result .now)) ≤ 40
+few c =
+    let s = c .before .before .before .before in
+    let l = c .page-on .result .now in
+    omega (arith, length-entriesOf l, number-le l (c .page-on .ensures .sorted (s .pre .0 .1) .number))
+
+add-at : tie.Need-add-at Inv-loop μ-loop
+add-at c =
+    let v = c .before in
+    let p = v .before .before .before .before in
+    let l = p .before .before in
+    let place = seeks-place (v .before .before .first-in-page .ensures) (v .found .given .1) .0 in
+    omega (arith, few p, place, l .loop .inv .few, l .before .before .pre .0 .0 .few, p .before .loop-test .taken)
+
 returns : tie.Need-returns Inv-loop μ-loop
 returns c =
-    let f = c .before .before .before in
-    let l = f .before .before .before in
-    let s = l .before .before in
-    sym
-    (l .loop .inv
-    ∙ walk-here (s .pre .0) (movable (s .args .copying) (decode (s .args .store .now))) (l .loop .i)
-    (f .before .before .loop-test .taken) (f .before .page-on .ensures)
-    (f .first-in-page .result) (f .first-in-page .ensures) _
-    (c .before .found .given .1))
+    let v = c .before in
+    let p = v .before .before .before .before in
+    let l = p .before .before in
+    page-found (l .before .before .pre .0 .0) (l .loop .inv) (p .before .loop-test .taken) (p .page-on .ensures)
+    (v .before .before .first-in-page .ensures) (v .found .given .1)
 
 enum-told : tie.Need-enum-told Inv-loop μ-loop
 enum-told c = search needs
+
+count-entries-requires : tie.Need-count-entries-requires Inv-loop μ-loop
+count-entries-requires c κs = c .before .before .before .before .page-on .ensures .whole
+
+-- the number of a page's entries
+number : (c : tie.After-count-entries Inv-loop μ-loop)
+    → c .count-entries .result ≡ length (entriesOf (c .before .before .before .before .before .page-on .result .now))
+number c = c .count-entries .ensures ∙ sym (length-entriesOf _)
+
+add-passed : tie.Need-add-passed Inv-loop μ-loop
+add-passed c =
+    let p = c .before .before .before .before .before in
+    let l = p .before .before in
+    omega (arith, few p, number c, l .loop .inv .few, l .before .before .pre .0 .0 .few, p .before .loop-test .taken)
 
 add-i : tie.Need-add-i Inv-loop μ-loop
 add-i c = omega arith
@@ -59,22 +93,17 @@ loop-less c = omega arith
 
 loop-again : tie.Need-loop-again Inv-loop μ-loop
 loop-again c =
-    let f = c .before .before in
-    let l = f .before .before .before in
-    let s = l .before .before in
-    l .loop .inv
-    ∙ walk-later (s .pre .0) (movable (s .args .copying) (decode (s .args .store .now))) (l .loop .i)
-    (f .before .before .loop-test .taken) (f .before .page-on .ensures)
-    (f .first-in-page .result) (f .first-in-page .ensures) (c .enum-told .given .1)
+    let t = c .before in
+    let p = t .before .before .before .before in
+    let l = p .before .before in
+    page-later (l .before .before .pre .0 .0) (l .loop .inv) (p .before .loop-test .taken) (p .page-on .ensures)
+    (t .before .before .first-in-page .ensures) (t .enum-told .given .1) (c .count-entries .result) (number c)
+    (omega (arith, number c, few p))
 
 returns-2 : tie.Need-returns-2 Inv-loop μ-loop
 returns-2 c =
     let l = c .before in
-    let s = l .before .before in
-    let t = movable (s .args .copying) (decode (s .args .store .now)) in
-    sym
-    (l .loop .inv
-    ∙ ap (λ (es : List Entry). moverOf (find t es)) (rest-done (s .pre .0) (l .loop .i) (c .loop-test .left)))
+    walk-end (l .before .before .pre .0 .0) (l .loop .inv) (c .loop-test .left)
 
 pub first-in-walk-spec : {M : Type 1} → statement M
 first-in-walk-spec =
@@ -84,10 +113,14 @@ first-in-walk-spec =
     μ-loop
     loop-holds
     page-on-requires
+    past-requires
     first-in-page-requires
     enum-known-found
+    add-at
     returns
     enum-told
+    count-entries-requires
+    add-passed
     add-i
     loop-less
     loop-again

@@ -5,8 +5,8 @@ use borrow.Author.Tests.{not-true, not-false}
 use Rattle.image.specs.Decode.{decode}
 use Rattle.chain.specs.declared.Found.{Found}
 use Rattle.chain.specs.Search.{isFound}
-use Rattle.split.specs.Mover.{movable}
-use Rattle.split.specs.MoverLaws.{movable-other, movable-clear, movable-copy}
+use Rattle.split.specs.Mover.{movable, NewChain}
+use Rattle.split.specs.MoverLaws.{copies-within, copies-pages, movable-other, movable-clear, movable-copy}
 use Rattle.split.proofs.search.is_movable.Statement.{statement}
 use Rattle.split.proofs.search.is_movable.Tie as tie
 
@@ -17,18 +17,28 @@ returns : tie.Need-returns
 returns c =
     let b = c .before in
     let s = b .before .before .before in
-    movable-other (s .pre) (s .args .e) (b .bucket-of .result) (b .bucket-of .ensures) (s .args .copying)
+    movable-other (s .pre .0) (s .args .e) (b .bucket-of .result) (b .bucket-of .ensures) (s .args .copying)
     (c .if1 .taken)
 
 returns-2 : tie.Need-returns-2
 returns-2 c =
     let b = c .before .before in
     let s = b .before .before .before in
-    movable-clear (s .pre) (s .args .e) (b .bucket-of .result) (b .bucket-of .ensures) (s .args .copying)
+    movable-clear (s .pre .0) (s .args .e) (b .bucket-of .result) (b .bucket-of .ensures) (s .args .copying)
     (not-true (s .args .copying) (c .if2 .taken)) (c .before .if1 .left)
 
-find-in-requires : tie.Need-find-in-requires
-find-in-requires c κs = search needs
+-- where the step copies, the walk is the new chain's
+walked : (c : tie.Else2)
+    → let a = c .before .before .before .before .before .args in
+    NewChain (decode (a .store .now)) (a .copies .now) (a .number)
+walked c =
+    let s = c .before .before .before .before .before in
+    s .pre .1 (not-false (s .args .copying) (c .if2 .left))
+
+find-pair-requires : tie.Need-find-pair-requires
+find-pair-requires c κs =
+    let r = c .before .before .before .before .before .pre .0 in
+    (copies-within r (walked c), copies-pages r (walked c))
 
 enum-told : tie.Need-enum-told
 enum-told c = search needs
@@ -37,15 +47,15 @@ enum-told-2 : tie.Need-enum-told-2
 enum-told-2 c = search needs
 
 -- what the search for a copy tells
-copied : (c : tie.After-find-in)
+copied : (c : tie.After-find-pair)
     → let a = c .before .before .before .before .before .before .args in
-    not (isFound (c .find-in .result)) ≡ movable (a .copying) (decode (a .store .now)) (a .e)
+    not (isFound (c .find-pair .result)) ≡ movable (a .copying) (decode (a .store .now)) (a .e)
 copied c =
     let b = c .before .before .before in
     let s = b .before .before .before in
-    movable-copy (s .pre) (s .args .e) (b .bucket-of .result) (b .bucket-of .ensures) (s .args .copying)
-    (not-false (s .args .copying) (c .before .if2 .left)) (c .before .before .if1 .left)
-    (c .find-in .result) (c .find-in .ensures)
+    movable-copy (s .pre .0) (s .args .e) (b .bucket-of .result) (b .bucket-of .ensures)
+    (not-false (s .args .copying) (c .before .if2 .left)) (walked (c .before)) (c .before .before .if1 .left)
+    (c .find-pair .result) (c .find-pair .ensures)
 
 returns-3 : tie.Need-returns-3
 returns-3 c = ap (λ (f : Found). not (isFound f)) (sym (c .enum-told .given .1)) ∙ copied (c .before .before)
@@ -60,7 +70,7 @@ is-movable-spec =
     bucket-of-requires
     returns
     returns-2
-    find-in-requires
+    find-pair-requires
     enum-told
     enum-told-2
     returns-3

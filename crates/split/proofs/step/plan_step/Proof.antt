@@ -1,13 +1,15 @@
-use mathlib.Core.Path.{sym, _∙_}
+use mathlib.Core.Path.{refl, sym, _∙_, subst}
 use borrow.Author.Needs.{needs}
 use Rattle.image.specs.Decode.{decode}
 use Rattle.view.specs.ReadsLaws.{reads-known}
-use Rattle.split.specs.StepLaws.{job-at}
+use Rattle.split.specs.Seek.{Leads}
+use Rattle.split.specs.StepLaws.{job-at, advances-as}
+use Rattle.split.specs.FromLaws.{leads-start}
 use Rattle.split.proofs.step.plan_step.Statement.{statement}
 use Rattle.split.proofs.step.plan_step.Tie as tie
 
 read-job-requires : tie.Need-read-job-requires
-read-job-requires c κs = reads-known (c .before .before .pre .0)
+read-job-requires c κs = reads-known (c .before .before .pre .0 .0)
 
 enum-told : tie.Need-enum-told
 enum-told c = search needs
@@ -17,7 +19,10 @@ step-idle-requires c κs =
     let t = c .before in
     let j = t .before .before in
     let s = j .before .before .before in
-    (s .pre, job-at (decode (s .args .store .now)) _ (sym (t .enum-told .given .1) ∙ j .read-job .ensures))
+    (s .pre .0, job-at (decode (s .args .store .now)) _ (sym (t .enum-told .given .1) ∙ j .read-job .ensures))
+
+with-place-requires : tie.Need-with-place-requires
+with-place-requires c κs = search needs
 
 enum-told-2 : tie.Need-enum-told-2
 enum-told-2 c = search needs
@@ -27,7 +32,8 @@ step-copying-requires c κs =
     let t = c .before in
     let j = t .before .before in
     let s = j .before .before .before in
-    (s .pre, job-at (decode (s .args .store .now)) _ (sym (t .enum-told2 .given .1) ∙ j .read-job .ensures))
+    let at = job-at (decode (s .args .store .now)) _ (sym (t .enum-told2 .given .1) ∙ j .read-job .ensures) in
+    (s .pre .0, (at, s .pre .1))
 
 enum-told-3 : tie.Need-enum-told-3
 enum-told-3 c = search needs
@@ -37,13 +43,22 @@ step-clearing-requires c κs =
     let t = c .before in
     let j = t .before .before in
     let s = j .before .before .before in
-    (s .pre, job-at (decode (s .args .store .now)) _ (sym (t .enum-told3 .given .1) ∙ j .read-job .ensures))
+    (s .pre .0, job-at (decode (s .args .store .now)) _ (sym (t .enum-told3 .given .1) ∙ j .read-job .ensures))
+
+with-place-requires-2 : tie.Need-with-place-requires-2
+with-place-requires-2 c κs = search needs
 
 same-length : tie.Need-same-length
 same-length c = search needs
 
 returns : tie.Need-returns
-returns c = search needs
+returns c =
+    let i = c .before .before .before in
+    let s = i .before .before .before .before .before .before .before in
+    let k = c .with-place .ensures in (
+      advances-as (i .step-idle .ensures) (k .0) (k .1) refl,
+      subst (Leads (decode (s .args .store .now))) (sym (k .2)) (leads-start (decode (s .args .store .now))),
+    )
 
 same-length-2 : tie.Need-same-length-2
 same-length-2 c = search needs
@@ -55,7 +70,13 @@ same-length-3 : tie.Need-same-length-3
 same-length-3 c = search needs
 
 returns-3 : tie.Need-returns-3
-returns-3 c = search needs
+returns-3 c =
+    let i = c .before .before .before in
+    let s = i .before .before .before .before .before .before .before in
+    let k = c .with-place2 .ensures in (
+      advances-as (i .step-clearing .ensures) (k .0) (k .1) refl,
+      subst (Leads (decode (s .args .store .now))) (sym (k .2)) (leads-start (decode (s .args .store .now))),
+    )
 
 pub plan-step-spec : {M : Type 1} → statement M
 plan-step-spec =
@@ -64,10 +85,12 @@ plan-step-spec =
     read-job-requires
     enum-told
     step-idle-requires
+    with-place-requires
     enum-told-2
     step-copying-requires
     enum-told-3
     step-clearing-requires
+    with-place-requires-2
     same-length
     returns
     same-length-2

@@ -1,16 +1,15 @@
 use mathlib.Core.Path.{refl}
-use mathlib.Core.Bool.{false}
 use borrow.Author.Needs.{needs}
 use Rattle.image.specs.Decode.{decode}
 use Rattle.plan.specs.Plan.{advanced}
-use Rattle.split.specs.MoverLaws.{mover-at, mover-none}
+use Rattle.split.specs.SeekLaws.{seeks-entry, seeks-none}
 use Rattle.split.specs.StepLaws.{step-clears, advances-as}
 use Rattle.split.specs.CopyLaws.{clear-stands, clear-next}
 use Rattle.split.proofs.step.step_clearing.Statement.{statement}
 use Rattle.split.proofs.step.step_clearing.Tie as tie
 
 first-mover-requires : tie.Need-first-mover-requires
-first-mover-requires c κs = search needs
+first-mover-requires c κs = (c .before .before .pre .0 .0, refl)
 
 enum-known-mover : tie.Need-enum-known-mover
 enum-known-mover c = search needs
@@ -22,7 +21,7 @@ plan-cleared-requires : tie.Need-plan-cleared-requires
 plan-cleared-requires c κs =
     let t = c .before in
     let s = t .before .before .before .before .before in
-    let none = mover-none (s .args .store .now) false (t .before .before .first-mover .ensures) (t .enum-told .given .1) in
+    let none = seeks-none (t .before .before .first-mover .ensures) (t .enum-told .given .1) in
     (s .pre .0, (s .pre .1, none))
 
 same-length : tie.Need-same-length
@@ -33,7 +32,7 @@ returns c =
     let p = c .before .before in
     let t = p .before .before in
     let s = t .before .before .before .before .before in
-    let none = mover-none (s .args .store .now) false (t .before .before .first-mover .ensures) (t .enum-told .given .1) in
+    let none = seeks-none (t .before .before .first-mover .ensures) (t .enum-told .given .1) in
     advances-as (advanced (p .plan-cleared .ensures)) refl refl
     (step-clears (decode (s .args .store .now)) (s .pre .1) none)
 
@@ -43,7 +42,7 @@ clear-pair-requires c κs =
     let s = v .before .before .before .before .before in
     let r = s .pre .0 .0 in
     let e = v .mover .given .0 .0 in
-    let first = mover-at (s .args .store .now) false (v .before .before .first-mover .ensures) (v .mover .given .1) in
+    let first = seeks-entry (v .before .before .first-mover .ensures) (v .mover .given .1) in
     (s .pre .0, (clear-stands r (s .pre .1) e first, clear-next r (s .pre .1) e first))
 
 same-length-2 : tie.Need-same-length-2
@@ -54,7 +53,7 @@ returns-2 c =
     let k = c .before .before in
     let v = k .before .before .before .before in
     let s = v .before .before .before .before .before in
-    let first = mover-at (s .args .store .now) false (v .before .before .first-mover .ensures) (v .mover .given .1) in
+    let first = seeks-entry (v .before .before .first-mover .ensures) (v .mover .given .1) in
     advances-as (advanced (k .clear-pair .ensures)) refl refl
     (step-clears (decode (s .args .store .now)) (s .pre .1) first)
 

@@ -1,17 +1,19 @@
-use mathlib.Core.Path.{refl}
-use native.Mathlib.Omega.{arith}
+use mathlib.Core.Path.{refl, sym, _∙_, subst}
 use mathlib.Core.Bool.{true}
+use native.Mathlib.Omega.{arith}
 use borrow.Author.Needs.{needs}
 use Rattle.image.specs.Decode.{decode}
 use Rattle.plan.specs.Plan.{advanced}
-use Rattle.split.specs.MoverLaws.{mover-at, mover-none}
+use Rattle.split.specs.Seek.{Leads}
+use Rattle.split.specs.SeekLaws.{seeks-entry, seeks-place, seeks-none}
+use Rattle.split.specs.FromLaws.{leads-start, copy-leads}
 use Rattle.split.specs.StepLaws.{step-copies, places-advances, advances-as}
 use Rattle.split.specs.CopyLaws.{copy-absent, copy-step, copy-next}
 use Rattle.split.proofs.step.step_copying.Statement.{statement}
 use Rattle.split.proofs.step.step_copying.Tie as tie
 
 first-mover-requires : tie.Need-first-mover-requires
-first-mover-requires c κs = search needs
+first-mover-requires c κs = let s = c .before .before in (s .pre .0 .0, s .pre .1 .1 true (s .pre .1 .0))
 
 enum-known-mover : tie.Need-enum-known-mover
 enum-known-mover c = search needs
@@ -23,8 +25,8 @@ plan-copied-requires : tie.Need-plan-copied-requires
 plan-copied-requires c κs =
     let t = c .before in
     let s = t .before .before .before .before .before in
-    let none = mover-none (s .args .store .now) true (t .before .before .first-mover .ensures) (t .enum-told .given .1) in
-    (s .pre .0, (s .pre .1, none))
+    let none = seeks-none (t .before .before .first-mover .ensures) (t .enum-told .given .1) in
+    (s .pre .0, (s .pre .1 .0, none))
 
 same-length : tie.Need-same-length
 same-length c = search needs
@@ -34,9 +36,9 @@ returns c =
     let p = c .before .before in
     let t = p .before .before in
     let s = t .before .before .before .before .before in
-    let none = mover-none (s .args .store .now) true (t .before .before .first-mover .ensures) (t .enum-told .given .1) in
-    advances-as (advanced (p .plan-copied .ensures)) refl refl
-    (step-copies (decode (s .args .store .now)) (s .pre .1) none)
+    let none = seeks-none (t .before .before .first-mover .ensures) (t .enum-told .given .1) in
+    let x = decode (s .args .store .now) in
+    (advances-as (advanced (p .plan-copied .ensures)) refl refl (step-copies x (s .pre .1 .0) none), leads-start x)
 
 plan-put-requires : tie.Need-plan-put-requires
 plan-put-requires c κs =
@@ -44,23 +46,35 @@ plan-put-requires c κs =
     let s = v .before .before .before .before .before in
     let r = s .pre .0 .0 in
     let e = v .mover .given .0 .0 in
-    let first = mover-at (s .args .store .now) true (v .before .before .first-mover .ensures) (v .mover .given .1) in
-    ((r, omega arith, s .pre .0 .1), (copy-absent r (s .pre .1) e first, copy-next r (s .pre .1) e first))
+    let first = seeks-entry (v .before .before .first-mover .ensures) (v .mover .given .1) in
+    ((r, omega arith, s .pre .0 .1), (copy-absent r (s .pre .1 .0) e first, copy-next r (s .pre .1 .0) e first))
 
 or-full-requires : tie.Need-or-full-requires
 or-full-requires c κs = search needs
+
+with-place-requires : tie.Need-with-place-requires
+with-place-requires c κs = search needs
 
 same-length-2 : tie.Need-same-length-2
 same-length-2 c = search needs
 
 returns-2 : tie.Need-returns-2
 returns-2 c =
-    let p = c .before .before .before in
+    let o = c .before in
+    let p = o .before .before .before in
     let v = p .before .before .before .before in
     let s = v .before .before .before .before .before in
-    let first = mover-at (s .args .store .now) true (v .before .before .first-mover .ensures) (v .mover .given .1) in
-    advances-as (places-advances (p .plan-put .ensures)) (c .or-full .ensures .0) (c .or-full .ensures .1)
-    (copy-step (s .pre .0 .0) (s .pre .1) (v .mover .given .0 .0) first)
+    let r = s .pre .0 .0 in
+    let x = decode (s .args .store .now) in
+    let found = v .before .before .first-mover .ensures in
+    let first = seeks-entry found (v .mover .given .1) in
+    let at = v .mover .given .0 in
+    let k = c .with-place .ensures in (
+      advances-as (places-advances (p .plan-put .ensures)) (k .0 ∙ o .or-full .ensures .0)
+          (k .1 ∙ o .or-full .ensures .1) (copy-step r (s .pre .1 .0) (at .0) first),
+      subst (Leads x) (sym (k .2))
+          (copy-leads x (r .wf) (at .0) (s .pre .1 .0) first (at .1 .0) (seeks-place found (v .mover .given .1) .1)),
+    )
 
 pub step-copying-spec : {M : Type 1} → statement M
 step-copying-spec =
@@ -74,5 +88,6 @@ step-copying-spec =
     returns
     plan-put-requires
     or-full-requires
+    with-place-requires
     same-length-2
     returns-2)

@@ -1,0 +1,35 @@
+-- A search along entries from a place on, before which none passes the test; the places from which a step may search.
+use mathlib.Core.Path.{_≡_}
+use mathlib.Core.Bool.{Bool, true, false}
+use mathlib.Core.List.{List}
+use mathlib.Core.Option.{none, some}
+use Prim.Native.Nat.{ℕ, _≤_}
+use lib.ListN.{length, take}
+use Rattle.lists.specs.Lists.{tally, find}
+use Rattle.page.specs.declared.Entry.{Entry}
+use Rattle.model.specs.Index.{Job, copying, clearing, Index, entriesAt, oldBucket}
+use Rattle.model.specs.Steps.{next, step}
+use Rattle.split.specs.declared.Mover.{Mover}
+use Rattle.split.specs.Mover.{movable}
+
+-- none of the first k entries passes
+abbrev pub Before : (Entry → Bool) → List Entry → ℕ → Type 0
+Before t es k = tally t (take k es) ≡ 0
+
+-- the first entry that passes, and a place before which none does
+pub data Seeks (t : Entry → Bool) (es : List Entry) : Mover → Type 0 where
+  sought : {e : Entry} {k : ℕ} → find t es ≡ some e → k ≤ length es → Before t es k → Seeks t es (Mover.At e k)
+  nothing : find t es ≡ none → Seeks t es Mover.Nothing
+
+-- the job whose steps copy; clear
+abbrev pub jobOf : (copying : Bool) → Job
+jobOf true = copying
+jobOf false = clearing
+
+-- none of the first k entries of the old chain is left for the job to move
+abbrev pub From : Index → ℕ → Type 0
+From x k = (c : Bool) → x .job ≡ jobOf c → Before (movable c x) (entriesAt x (oldBucket x)) k
+
+-- the step after this one may search from the place k
+abbrev pub Leads : Index → ℕ → Type 0
+Leads x k = (y : Index) → step x ≡ next y → From y k

@@ -1,0 +1,83 @@
+-- Searches from a place on, along one list of entries after another.
+use mathlib.Core.Path.{_≡_, refl, sym, ap, _∙_, subst}
+use mathlib.Core.Bool.{Bool, false}
+use mathlib.Core.List.{List, [], _∷_, _++_}
+use mathlib.Core.Option.{none, some}
+use Prim.Native.Nat.{ℕ, zero, suc, _+_, _-_, _≤_, _<_}
+use native.Mathlib.Numerals.{add-one}
+use native.Mathlib.Omega.{arith}
+use lib.ListN.{length, getD, take, drop, take-append-drop, length-append}
+use lib.Seq.{take-all, take-suc, take-append-le, take-append-add}
+use Rattle.lists.specs.Lists.{b2n, tally, find}
+use Rattle.lists.specs.ListsLaws.{tally-append}
+use Rattle.page.specs.declared.Entry.{Entry}
+use Rattle.frame.specs.ListsLaws.{find-zero, find-left, find-right}
+use Rattle.split.specs.declared.Mover.{Mover}
+use Rattle.split.specs.Seek.{Before, Seeks, sought, nothing}
+
+module _ (t : Entry → Bool) where
+  -- what is not before the place is after it
+  pub before-find : (es : List Entry) (k : ℕ) → Before t es k → find t es ≡ find t (drop k es)
+  before-find es k z =
+      ap (find t) (sym (take-append-drop k es)) ∙ find-right t (take k es) (drop k es) (find-zero t (take k es) z)
+
+  pub before-all : (es : List Entry) (k : ℕ) → length es ≤ k → Before t es k → find t es ≡ none
+  before-all es k h z = find-zero t es (ap (tally t) (sym (take-all k es h)) ∙ z)
+
+  pub before-next : (es : List Entry) (k : ℕ) (d : Entry) → k < length es → t (getD es k d) ≡ false → Before t es k
+      → Before t es (k + 1)
+  before-next es k d h f z =
+      ap (λ (n : ℕ). tally t (take n es)) (add-one k)
+      ∙ ap (tally t) (take-suc es k d h)
+      ∙ tally-append t (take k es) (getD es k d ∷ [])
+      ∙ omega (arith, ap b2n f)
+
+  -- a place among some entries and others after them, as one among the first
+  before-left : (es fs : List Entry) (k : ℕ) → Before t (es ++ fs) k → Before t es k
+  before-left es fs zero z = refl
+  before-left [] fs (suc k) z = refl
+  before-left (e ∷ es) fs (suc k) z = omega (arith, before-left es fs k (omega arith))
+
+  -- and past entries before them
+  pub before-part : (bs es fs : List Entry) (k : ℕ) → Before t (bs ++ (es ++ fs)) k → Before t es (k - length bs)
+  before-part [] es fs k z =
+      let e : k - 0 ≡ k = omega arith in ap (λ (n : ℕ). tally t (take n es)) e ∙ before-left es fs k z
+  before-part (b ∷ bs) es fs zero z =
+      let e : 0 - suc (length bs) ≡ 0 = omega arith in ap (λ (n : ℕ). tally t (take n es)) e
+  before-part (b ∷ bs) es fs (suc k) z =
+      let e : suc k - suc (length bs) ≡ k - length bs = omega arith in
+      ap (λ (n : ℕ). tally t (take n es)) e ∙ before-part bs es fs k (omega arith)
+
+  -- what was found among them was found in all
+  pub sought-part : (bs es fs : List Entry) (e : Entry) (k : ℕ) → tally t bs ≡ 0 → Seeks t es (Mover.At e k)
+      → Seeks t (bs ++ (es ++ fs)) (Mover.At e (length bs + k))
+  sought-part bs es fs e k z (sought f l b) =
+      sought {k = length bs + k} (find-right t bs (es ++ fs) (find-zero t bs z) ∙ find-left t es fs e f)
+      (omega (arith, length-append bs (es ++ fs), length-append es fs))
+      (ap (tally t) (take-append-add bs (es ++ fs) k)
+      ∙ tally-append t bs (take k (es ++ fs))
+      ∙ omega (arith, ap (tally t) (take-append-le k es fs l)))
+
+-- ---- what was found
+
+module _ {t : Entry → Bool} {es : List Entry} {r : Mover} (found : Seeks t es r) where
+  pub seeks-at : {e : Entry} {k : ℕ} → r ≡ Mover.At e k → Seeks t es (Mover.At e k)
+  seeks-at h = subst (Seeks t es) h found
+
+  pub seeks-entry : {e : Entry} {k : ℕ} → r ≡ Mover.At e k → find t es ≡ some e
+  seeks-entry {e} {k} h = go (subst (Seeks t es) h found)
+    where
+      go : Seeks t es (Mover.At e k) → find t es ≡ some e
+      go (sought f l b) = f
+
+  pub seeks-place : {e : Entry} {k : ℕ} → r ≡ Mover.At e k → (k ≤ length es) × Before t es k
+  seeks-place {e} {k} h = go (subst (Seeks t es) h found)
+    where
+      go : Seeks t es (Mover.At e k) → (k ≤ length es) × Before t es k
+      go (sought f l b) = (l, b)
+
+  pub seeks-none : r ≡ Mover.Nothing → find t es ≡ none
+  seeks-none h = go (subst (Seeks t es) h found)
+    where
+      go : Seeks t es Mover.Nothing → find t es ≡ none
+      go (nothing f) = f
