@@ -1,30 +1,34 @@
--- Copying goes forward along the old chain: what was passed stays passed. So the next step of a work call may search
+-- A job goes forward along the old chain: what was passed stays passed. So the next step of a work call may search
 -- from where the last one found its entry.
 use mathlib.Core.Path.{_≡_, refl, sym, ap, _∙_, subst}
-use mathlib.Core.Bool.{Bool, true, false, not, _&&_, _||_}
-use mathlib.Core.List.{List}
+use mathlib.Core.Bool.{Bool, true, false, cond, not, _&&_, _||_}
+use mathlib.Core.List.{List, [], _∷_, _++_, map}
 use mathlib.Core.Option.{Option, none, some}
-use Prim.Native.Nat.{ℕ}
+use Prim.Native.Nat.{ℕ, zero, suc, _+_, _≤_}
 use native.Mathlib.Omega.{arith}
+use borrow.Author.Tests.{not-false, ltb-false}
 use lib.Dec.{eqb}
-use lib.ListN.{take}
-use Rattle.lists.specs.Lists.{any, tally, find}
-use Rattle.lists.specs.ListsLaws.{tally-le}
+use lib.ListN.{length, take}
+use Rattle.lists.specs.Lists.{b2n, any, tally, keep, find}
+use Rattle.lists.specs.ListsLaws.{tally-le, find-yes}
 use Rattle.page.specs.declared.Pair.{Pair}
 use Rattle.page.specs.declared.Entry.{Entry}
 use Rattle.page.specs.Pair.{same, is}
-use Rattle.model.specs.Index.{copying, Index, entriesIn, entriesAt, bucket, newBucket, oldBucket, setChain}
-use Rattle.model.specs.Pages.{put}
-use Rattle.model.specs.Steps.{next, orFull, toCopy, step}
+use Rattle.page.specs.PairLaws.{same-eq}
+use Rattle.model.specs.Index.{Page, Chain, copying, clearing, Index, onPages, entriesIn, chain, entriesAt, bucket}
+use Rattle.model.specs.Index.{newBucket, oldBucket, setChain}
+use Rattle.model.specs.Pages.{put, thinEntries, thin, inUse, without, cut}
+use Rattle.model.specs.Steps.{next, orFull, moves, toCopy, step}
 use Rattle.model.specs.WellFormed.{WF}
 use Rattle.model.specs.TallyLaws.{any-more}
-use Rattle.model.specs.StandLaws.{number-here, chain-there}
-use Rattle.model.specs.HeldLaws.{old-new, new-range}
+use Rattle.model.specs.StandLaws.{chain-here, number-here, chain-there}
+use Rattle.model.specs.HeldLaws.{old-new, old-range, new-range}
 use Rattle.model.specs.PlacedLaws.{clearing-copying}
 use Rattle.model.specs.ViewLaws.{movedEntry, PutAs, put-as, Putting, put-view}
 use Rattle.model.specs.MachineLaws.{never}
+use Rattle.chain.specs.PairsLaws.{keep-append}
 use Rattle.split.specs.Seek.{Before, From, Leads}
-use Rattle.split.specs.StepLaws.{step-copies}
+use Rattle.split.specs.StepLaws.{step-copies, step-clears}
 
 -- the first place
 pub from-start : (x : Index) → From x 0
@@ -83,3 +87,80 @@ module _ (x : Index) (w : WF x) (e : Entry) where
       go {q = some u} v f false i =
           let g : u ≡ y = cc in
           absurd (clearing-copying (sym i ∙ ap (λ (a : Index). a .job) (sym g ∙ put-as v .index) ∙ j))
+
+-- ---- an entry that is cleared
+
+-- the pages in use have all the entries
+pages-inUse : (gs : List Page) → onPages (keep inUse gs) ≡ onPages gs
+pages-inUse [] = refl
+pages-inUse (g ∷ gs) = go (inUse g) refl (pages-inUse gs)
+  where
+    empty : (es : List Entry) → length es ≤ 0 → es ≡ []
+    empty [] h = refl
+    empty (e ∷ es) h = absurd (omega arith)
+
+    go : (b : Bool) → inUse g ≡ b → onPages (keep inUse gs) ≡ onPages gs
+        → onPages (cond b (g ∷ keep inUse gs) (keep inUse gs)) ≡ g .entries ++ onPages gs
+    go true q ih = ap (λ (es : List Entry). g .entries ++ es) ih
+    go false q ih =
+        let none = empty (g .entries) (ltb-false 0 (length (g .entries)) q) in
+        ih ∙ ap (λ (es : List Entry). es ++ onPages gs) (sym none)
+
+pages-thin : (p : Pair) (gs : List Page) → onPages (map (thin p) gs) ≡ thinEntries p (onPages gs)
+pages-thin p [] = refl
+pages-thin p (g ∷ gs) =
+    ap (λ (es : List Entry). thinEntries p (g .entries) ++ es) (pages-thin p gs)
+    ∙ sym (keep-append (λ e. not (is p e)) (g .entries) (onPages gs))
+
+-- the other entries stay, in their order
+entries-without : (p : Pair) (c : Chain) → entriesIn (without p c) ≡ thinEntries p (entriesIn c)
+entries-without p c =
+    ap (λ (es : List Entry). thinEntries p (c .first) ++ es)
+    (pages-inUse (map (thin p) (c .more)) ∙ pages-thin p (c .more))
+    ∙ sym (keep-append (λ e. not (is p e)) (c .first) (onPages (c .more)))
+
+-- entries taken out that pass the test stood behind the place
+before-keep : (t f : Entry → Bool) → ((e : Entry) → f e ≡ false → t e ≡ true) → (es : List Entry) (k : ℕ)
+    → Before t es k → Before t (keep f es) k
+before-keep t f h es zero z = refl
+before-keep t f h [] (suc k) z = refl
+before-keep t f h (e ∷ es) (suc k) z = go (f e) refl (before-keep t f h es k) z
+  where
+    go : (b : Bool) → f e ≡ b → (Before t es k → Before t (keep f es) k) → b2n (t e) + tally t (take k es) ≡ 0
+        → Before t (cond b (e ∷ keep f es) (keep f es)) (suc k)
+    go true q ih z = omega (arith, ih (omega arith))
+    go false q ih z = absurd (omega (arith, ap b2n (h e q)))
+
+module _ (x : Index) (w : WF x) (e : Entry) where
+  pub clear-leads : x .job ≡ clearing → find (moves x) (entriesAt x (oldBucket x)) ≡ some e → (k : ℕ)
+      → Before (moves x) (entriesAt x (oldBucket x)) k → Leads x k
+  unfolding cut
+  clear-leads j first k z y h = subst (λ (v : Index). From v k) made go
+    where
+      p : Pair
+      p = e .pair
+
+      c : Chain
+      c = without p (chain x (oldBucket x))
+
+      u : Index
+      u = setChain x (x .spares) (oldBucket x) c
+
+      made : u ≡ y
+      made = let q : next u ≡ next y = sym (step-clears x j first) ∙ h in cc
+
+      there : entriesAt u (oldBucket x) ≡ thinEntries p (entriesAt x (oldBucket x))
+      there =
+          ap entriesIn (chain-here x (x .spares) (oldBucket x) c (old-range x (w .laid)))
+          ∙ entries-without p (chain x (oldBucket x))
+
+      other : (d : Entry) → not (is p d) ≡ false → moves x d ≡ true
+      other d q =
+          subst (λ (r : Pair). eqb (bucket x r) (newBucket x) ≡ true) (same-eq p (d .pair) (not-false (is p d) q))
+          (find-yes (moves x) (entriesAt x (oldBucket x)) e first .0)
+
+      go : From u k
+      go true i = absurd (clearing-copying (sym j ∙ i))
+      go false i =
+          ap (λ (es : List Entry). tally (moves x) (take k es)) there
+          ∙ before-keep (moves x) (λ d. not (is p d)) other (entriesAt x (oldBucket x)) k z

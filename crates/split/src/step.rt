@@ -35,6 +35,7 @@ ghost use Rattle.model.specs.WellFormed.{Laid, WF};
 ghost use Rattle.image.specs.Layout.{metaOf};
 ghost use Rattle.image.specs.Decode.{decode};
 ghost use Rattle.view.specs.Reads.{Reads};
+ghost use Rattle.plan.specs.declared.Advance.{Advance};
 ghost use Rattle.plan.specs.Plan.{Plans, Advances};
 ghost use Rattle.split.specs.Seek.{From, Leads};
 ghost use Rattle.split.specs.Step.{advanceOf};
@@ -89,6 +90,17 @@ fn with_place(step: StepPlan, place: usize) -> SplitPlan
     }
 }
 
+// A change as a step, and the place that the next one may search from.
+fn advance_by(change: Change, place: usize) -> SplitPlan
+    ensures { λ r. ⌜ (r .change ≡ change) × (r .advance ≡ Advance.Next) × (r .place ≡ place) ⌝ }
+{
+    SplitPlan {
+        advance: Advance::Next,
+        change,
+        place,
+    }
+}
+
 // The first entry of the old chain without a copy is copied, marked moved; without one copying ends. The search begins
 // at the place `from`.
 fn step_copying(store: &[u8], m: Meta, from: usize, images: &mut [u8]) -> SplitPlan
@@ -100,11 +112,7 @@ fn step_copying(store: &[u8], m: Meta, from: usize, images: &mut [u8]) -> SplitP
 {
     let mover = first_mover(store, m, true, from);
     let Mover::At { entry, place } = mover else {
-        return SplitPlan {
-            advance: Advance::Next,
-            change: plan_copied(store, m, images),
-            place: 0,
-        };
+        return advance_by(plan_copied(store, m, images), 0);
     };
     let pair = entry.pair;
     let copy = Entry { pair, moved: true };
@@ -131,25 +139,21 @@ fn clear_pair(store: &[u8], m: Meta, pair: Pair, images: &mut [u8]) -> Change
     plan_cut(store, m, old, pair, block, slot, m.count, images)
 }
 
-// The first entry of the new bucket in the old chain is taken away; without one clearing ends.
-fn step_clearing(store: &[u8], m: Meta, images: &mut [u8]) -> StepPlan
+// The first entry of the new bucket in the old chain is taken away; without one clearing ends. The search begins at the
+// place `from`.
+fn step_clearing(store: &[u8], m: Meta, from: usize, images: &mut [u8]) -> SplitPlan
     requires { ⌜ (Reads (now store) m) × (length (now images) ≡ 4096) ⌝ }
-    requires { ⌜ decode (now store) .job ≡ clearing ⌝ }
+    requires { ⌜ (decode (now store) .job ≡ clearing) × (From (decode (now store)) from) ⌝ }
     ensures { λ r. ⌜ Advances (now (store .entry)) (r .change) (now (images .exit))
         (step (decode (now (store .entry)))) (r .advance) ⌝ }
+    ensures { λ r. ⌜ Leads (decode (now (store .entry))) (r .place) ⌝ }
 {
-    let mover = first_mover(store, m, false, 0);
-    let Mover::At { entry, place: _ } = mover else {
-        return StepPlan {
-            advance: Advance::Next,
-            change: plan_cleared(store, m, images),
-        };
+    let mover = first_mover(store, m, false, from);
+    let Mover::At { entry, place } = mover else {
+        return advance_by(plan_cleared(store, m, images), 0);
     };
     let pair = entry.pair;
-    StepPlan {
-        advance: Advance::Next,
-        change: clear_pair(store, m, pair, images),
-    }
+    advance_by(clear_pair(store, m, pair, images), place)
 }
 
 // Plans one step of the pending job, or the begin of a split that is wanted. A job's search begins at the place `from`.
@@ -164,6 +168,6 @@ pub fn plan_step(store: &[u8], m: Meta, from: usize, images: &mut [u8]) -> Split
     match phase {
         Phase::None => with_place(step_idle(store, m, images), 0),
         Phase::Copying { old: _, new: _ } => step_copying(store, m, from, images),
-        Phase::Clearing { old: _, new: _ } => with_place(step_clearing(store, m, images), 0),
+        Phase::Clearing { old: _, new: _ } => step_clearing(store, m, from, images),
     }
 }

@@ -43,10 +43,8 @@ step-clearing-requires c κs =
     let t = c .before in
     let j = t .before .before in
     let s = j .before .before .before in
-    (s .pre .0, job-at (decode (s .args .store .now)) _ (sym (t .enum-told3 .given .1) ∙ j .read-job .ensures))
-
-with-place-requires-2 : tie.Need-with-place-requires-2
-with-place-requires-2 c κs = search needs
+    let at = job-at (decode (s .args .store .now)) _ (sym (t .enum-told3 .given .1) ∙ j .read-job .ensures) in
+    (s .pre .0, (at, s .pre .1))
 
 same-length : tie.Need-same-length
 same-length c = search needs
@@ -70,13 +68,7 @@ same-length-3 : tie.Need-same-length-3
 same-length-3 c = search needs
 
 returns-3 : tie.Need-returns-3
-returns-3 c =
-    let i = c .before .before .before in
-    let s = i .before .before .before .before .before .before .before in
-    let k = c .with-place2 .ensures in (
-      advances-as (i .step-clearing .ensures) (k .0) (k .1) refl,
-      subst (Leads (decode (s .args .store .now))) (sym (k .2)) (leads-start (decode (s .args .store .now))),
-    )
+returns-3 c = search needs
 
 pub plan-step-spec : {M : Type 1} → statement M
 plan-step-spec =
@@ -90,7 +82,6 @@ plan-step-spec =
     step-copying-requires
     enum-told-3
     step-clearing-requires
-    with-place-requires-2
     same-length
     returns
     same-length-2

@@ -1,15 +1,18 @@
-use mathlib.Core.Path.{refl}
+use mathlib.Core.Path.{sym, subst}
+use mathlib.Core.Bool.{false}
 use borrow.Author.Needs.{needs}
 use Rattle.image.specs.Decode.{decode}
 use Rattle.plan.specs.Plan.{advanced}
-use Rattle.split.specs.SeekLaws.{seeks-entry, seeks-none}
+use Rattle.split.specs.Seek.{Leads}
+use Rattle.split.specs.SeekLaws.{seeks-entry, seeks-place, seeks-none}
+use Rattle.split.specs.FromLaws.{leads-start, clear-leads}
 use Rattle.split.specs.StepLaws.{step-clears, advances-as}
 use Rattle.split.specs.CopyLaws.{clear-stands, clear-next}
 use Rattle.split.proofs.step.step_clearing.Statement.{statement}
 use Rattle.split.proofs.step.step_clearing.Tie as tie
 
 first-mover-requires : tie.Need-first-mover-requires
-first-mover-requires c κs = (c .before .before .pre .0 .0, refl)
+first-mover-requires c κs = let s = c .before .before in (s .pre .0 .0, s .pre .1 .1 false (s .pre .1 .0))
 
 enum-known-mover : tie.Need-enum-known-mover
 enum-known-mover c = search needs
@@ -22,19 +25,25 @@ plan-cleared-requires c κs =
     let t = c .before in
     let s = t .before .before .before .before .before in
     let none = seeks-none (t .before .before .first-mover .ensures) (t .enum-told .given .1) in
-    (s .pre .0, (s .pre .1, none))
+    (s .pre .0, (s .pre .1 .0, none))
+
+advance-by-requires : tie.Need-advance-by-requires
+advance-by-requires c κs = search needs
 
 same-length : tie.Need-same-length
 same-length c = search needs
 
 returns : tie.Need-returns
 returns c =
-    let p = c .before .before in
+    let k = c .advance-by .ensures in
+    let p = c .before .before .before in
     let t = p .before .before in
     let s = t .before .before .before .before .before in
     let none = seeks-none (t .before .before .first-mover .ensures) (t .enum-told .given .1) in
-    advances-as (advanced (p .plan-cleared .ensures)) refl refl
-    (step-clears (decode (s .args .store .now)) (s .pre .1) none)
+    let x = decode (s .args .store .now) in (
+      advances-as (advanced (p .plan-cleared .ensures)) (k .0) (k .1) (step-clears x (s .pre .1 .0) none),
+      subst (Leads x) (sym (k .2)) (leads-start x),
+    )
 
 clear-pair-requires : tie.Need-clear-pair-requires
 clear-pair-requires c κs =
@@ -43,19 +52,29 @@ clear-pair-requires c κs =
     let r = s .pre .0 .0 in
     let e = v .mover .given .0 .0 in
     let first = seeks-entry (v .before .before .first-mover .ensures) (v .mover .given .1) in
-    (s .pre .0, (clear-stands r (s .pre .1) e first, clear-next r (s .pre .1) e first))
+    (s .pre .0, (clear-stands r (s .pre .1 .0) e first, clear-next r (s .pre .1 .0) e first))
+
+advance-by-requires-2 : tie.Need-advance-by-requires-2
+advance-by-requires-2 c κs = search needs
 
 same-length-2 : tie.Need-same-length-2
 same-length-2 c = search needs
 
 returns-2 : tie.Need-returns-2
 returns-2 c =
-    let k = c .before .before in
-    let v = k .before .before .before .before in
+    let k = c .advance-by2 .ensures in
+    let p = c .before .before .before in
+    let v = p .before .before .before .before in
     let s = v .before .before .before .before .before in
-    let first = seeks-entry (v .before .before .first-mover .ensures) (v .mover .given .1) in
-    advances-as (advanced (k .clear-pair .ensures)) refl refl
-    (step-clears (decode (s .args .store .now)) (s .pre .1) first)
+    let x = decode (s .args .store .now) in
+    let at = v .mover .given .0 in
+    let found = v .before .before .first-mover .ensures in
+    let first = seeks-entry found (v .mover .given .1) in (
+      advances-as (advanced (p .clear-pair .ensures)) (k .0) (k .1) (step-clears x (s .pre .1 .0) first),
+      subst (Leads x) (sym (k .2))
+          (clear-leads x (s .pre .0 .0 .wf) (at .0) (s .pre .1 .0) first (at .1 .0)
+          (seeks-place found (v .mover .given .1) .1)),
+    )
 
 pub step-clearing-spec : {M : Type 1} → statement M
 step-clearing-spec =
@@ -65,8 +84,10 @@ step-clearing-spec =
     enum-known-mover
     enum-told
     plan-cleared-requires
+    advance-by-requires
     same-length
     returns
     clear-pair-requires
+    advance-by-requires-2
     same-length-2
     returns-2)

@@ -1,4 +1,4 @@
-use mathlib.Core.Path.{refl, sym, _∙_, subst}
+use mathlib.Core.Path.{sym, _∙_, subst}
 use mathlib.Core.Bool.{true}
 use native.Mathlib.Omega.{arith}
 use borrow.Author.Needs.{needs}
@@ -28,17 +28,23 @@ plan-copied-requires c κs =
     let none = seeks-none (t .before .before .first-mover .ensures) (t .enum-told .given .1) in
     (s .pre .0, (s .pre .1 .0, none))
 
+advance-by-requires : tie.Need-advance-by-requires
+advance-by-requires c κs = search needs
+
 same-length : tie.Need-same-length
 same-length c = search needs
 
 returns : tie.Need-returns
 returns c =
-    let p = c .before .before in
+    let k = c .advance-by .ensures in
+    let p = c .before .before .before in
     let t = p .before .before in
     let s = t .before .before .before .before .before in
     let none = seeks-none (t .before .before .first-mover .ensures) (t .enum-told .given .1) in
-    let x = decode (s .args .store .now) in
-    (advances-as (advanced (p .plan-copied .ensures)) refl refl (step-copies x (s .pre .1 .0) none), leads-start x)
+    let x = decode (s .args .store .now) in (
+      advances-as (advanced (p .plan-copied .ensures)) (k .0) (k .1) (step-copies x (s .pre .1 .0) none),
+      subst (Leads x) (sym (k .2)) (leads-start x),
+    )
 
 plan-put-requires : tie.Need-plan-put-requires
 plan-put-requires c κs =
@@ -84,6 +90,7 @@ step-copying-spec =
     enum-known-mover
     enum-told
     plan-copied-requires
+    advance-by-requires
     same-length
     returns
     plan-put-requires
