@@ -65,11 +65,13 @@ module _ {s bs : List ℕ} {n : ℕ} (ok : Within s bs n) (i : ℕ) where
     pub block-length : length (block s at) ≡ 512
     block-length = length-block s at block-whole
 
-    pub block-sorted : PagesOk s (take n bs) → Sorted (block s at)
-    block-sorted pages =
+    pub block-fine : PagesOk s (take n bs) → pageOk (block s at) ≡ true
+    block-fine pages =
         let each = all-each (λ k. pageOk (block s k)) (take n bs) pages in
-        let fine = rw listed at (each-getD (λ k. pageOk (block s k) ≡ true) (take n bs) i 0 each inList) in
-        pageOk-sorted (block s at) block-length fine
+        rw listed at (each-getD (λ k. pageOk (block s k) ≡ true) (take n bs) i 0 each inList)
+
+    pub block-sorted : PagesOk s (take n bs) → Sorted (block s at)
+    block-sorted pages = pageOk-sorted (block s at) block-length (block-fine pages)
 
     pub block-page : {l : List ℕ} → l ≡ block s at → PageOn s bs n i l
     block-page e = record { page = e; whole = rw e block-length; sorted = λ pages. rw e (block-sorted pages) }

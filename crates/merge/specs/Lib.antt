@@ -1,0 +1,10 @@
+pub mod Tree
+pub mod TreeLaws
+pub mod ReplayLaws
+pub mod Merge
+pub mod MergeLaws
+pub mod Heads
+pub mod HeadLaws
+pub mod MergingLaws
+pub mod Walks
+pub mod WalksLaws

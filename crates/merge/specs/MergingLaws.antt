@@ -1,0 +1,139 @@
+-- A merge under way: the page at node 1 leads, and its first entry is taken.
+use mathlib.Core.Path.{_≡_, refl, sym, ap, ap₂, _∙_, subst}
+use mathlib.Core.Logic.{_≢_}
+use mathlib.Core.Bool.{Bool, true}
+use mathlib.Core.List.{List, [], _∷_}
+use Prim.Native.Nat.{ℕ, suc, _+_, _%_, _/_, _≤_, _<_}
+use native.Mathlib.Numerals.{add-one}
+use native.Mathlib.Omega.{arith}
+use native.Mathlib.Decide.{decLt}
+use lib.ListN.{length, getD, set, drop}
+use lib.Seq.{getD-set-other}
+use Rattle.lists.specs.Block.{block}
+use Rattle.endian.specs.Endian.{u16At}
+use Rattle.page.specs.declared.Entry.{Entry}
+use Rattle.page.specs.Pair.{pairOf, ascending}
+use Rattle.page.specs.SublistLaws.{sublist-drop}
+use Rattle.page.specs.AscendingLaws.{ascending-sublist}
+use Rattle.page.specs.Allowed.{Allowed}
+use Rattle.page.specs.AllowedLaws.{allowed-sublist}
+use Rattle.page.specs.Entries.{entryAt}
+use Rattle.page.specs.RuleLaws.{number-le}
+use Rattle.merge.specs.Tree.{maxPages, ahead, Above, Settled, Won}
+use Rattle.merge.specs.ReplayLaws.{won-upto, won-first, settled-moved}
+use Rattle.merge.specs.Merge.{leads, joined, Best, Taken}
+use Rattle.merge.specs.MergeLaws.{best-end}
+use Rattle.merge.specs.Heads.{noKey, keyOf, markOf, pageAt, leftOf, Head, Merging, Moved}
+use Rattle.merge.specs.HeadLaws.{key-done, head-leads, left-done, left-more, put-left, other-left, heads-put}
+
+module _ {s ks : List ℕ} {n : ℕ} {keys marks tree : List ℕ} (m : Merging s ks n keys marks tree) where
+  pub left-allowed : (i : ℕ) → i < n → Allowed (leftOf s ks marks i)
+  left-allowed i h = allowed-sublist (sublist-drop (getD marks i 0 % 64) (pageAt s ks i)) (m .pages .allowed i h)
+
+  pub merging-up : (i : ℕ) → i < n → ascending pairOf (leftOf s ks marks i) ≡ true
+  merging-up i h = left-allowed i h .order
+
+  ahead-leads : (i j : ℕ) → i < n → j < n → ahead keys marks i j ≡ true
+      → leads (leftOf s ks marks i) (leftOf s ks marks j) ≡ true
+  unfolding ahead
+  ahead-leads i j h l t =
+      let a = m .heads .each i h in
+      let b = m .heads .each j l in
+      head-leads (leftOf s ks marks i) (leftOf s ks marks j) (getD marks i 0 % 64) (getD marks j 0 % 64)
+      (omega (arith, a .few)) (omega (arith, b .few)) (left-allowed i h) (left-allowed j l)
+      (rw (← a .key, ← b .key, ← a .mark, ← b .mark) t)
+
+  module _ (some : 1 ≤ n) where
+    abbrev j : ℕ
+    j = getD tree 1 0
+
+    pub merging-upto : getD tree 1 0 < n
+    merging-upto = won-upto (m .won) some
+
+    pub merging-best : Best (leftOf s ks marks) n (getD tree 1 0)
+    merging-best =
+        record {
+          upto = merging-upto;
+          first = λ i h. ahead-leads j i merging-upto h (won-first (m .won) i h);
+        }
+
+    pub merging-none : getD keys (getD tree 1 0) 0 ≡ noKey → leftOf s ks marks (getD tree 1 0) ≡ []
+    merging-none e =
+        key-done (leftOf s ks marks j) (left-allowed j merging-upto) (sym (m .heads .each j merging-upto .key) ∙ e)
+
+    -- nothing is left
+    pub merging-done : getD keys (getD tree 1 0) 0 ≡ noKey → joined (leftOf s ks marks) 0 n ≡ []
+    merging-done e = best-end (leftOf s ks marks) n merging-best (merging-none e)
+
+    -- its first entry is taken
+    module _ (more : getD keys (getD tree 1 0) 0 < noKey) where
+      abbrev c : ℕ
+      c = getD marks j 0 % 64
+
+      abbrev page : List ℕ
+      page = block s (getD ks j 0)
+
+      below : c < u16At page 0
+      below = go (decLt c (u16At page 0))
+        where
+          go : Dec (c < u16At page 0) → c < u16At page 0
+          go (yes l) = l
+          go (no l) =
+              let z : leftOf s ks marks j ≡ [] = left-done page c (omega (arith, l)) in
+              absurd (omega (arith, more, m .heads .each j merging-upto .key, ap keyOf z))
+
+      pub next-few : getD marks (getD tree 1 0) 0 % 64 + 1 ≤ 40
+      next-few = omega (arith, below, number-le page (m .pages .sorted j merging-upto .number))
+
+      pub first-left : leftOf s ks marks (getD tree 1 0)
+          ≡ entryAt (block s (getD ks (getD tree 1 0) 0)) (getD marks (getD tree 1 0) 0 % 64)
+          ∷ drop (getD marks (getD tree 1 0) 0 % 64 + 1) (pageAt s ks (getD tree 1 0))
+      first-left =
+          left-more page c below
+          ∙ ap (λ (k : ℕ). entryAt page c ∷ drop k (pageAt s ks j)) (sym (add-one c))
+
+      module _ (keys′ marks′ : List ℕ)
+          (put-keys : keys′ ≡ set keys (getD tree 1 0)
+          (keyOf (drop (getD marks (getD tree 1 0) 0 % 64 + 1) (pageAt s ks (getD tree 1 0)))))
+          (put-marks : marks′ ≡ set marks (getD tree 1 0) (markOf (getD marks (getD tree 1 0) 0 % 64 + 1)
+          (drop (getD marks (getD tree 1 0) 0 % 64 + 1) (pageAt s ks (getD tree 1 0))))) where
+        abbrev left : List Entry
+        left = drop (c + 1) (pageAt s ks j)
+
+        in-keys : j < length keys
+        in-keys = omega (arith, merging-upto, m .pages .few, m .heads .keys-size)
+
+        in-marks : j < length marks
+        in-marks = omega (arith, merging-upto, m .pages .few, m .heads .marks-size)
+
+        pub taken-settled : Settled keys′ marks′ n tree (Above ((n + getD tree 1 0) / 2))
+        taken-settled =
+            settled-moved (m .won) keys′ marks′ j
+            (λ i ne. ap (λ (l : List ℕ). getD l i 0) put-keys ∙ getD-set-other keys j i (keyOf left) 0 ne)
+            (λ i ne. ap (λ (l : List ℕ). getD l i 0) put-marks ∙ getD-set-other marks j i (markOf (c + 1) left) 0 ne)
+
+        pub taken-moved : (tree′ : List ℕ) → Won keys′ marks′ n tree′ → Moved s ks n tree marks keys′ marks′ tree′
+        taken-moved tree′ won =
+            record {
+              entry = entryAt page c;
+              taken =
+                  record {
+                    here =
+                        first-left
+                        ∙ ap (λ (es : List Entry). entryAt page c ∷ es)
+                        (sym (ap (λ (l : List ℕ). leftOf s ks l j) put-marks
+                        ∙ put-left s ks keys marks j (c + 1) in-keys in-marks next-few));
+                    other = λ i ne.
+                        sym (ap (λ (l : List ℕ). leftOf s ks l i) put-marks
+                        ∙ other-left s ks keys marks j (c + 1) in-keys in-marks next-few i ne);
+                  };
+              merging =
+                  record {
+                    pages = m .pages;
+                    heads =
+                        rw (put-keys, put-marks)
+                        (heads-put s ks keys marks j (c + 1) in-keys in-marks next-few n (m .heads .keys-size)
+                        (m .heads .marks-size) (λ k h ne. m .heads .each k h));
+                    won = won;
+                  };
+            }

@@ -1,0 +1,147 @@
+-- The winner tree built and replayed: the nodes that are open at each turn, and what a finished tree says.
+use mathlib.Core.Path.{_≡_, sym, subst}
+use mathlib.Core.Logic.{_≢_}
+use mathlib.Core.Bool.{true}
+use mathlib.Core.List.{List}
+use Prim.Native.Nat.{ℕ, zero, suc, _+_, _*_, _-_, _/_, _≤_, _<_}
+use native.Mathlib.Omega.{arith}
+use native.Mathlib.Decide.{ℕ-discrete}
+use lib.ListN.{length, getD, set}
+use Rattle.merge.specs.Tree.{maxPages, Above, Nowhere, ahead, winner, Leads, Settled, Won}
+use Rattle.merge.specs.TreeLaws.{ahead-refl, ahead-trans, above-up, above-half, not-above, above-none}
+use Rattle.merge.specs.TreeLaws.{settled-more, settled-next}
+
+-- node c is one that `build_tree` comes to after node k
+abbrev pub Under : (k c : ℕ) → Type 0
+Under k c = c < k
+
+module _ (keys marks : List ℕ) (n : ℕ) (tree : List ℕ) where
+  -- what the step at node k reads is in range
+  pub pages-below : (Open : ℕ → Type 0) (k : ℕ) → 1 ≤ k → k < n → n ≤ maxPages → (Open (2 * k) → ⊥)
+      → (Open (2 * k + 1) → ⊥) → Settled keys marks n tree Open
+      → (k < maxPages) × (getD tree (2 * k) 0 < maxPages) × (getD tree (2 * k + 1) 0 < maxPages)
+  pages-below Open k l u m o p s =
+      let a = s .few (2 * k) (omega arith) (omega arith) o in
+      let b = s .few (2 * k + 1) (omega arith) (omega arith) p in
+      (omega arith, omega arith, omega arith)
+
+  -- ---- building: the nodes under k are open
+
+  pub leaves-settled : length tree ≡ 2 * maxPages → ((i : ℕ) → i < n → getD tree (n + i) 0 ≡ i)
+      → Settled keys marks n tree (Under n)
+  leaves-settled size leaf =
+      record {
+        size = size;
+        leaf = leaf;
+        few = λ c l u o. omega (arith, page c u o);
+        below = λ c l u o. (0, omega (arith, page c u o));
+        leads = λ c l u o. absurd (o u);
+      }
+    where
+      page : (c : ℕ) → c < 2 * n → (c < n → ⊥) → n + getD tree c 0 ≡ c
+      page c u o =
+          let e : n + (c - n) ≡ c = omega arith in
+          omega (arith, rw e at (leaf (c - n) (omega arith)))
+
+  pub built-next : (k : ℕ) → 1 < k → k ≤ n → n ≤ maxPages → Settled keys marks n tree (Under k)
+      → Settled keys marks n (set tree (k - 1) (winner keys marks tree (k - 1))) (Under (k - 1))
+  built-next k l u m s =
+      settled-next keys marks n tree (Under k) (Under (k - 1)) (k - 1) s m (omega arith) (omega arith)
+      (λ o. omega arith) (λ o. omega arith) (λ c o ne p. omega arith) (λ c b o. omega arith)
+
+  pub built-won : (k : ℕ) → k ≤ 1 → Settled keys marks n tree (Under k) → Won keys marks n tree
+  built-won k l s = settled-more keys marks n tree (Under k) Nowhere (λ c b o p. omega arith) s
+
+  -- ---- replaying: the nodes above k are open, and k
+
+  pub replayed-next : (k : ℕ) → 1 ≤ k → k < n → n ≤ maxPages → Settled keys marks n tree (Above k)
+      → Settled keys marks n (set tree k (winner keys marks tree k)) (Above (k / 2))
+  replayed-next k l u m s =
+      settled-next keys marks n tree (Above k) (Above (k / 2)) k s m l u
+      (not-above k (2 * k) (omega arith)) (not-above k (2 * k + 1) (omega arith))
+      (λ c o ne a. o (above-half k c ne a)) (λ c b o e. o (0, sym e))
+
+  pub replayed-won : (k : ℕ) → k ≤ 0 → Settled keys marks n tree (Above k) → Won keys marks n tree
+  replayed-won k l s =
+      let e : k ≡ 0 = omega arith in
+      settled-more keys marks n tree (Above k) Nowhere (λ c b o a. above-none c b (rw e at a)) s
+
+-- ---- a finished tree
+
+module _ {keys marks : List ℕ} {n : ℕ} {tree : List ℕ} (s : Won keys marks n tree) where
+  -- no node is open
+  shut : ⊥ → ⊥
+  shut o = o
+
+  pub won-upto : 1 ≤ n → getD tree 1 0 < n
+  won-upto l = s .few 1 (omega arith) (omega arith) shut
+
+  -- the page at node 1 is ahead of the page at node c
+  abbrev First : ℕ → Type 0
+  First c = ahead keys marks (getD tree 1 0) (getD tree c 0) ≡ true
+
+  first-below : (c : ℕ) → 2 ≤ c → c < 2 * n → First (c / 2) → First c
+  first-below c l u f = go (ℕ-discrete c (2 * (c / 2)))
+    where
+      b : Leads keys marks tree (c / 2)
+      b = s .leads (c / 2) (omega arith) (omega arith) shut
+
+      step : (a : ℕ) → ahead keys marks (getD tree (c / 2) 0) a ≡ true → ahead keys marks (getD tree 1 0) a ≡ true
+      step a = ahead-trans keys marks (getD tree 1 0) (getD tree (c / 2) 0) a f
+
+      go : Dec (c ≡ 2 * (c / 2)) → First c
+      go (yes e) = subst First (sym e) (step (getD tree (2 * (c / 2)) 0) (b .first))
+      go (no ne) =
+          let e : 2 * (c / 2) + 1 ≡ c = omega arith in
+          subst First e (step (getD tree (2 * (c / 2) + 1) 0) (b .second))
+
+  -- by induction over a bound m on the node
+  first-node : (m c : ℕ) → c ≤ m → 1 ≤ c → c < 2 * n → First c
+  first-node zero c b l u = absurd (omega arith)
+  first-node (suc m) c b l u =
+      go (ℕ-discrete c 1) (λ h. first-node m (c / 2) (omega arith) (omega arith) (omega arith))
+    where
+      go : Dec (c ≡ 1) → (2 ≤ c → First (c / 2)) → First c
+      go (yes e) f = rw e (ahead-refl keys marks (getD tree 1 0))
+      go (no ne) f = first-below c (omega arith) u (f (omega arith))
+
+  pub won-first : (i : ℕ) → i < n → ahead keys marks (getD tree 1 0) i ≡ true
+  won-first i l = rw (s .leaf i l) at (first-node (n + i) (n + i) (omega arith) (omega arith) (omega arith))
+
+  -- the head of page j changes: the nodes above its leaf are open
+  module _ (keys' marks' : List ℕ) (j : ℕ) (k : (i : ℕ) → i ≢ j → getD keys' i 0 ≡ getD keys i 0)
+      (m : (i : ℕ) → i ≢ j → getD marks' i 0 ≡ getD marks i 0) where
+    ahead-kept : (a b : ℕ) → a ≢ j → b ≢ j → ahead keys marks a b ≡ true → ahead keys' marks' a b ≡ true
+    unfolding ahead
+    ahead-kept a b p q h = rw (k a p, k b q, m a p, m b q) h
+
+    -- the page at b, which is c or stands below it, is not j, since c does not stand above the leaf of j
+    not-moved : (b c : ℕ) → 1 ≤ b → b < 2 * n → c < n → (Above (n + j) b → Above (n + j) c)
+        → (Above ((n + j) / 2) c → ⊥) → getD tree b 0 ≢ j
+    not-moved b c l u v f o e =
+        o (above-half (n + j) c (omega arith) (f (subst (λ (a : ℕ). Above (n + a) b) e (s .below b l u shut))))
+
+    half : (b c : ℕ) → b / 2 ≡ c → Above (n + j) b → Above (n + j) c
+    half b c e a = subst (Above (n + j)) e (above-up (n + j) b a)
+
+    pub settled-moved : Settled keys' marks' n tree (Above ((n + j) / 2))
+    settled-moved =
+        record {
+          size = s .size;
+          leaf = s .leaf;
+          few = λ c l u o. s .few c l u shut;
+          below = λ c l u o. s .below c l u shut;
+          leads = λ c l u o.
+              let b = s .leads c l u shut in
+              let p : getD tree c 0 ≢ j = not-moved c c l (omega arith) u (λ a. a) o in
+              record {
+                first =
+                    ahead-kept (getD tree c 0) (getD tree (2 * c) 0) p
+                    (not-moved (2 * c) c (omega arith) (omega arith) u (half (2 * c) c (omega arith)) o)
+                    (b .first);
+                second =
+                    ahead-kept (getD tree c 0) (getD tree (2 * c + 1) 0) p
+                    (not-moved (2 * c + 1) c (omega arith) (omega arith) u (half (2 * c + 1) c (omega arith)) o)
+                    (b .second);
+              };
+        }

@@ -1,0 +1,54 @@
+-- The winner tree over n pages, each with a head of two numbers, its key and its mark. Page i is leaf n + i, the nodes
+-- below node k are 2 k and 2 k + 1.
+use mathlib.Core.Path.{_≡_}
+use mathlib.Core.Bool.{Bool, true, cond}
+use mathlib.Core.List.{List}
+use Prim.Native.Nat.{ℕ, zero, suc, _+_, _*_, _/_, _≤_, _<_}
+use lib.Dec.{eqb, ltb, leb}
+use lib.ListN.{length, getD}
+use Rattle.address.specs.Limits.{maxBlocks}
+
+-- the most pages of a merge: those of two walks
+abbrev pub maxPages : ℕ
+maxPages = 2 * suc maxBlocks
+
+-- half of k, d times
+abbrev pub halves : (d : ℕ) → ℕ → ℕ
+halves zero k = k
+halves (suc d) k = halves d (k / 2)
+
+-- node c stands above node k, or is it
+abbrev pub Above : (k c : ℕ) → Type 0
+Above k c = (d : ℕ) × (halves d k ≡ c)
+
+abbrev pub Nowhere : ℕ → Type 0
+Nowhere c = ⊥
+
+module _ (keys marks : List ℕ) where
+  -- the head of page a comes no later than that of page b
+  unfoldable pub ahead : (a b : ℕ) → Bool
+  ahead a b =
+      cond (eqb (getD keys a 0) (getD keys b 0)) (leb (getD marks a 0) (getD marks b 0))
+      (ltb (getD keys a 0) (getD keys b 0))
+
+  -- of the pages at the two nodes below node k, the one that is ahead
+  unfoldable pub winner : (tree : List ℕ) → (k : ℕ) → ℕ
+  winner tree k =
+      cond (ahead (getD tree (2 * k) 0) (getD tree (2 * k + 1) 0)) (getD tree (2 * k) 0) (getD tree (2 * k + 1) 0)
+
+  -- the page at node c is ahead of those at the nodes below it
+  pub record Leads (tree : List ℕ) (c : ℕ) : Type 0 where
+    pub first : ahead (getD tree c 0) (getD tree (2 * c) 0) ≡ true
+    pub second : ahead (getD tree c 0) (getD tree (2 * c + 1) 0) ≡ true
+
+  -- every node is right but those that are open: its page is one whose leaf is below it, and it is ahead
+  pub record Settled (n : ℕ) (tree : List ℕ) (Open : ℕ → Type 0) : Type 0 where
+    pub size : length tree ≡ 2 * maxPages
+    pub leaf : (i : ℕ) → i < n → getD tree (n + i) 0 ≡ i
+    pub few : (c : ℕ) → 1 ≤ c → c < 2 * n → (Open c → ⊥) → getD tree c 0 < n
+    pub below : (c : ℕ) → 1 ≤ c → c < 2 * n → (Open c → ⊥) → Above (n + getD tree c 0) c
+    pub leads : (c : ℕ) → 1 ≤ c → c < n → (Open c → ⊥) → Leads tree c
+
+  -- every node is right
+  abbrev pub Won : (n : ℕ) (tree : List ℕ) → Type 0
+  Won n tree = Settled n tree Nowhere

@@ -1,0 +1,144 @@
+// The heads of the pages: what stands first in what is left of each, as two numbers.
+use crate::MAX_PAGES;
+use crate::tree::build_tree;
+use crate::tree::replay;
+use page::Pair;
+use page::search::find_place;
+use page::slots::count_entries;
+use page::slots::get_entry;
+use store::block_at;
+ghost use mathlib.Core.Path.{_≡_};
+ghost use Prim.Native.Nat.{ℕ, _≤_, _<_};
+ghost use lib.ListN.{length, getD, set, drop, replicate};
+ghost use Rattle.lists.specs.Block.{block};
+ghost use Rattle.page.specs.Entries.{entriesOf};
+ghost use Rattle.page.specs.Allowed.{Sorted};
+ghost use Rattle.merge.specs.Tree.{maxPages};
+ghost use Rattle.merge.specs.Heads.{noKey, keyOf, markOf, pageAt, Pages, Heads, Merging, From, Moved};
+
+// The key where nothing is left: no entry has it.
+pub const NO_KEY: u64 = 18446744073709551615;
+
+pub fn no_keys() -> [u64; MAX_PAGES]
+    ensures { λ r. ⌜ r ≡ replicate maxPages 0 ⌝ }
+{
+    [0u64; MAX_PAGES]
+}
+
+pub fn no_marks() -> [u32; MAX_PAGES]
+    ensures { λ r. ⌜ r ≡ replicate maxPages 0 ⌝ }
+{
+    [0u32; MAX_PAGES]
+}
+
+// Page `i`.
+fn page_at<'a>(store: &'a [u8], pages: &[u32; MAX_PAGES], n: usize, i: usize) -> &'a [u8]
+    requires { ⌜ (Pages (now store) (now pages) n) × (i < n) ⌝ }
+    ensures { λ r. ⌜ (now r ≡ block (now (store .entry)) (getD (now (pages .entry)) i 0)) × (Sorted (now r)) ⌝ }
+{
+    block_at(store, pages[i] as usize)
+}
+
+// Hash code and reading block of the entry in a slot of a page.
+fn key_at(page: &[u8], slot: usize) -> u64
+    requires { ⌜ Sorted (now page) ⌝ }
+    ensures { λ r. ⌜ r ≡ keyOf (drop slot (entriesOf (now (page .entry)))) ⌝ }
+{
+    if count_entries(page) <= slot {
+        return NO_KEY;
+    }
+    let pair = get_entry(page, slot).pair;
+    pair.hash as u64 * 4294967296 + pair.block as u64
+}
+
+// Its offset, and the slot.
+fn mark_at(page: &[u8], slot: usize) -> u32
+    requires { ⌜ (Sorted (now page)) × (slot ≤ 40) ⌝ }
+    ensures { λ r. ⌜ r ≡ markOf slot (drop slot (entriesOf (now (page .entry)))) ⌝ }
+{
+    if count_entries(page) <= slot {
+        return slot as u32;
+    }
+    get_entry(page, slot).pair.offset as u32 * 64 + slot as u32
+}
+
+// Puts the head of page `i`, with the cursor at a slot.
+fn put_head(
+    store: &[u8],
+    pages: &[u32; MAX_PAGES],
+    keys: &mut [u64; MAX_PAGES],
+    marks: &mut [u32; MAX_PAGES],
+    n: usize,
+    i: usize,
+    slot: usize,
+)
+    requires { ⌜ (Pages (now store) (now pages) n) × (i < n) × (slot ≤ 40) ⌝ }
+    ensures { λ _. ⌜ now (keys .exit) ≡ set (now (keys .entry)) i
+        (keyOf (drop slot (pageAt (now (store .entry)) (now (pages .entry)) i))) ⌝ }
+    ensures { λ _. ⌜ now (marks .exit) ≡ set (now (marks .entry)) i
+        (markOf slot (drop slot (pageAt (now (store .entry)) (now (pages .entry)) i))) ⌝ }
+{
+    let page = page_at(store, pages, n, i);
+    keys[i] = key_at(page, slot);
+    marks[i] = mark_at(page, slot);
+}
+
+// Puts the heads of the pages, from the sorted place of the pair on.
+fn put_heads(
+    store: &[u8],
+    pages: &[u32; MAX_PAGES],
+    keys: &mut [u64; MAX_PAGES],
+    marks: &mut [u32; MAX_PAGES],
+    n: usize,
+    from: Pair,
+)
+    requires { ⌜ Pages (now store) (now pages) n ⌝ }
+    requires { ⌜ (length (now keys) ≡ maxPages) × (length (now marks) ≡ maxPages) ⌝ }
+    ensures { λ _. ⌜ (Heads (now (store .entry)) (now (pages .entry)) n (now (keys .exit)) (now (marks .exit)))
+        × (From (now (store .entry)) (now (pages .entry)) from n (now (marks .exit))) ⌝ }
+{
+    let mut i = 0;
+    while i < n {
+        let slot = find_place(page_at(store, pages, n, i), from);
+        put_head(store, pages, keys, marks, n, i, slot);
+        i += 1;
+    }
+}
+
+// Begins a merge of the pages' entries from the sorted place of a pair on.
+pub fn start_merge(
+    store: &[u8],
+    pages: &[u32; MAX_PAGES],
+    keys: &mut [u64; MAX_PAGES],
+    marks: &mut [u32; MAX_PAGES],
+    n: usize,
+    from: Pair,
+) -> [usize; 2 * MAX_PAGES]
+    requires { ⌜ Pages (now store) (now pages) n ⌝ }
+    requires { ⌜ (length (now keys) ≡ maxPages) × (length (now marks) ≡ maxPages) ⌝ }
+    ensures { λ r. ⌜ (Merging (now (store .entry)) (now (pages .entry)) n (now (keys .exit)) (now (marks .exit)) r)
+        × (From (now (store .entry)) (now (pages .entry)) from n (now (marks .exit))) ⌝ }
+{
+    put_heads(store, pages, keys, marks, n, from);
+    build_tree(keys, marks, n)
+}
+
+// Takes the entry that comes first.
+pub fn take_first(
+    store: &[u8],
+    pages: &[u32; MAX_PAGES],
+    keys: &mut [u64; MAX_PAGES],
+    marks: &mut [u32; MAX_PAGES],
+    tree: &mut [usize; 2 * MAX_PAGES],
+    n: usize,
+)
+    requires { ⌜ (Merging (now store) (now pages) n (now keys) (now marks) (now tree)) × (1 ≤ n) ⌝ }
+    requires { ⌜ getD (now keys) (getD (now tree) 1 0) 0 < noKey ⌝ }
+    ensures { λ _. ⌜ Moved (now (store .entry)) (now (pages .entry)) n (now (tree .entry)) (now (marks .entry))
+        (now (keys .exit)) (now (marks .exit)) (now (tree .exit)) ⌝ }
+{
+    let j = tree[1];
+    let slot = (marks[j] % 64) as usize + 1;
+    put_head(store, pages, keys, marks, n, j, slot);
+    replay(keys, marks, tree, n, j);
+}

@@ -1,0 +1,10 @@
+// Sorted pages merged: again and again the page whose first entry left comes first, by a winner tree. Nothing is
+// allocated; of n pages an entry costs about log2 n comparisons.
+pub mod tree; // tree.rt: the page that is ahead of all others
+pub mod heads; // heads.rt: what stands first in what is left of each page
+pub mod walks; // walks.rt: the pages of two walks
+
+use address::limits::MAX_BLOCKS;
+
+// The most pages of a merge: those of two walks.
+pub const MAX_PAGES: usize = 2 * (MAX_BLOCKS + 1);

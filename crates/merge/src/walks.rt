@@ -1,0 +1,43 @@
+// The pages of two walks as those of one merge.
+use crate::MAX_PAGES;
+use address::limits::MAX_BLOCKS;
+ghost use mathlib.Core.Path.{_≡_};
+ghost use Prim.Native.Nat.{ℕ, suc, _≤_};
+ghost use lib.ListN.{length, replicate};
+ghost use Rattle.address.specs.Limits.{maxBlocks};
+ghost use Rattle.merge.specs.Tree.{maxPages};
+ghost use Rattle.merge.specs.Walks.{Copied, Joined};
+
+fn no_pages() -> [u32; MAX_PAGES]
+    ensures { λ r. ⌜ r ≡ replicate maxPages 0 ⌝ }
+{
+    [0u32; MAX_PAGES]
+}
+
+// Copies the blocks of a walk to the pages from place `at` on.
+fn copy_walk(pages: &mut [u32; MAX_PAGES], walk: &[u32; MAX_BLOCKS + 1], at: usize, n: usize)
+    requires { ⌜ (n ≤ suc maxBlocks) × (at ≤ suc maxBlocks) × (length (now pages) ≡ maxPages) ⌝ }
+    ensures { λ _. ⌜ Copied (now (pages .entry)) (now (walk .entry)) at n (now (pages .exit)) ⌝ }
+{
+    let mut i = 0;
+    while i < n {
+        pages[at + i] = walk[i];
+        i += 1;
+    }
+}
+
+// The blocks of the first walk, and then those of the second.
+pub fn join_walks(
+    first: &[u32; MAX_BLOCKS + 1],
+    n: usize,
+    second: &[u32; MAX_BLOCKS + 1],
+    k: usize,
+) -> [u32; MAX_PAGES]
+    requires { ⌜ (n ≤ suc maxBlocks) × (k ≤ suc maxBlocks) ⌝ }
+    ensures { λ r. ⌜ Joined (now (first .entry)) n (now (second .entry)) k r ⌝ }
+{
+    let mut pages = no_pages();
+    copy_walk(&mut pages, first, 0, n);
+    copy_walk(&mut pages, second, n, k);
+    pages
+}
