@@ -1,6 +1,7 @@
-pub mod Merging
 pub mod Walking
+pub mod Alone
 pub mod Distinct
+pub mod Marking
 pub mod Placing
 pub mod Paging
 pub mod Homing

@@ -1,4 +1,6 @@
 pub mod Tests
-pub mod CommonLaws
+pub mod Next
+pub mod TakenLaws
+pub mod NextLaws
 pub mod WalkedLaws
 pub mod Counts

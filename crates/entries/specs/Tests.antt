@@ -1,4 +1,4 @@
--- What the parts of the tests of rules 5 and 7 answer.
+-- What the parts of the tests of rule 7 answer.
 use mathlib.Core.Bool.{Bool, true, _&&_, _||_, Bool·beq}
 use mathlib.Core.List.{List}
 use Prim.Native.Nat.{ℕ}
@@ -9,10 +9,6 @@ use Rattle.page.specs.Pair.{is}
 use Rattle.model.specs.declared.Phase.{Phase}
 use Rattle.model.specs.Index.{entriesAt}
 use Rattle.image.specs.Decode.{decode}
-
--- rule 5: some entry of one list has its pair in the other
-abbrev pub common : List Entry → List Entry → Bool
-common es fs = any (λ (e : Entry). any (is (e .pair)) fs) es
 
 -- rule 7: an entry that maps to bucket h may stand in the chain of bucket b
 abbrev pub standsIn : Phase → (h b : ℕ) → Bool

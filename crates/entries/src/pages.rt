@@ -1,25 +1,29 @@
 // Rule 5: the pages of each chain, and no pair twice in a chain.
+use crate::next::is_next;
 use address::limits::MAX_BLOCKS;
 use chain::links::page_on;
 use image::Meta;
-use page::order::is_before;
-use page::order::is_same;
+use merge::MAX_PAGES;
+use merge::heads::NO_KEY;
+use merge::heads::no_keys;
+use merge::heads::no_marks;
+use merge::heads::start_merge;
+use merge::heads::take_first;
+use merge::walks::join_walks;
+use page::Pair;
 use page::rule::check_page;
-use page::slots::count_entries;
-use page::slots::get_entry;
 use reader::buckets::walk_bucket;
 ghost use mathlib.Core.Path.{_≡_};
-ghost use Prim.Native.Nat.{_+_, _<_};
-ghost use lib.ListN.{getD, take, drop};
-ghost use Rattle.lists.specs.Lists.{any, all, bind};
+ghost use Prim.Native.Nat.{_≤_};
+ghost use lib.ListN.{take};
+ghost use Rattle.lists.specs.Lists.{all, bind};
 ghost use Rattle.lists.specs.Block.{block};
-ghost use Rattle.page.specs.Entries.{entriesOf};
 ghost use Rattle.page.specs.Rule.{pageOk};
-ghost use Rattle.page.specs.Allowed.{Sorted};
 ghost use Rattle.image.specs.Rules.{distinct, rule5};
 ghost use Rattle.chain.specs.Within.{entriesOn, PagesOk, Within};
+ghost use Rattle.merge.specs.Merge.{joined};
+ghost use Rattle.merge.specs.Heads.{pageAt, Pages};
 ghost use Rattle.shape.specs.Known.{Known4};
-ghost use Rattle.entries.specs.Tests.{common};
 
 // Whether each block of the walk is a page.
 fn check_blocks(store: &[u8], blocks: &[u32; MAX_BLOCKS + 1], count: usize) -> bool
@@ -36,49 +40,37 @@ fn check_blocks(store: &[u8], blocks: &[u32; MAX_BLOCKS + 1], count: usize) -> b
     true
 }
 
-// Whether two sorted pages have a pair in common. The smaller of two first entries is passed by.
-fn have_common(a: &[u8], b: &[u8]) -> bool
-    requires { ⌜ (Sorted (now a)) × (Sorted (now b)) ⌝ }
-    ensures { λ r. ⌜ r ≡ common (entriesOf (now (a .entry))) (entriesOf (now (b .entry))) ⌝ }
+// Whether no pair stands twice in the pages. Entries of one pair come one after the other.
+fn all_distinct(store: &[u8], pages: &[u32; MAX_PAGES], n: usize) -> bool
+    requires { ⌜ (Pages (now store) (now pages) n) × (1 ≤ n) ⌝ }
+    ensures { λ r. ⌜ r ≡ distinct (joined (pageAt (now (store .entry)) (now (pages .entry))) 0 n) ⌝ }
 {
-    let n = count_entries(a);
-    let m = count_entries(b);
-    let mut i = 0;
-    let mut j = 0;
-    while i < n {
-        if m <= j {
+    let mut keys = no_keys();
+    let mut marks = no_marks();
+    let mut tree = start_merge(
+        store,
+        pages,
+        &mut keys,
+        &mut marks,
+        n,
+        Pair {
+            hash: 0,
+            block: 0,
+            offset: 0,
+        },
+    );
+    loop {
+        let j = tree[1];
+        let key = keys[j];
+        if key == NO_KEY {
+            return true;
+        }
+        let offset = marks[j] / 64;
+        take_first(store, pages, &mut keys, &mut marks, &mut tree, n);
+        if is_next(&keys, &marks, &tree, key, offset) {
             return false;
         }
-        let p = get_entry(a, i).pair;
-        let q = get_entry(b, j).pair;
-        if is_same(p, q) {
-            return true;
-        }
-        if is_before(p, q) {
-            i += 1;
-        } else {
-            j += 1;
-        }
     }
-    false
-}
-
-// Whether the page at index `i` of the walk has a pair in common with a later one.
-fn meets_later(store: &[u8], blocks: &[u32; MAX_BLOCKS + 1], count: usize, i: usize) -> bool
-    requires { ⌜ (Within (now store) (now blocks) count) × (PagesOk (now store) (take count (now blocks))) ⌝ }
-    requires { ⌜ i < count ⌝ }
-    ensures { λ r. ⌜ r ≡ any (λ k. common (entriesOn (now (store .entry)) (getD (now (blocks .entry)) i 0))
-        (entriesOn (now (store .entry)) k)) (drop (i + 1) (take count (now (blocks .entry)))) ⌝ }
-{
-    let page = page_on(store, blocks, count, i);
-    let mut j = i + 1;
-    while j < count {
-        if have_common(page, page_on(store, blocks, count, j)) {
-            return true;
-        }
-        j += 1;
-    }
-    false
 }
 
 // Whether no pair stands twice in the pages of the walk.
@@ -86,14 +78,11 @@ fn check_distinct(store: &[u8], blocks: &[u32; MAX_BLOCKS + 1], count: usize) ->
     requires { ⌜ (Within (now store) (now blocks) count) × (PagesOk (now store) (take count (now blocks))) ⌝ }
     ensures { λ r. ⌜ r ≡ distinct (bind (take count (now (blocks .entry))) (entriesOn (now (store .entry)))) ⌝ }
 {
-    let mut i = 0;
-    while i < count {
-        if meets_later(store, blocks, count, i) {
-            return false;
-        }
-        i += 1;
+    if count <= 1 {
+        return true;
     }
-    true
+    let pages = join_walks(blocks, count, blocks, 0);
+    all_distinct(store, &pages, count)
 }
 
 // Rule 5.

@@ -1,0 +1,129 @@
+-- The marks of copies, held against the originals in one pass over both: a turn takes the next copy, when all originals
+-- that stand before it are taken.
+use mathlib.Core.Path.{_≡_, refl, sym, ap, _∙_, subst}
+use mathlib.Core.Bool.{Bool, true, false, _&&_, Bool·beq}
+use mathlib.Core.List.{List, _∷_}
+use Prim.Native.Nat.{ℕ, _+_, _%_, _/_, _≤_, _<_}
+use native.Mathlib.Omega.{arith}
+use lib.ListN.{getD, drop}
+use Rattle.lists.specs.Lists.{any, all}
+use Rattle.lists.specs.Block.{block}
+use Rattle.page.specs.declared.Pair.{Pair}
+use Rattle.page.specs.declared.Entry.{Entry}
+use Rattle.page.specs.Pair.{PairFits, before, is}
+use Rattle.page.specs.SublistLaws.{each-map}
+use Rattle.page.specs.Entries.{entryAt}
+use Rattle.merge.specs.Merge.{joined}
+use Rattle.merge.specs.MergeLaws.{joined-each}
+use Rattle.merge.specs.Heads.{noKey, pageAt, leftOf, Merging, Moved}
+use Rattle.merge.specs.MergingLaws.{merging-upto, first-left}
+use Rattle.entries.specs.Tests.{markedBy}
+use Rattle.entries.specs.Next.{pairKey, pairFrom, nextIs, nextBefore, NotBefore, Kept, Passed}
+use Rattle.entries.specs.TakenLaws.{all-same, taken-all, taken-kept}
+use Rattle.entries.specs.NextLaws.{
+  from-key,
+  from-fits,
+  next-key,
+  next-offset,
+  next-pair,
+  next-fits,
+  next-least,
+  next-any,
+  next-none,
+  next-passed,
+}
+
+-- ---- entries before a pair are taken
+
+module _ {s ks : List ℕ} {n : ℕ} {keys marks tree : List ℕ} (m : Merging s ks n keys marks tree) (some : 1 ≤ n)
+    (key offset : ℕ) (below : key < noKey) (small : offset < 65536) where
+  abbrev p : Pair
+  p = pairFrom key offset
+
+  fits : PairFits p
+  fits = from-fits key offset below small
+
+  pub pass-end : nextBefore keys marks tree key offset ≡ false → NotBefore (leftOf s ks marks) n (pairFrom key offset)
+  pass-end h = next-none m some p fits key offset (sym (from-key key offset)) refl below h
+
+  pub pass-turn : nextBefore keys marks tree key offset ≡ true → (keys′ marks′ tree′ : List ℕ)
+      → Moved s ks n tree marks keys′ marks′ tree′
+      → Kept (leftOf s ks marks) (leftOf s ks marks′) n (pairFrom key offset)
+  pass-turn h keys′ marks′ tree′ moved =
+      taken-kept (leftOf s ks marks) (leftOf s ks marks′) n (moved .taken) (merging-upto m some) p
+      (next-passed m some p fits key offset (sym (from-key key offset)) refl below h (moved .entry) _
+      (moved .taken .here))
+
+-- ---- the mark of the next copy
+
+-- copies ks, originals os
+module _ {s ks os : List ℕ} {n k : ℕ} {keys marks tree : List ℕ} (m : Merging s ks n keys marks tree) (some : 1 ≤ n)
+    (more : getD keys (getD tree 1 0) 0 < noKey) {low keys″ marks″ tree″ : List ℕ} (originals : 1 ≤ k)
+    (passed : Passed s os k (pairFrom (getD keys (getD tree 1 0) 0) (getD marks (getD tree 1 0) 0 / 64)) low keys″
+    marks″ tree″) where
+  abbrev key : ℕ
+  key = getD keys (getD tree 1 0) 0
+
+  abbrev offset : ℕ
+  offset = getD marks (getD tree 1 0) 0 / 64
+
+  abbrev e : Entry
+  e = entryAt (block s (getD ks (getD tree 1 0) 0)) (getD marks (getD tree 1 0) 0 % 64)
+
+  abbrev rest : List Entry
+  rest = drop (getD marks (getD tree 1 0) 0 % 64 + 1) (pageAt s ks (getD tree 1 0))
+
+  first : leftOf s ks marks (getD tree 1 0) ≡ e ∷ rest
+  first = first-left m some more
+
+  fit : PairFits (e .pair)
+  fit = next-fits m some e rest first
+
+  has-key : key ≡ pairKey (e .pair)
+  has-key = next-key m some e rest first
+
+  has-offset : offset ≡ e .pair .offset
+  has-offset = next-offset m some e rest first
+
+  is-pair : pairFrom key offset ≡ e .pair
+  is-pair = next-pair m some e rest first
+
+  abbrev olds : List Entry
+  olds = joined (leftOf s os low) 0 k
+
+  abbrev olds″ : List Entry
+  olds″ = joined (leftOf s os marks″) 0 k
+
+  kept : (x : Pair) → before x (e .pair) ≡ false → any (is x) olds ≡ any (is x) olds″
+  kept = subst (Kept (leftOf s os low) (leftOf s os marks″) k) is-pair (passed .kept)
+
+  -- the copies are marked by the originals that are left as they were before
+  same-marks : all (markedBy olds) (joined (leftOf s ks marks) 0 n)
+      ≡ all (markedBy olds″) (joined (leftOf s ks marks) 0 n)
+  same-marks =
+      all-same (markedBy olds) (markedBy olds″) (joined (leftOf s ks marks) 0 n)
+      (joined-each (leftOf s ks marks) (λ y. markedBy olds y ≡ markedBy olds″ y) 0 n
+      (λ i l u.
+      each-map (λ y. before (y .pair) (e .pair) ≡ false) (λ y. markedBy olds y ≡ markedBy olds″ y)
+      (λ y h. ap (Bool·beq (y .moved)) (kept (y .pair) h)) (leftOf s ks marks i)
+      (next-least m some e rest first i (omega arith))))
+
+  -- the next original tells the mark
+  mark : markedBy olds″ e ≡ Bool·beq (e .moved) (nextIs keys″ marks″ tree″ key offset)
+  mark =
+      ap (Bool·beq (e .moved))
+      (sym (next-any (passed .merging) originals (e .pair) fit key offset has-key has-offset more
+      (subst (NotBefore (leftOf s os marks″) k) is-pair (passed .none))))
+
+  pub turn-marked : (keys′ marks′ tree′ : List ℕ) → Moved s ks n tree marks keys′ marks′ tree′
+      → all (markedBy (joined (leftOf s os low) 0 k)) (joined (leftOf s ks marks) 0 n)
+      ≡ Bool·beq (entryAt (block s (getD ks (getD tree 1 0) 0)) (getD marks (getD tree 1 0) 0 % 64) .moved)
+      (nextIs keys″ marks″ tree″ (getD keys (getD tree 1 0) 0) (getD marks (getD tree 1 0) 0 / 64))
+      && all (markedBy (joined (leftOf s os marks″) 0 k)) (joined (leftOf s ks marks′) 0 n)
+  turn-marked keys′ marks′ tree′ moved =
+      let same-entry : moved .entry ≡ e =
+      ap (λ (es : List Entry). getD es 0 e) (sym (moved .taken .here) ∙ first) in
+      same-marks
+      ∙ taken-all (leftOf s ks marks) (leftOf s ks marks′) n (moved .taken) (merging-upto m some) (markedBy olds″)
+      ∙ ap (λ (b : Bool). b && all (markedBy olds″) (joined (leftOf s ks marks′) 0 n))
+      (ap (markedBy olds″) same-entry ∙ mark)

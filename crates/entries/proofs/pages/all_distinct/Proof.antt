@@ -1,0 +1,156 @@
+use mathlib.Core.Path.{_≡_, sym, ap, _∙_}
+use mathlib.Core.Bool.{Bool, true, not, _&&_}
+use Prim.Native.Nat.{ℕ, _<_}
+use native.Mathlib.Omega.{arith}
+use lib.ListN.{length, getD, length-replicate}
+use Rattle.lists.specs.Lists.{tally}
+use Rattle.image.specs.Rules.{distinct}
+use Rattle.merge.specs.Tree.{maxPages}
+use Rattle.merge.specs.Merge.{joined}
+use Rattle.merge.specs.Heads.{noKey, pageAt, leftOf, Merging}
+use Rattle.merge.specs.MergingLaws.{merging-upto, merging-done}
+use Rattle.merge.specs.WalksLaws.{from-all}
+use Rattle.shape.specs.LoopLaws.{passed, failed}
+use Rattle.entries.specs.TakenLaws.{taken-less}
+use Rattle.entries.specs.NextLaws.{next-below}
+use Rattle.entries.proofs.Distinct.{turn-distinct}
+use Rattle.entries.proofs.pages.all_distinct.Statement.{statement}
+use Rattle.entries.proofs.pages.all_distinct.Tie as tie
+
+abbrev Inv-loop : tie.InvT-loop
+Inv-loop store pages n keys₀ marks₀ tree₀ keys marks tree =
+    (Merging store pages n keys marks tree)
+    × (distinct (joined (leftOf store pages marks) 0 n) ≡ distinct (joined (pageAt store pages) 0 n))
+
+abbrev μ-loop : tie.MeasureT-loop
+μ-loop store pages n keys₀ marks₀ tree₀ keys marks tree = tally (λ x. true) (joined (leftOf store pages marks) 0 n)
+
+no-keys-requires : tie.Need-no-keys-requires Inv-loop μ-loop
+no-keys-requires c κs = tt
+
+no-marks-requires : tie.Need-no-marks-requires Inv-loop μ-loop
+no-marks-requires c κs = tt
+
+start-merge-requires : tie.Need-start-merge-requires Inv-loop μ-loop
+start-merge-requires c κs =
+    let m = c .before .before in
+    let k = m .before in (
+      k .before .before .pre .0,
+      (
+        ap length (k .no-keys .ensures) ∙ length-replicate {A = ℕ} maxPages 0,
+        ap length (m .no-marks .ensures) ∙ length-replicate {A = ℕ} maxPages 0,
+      ),
+    )
+
+abbrev entry : (c : tie.At-loop Inv-loop μ-loop) → tie.Start Inv-loop μ-loop
+entry c = c .before .before .before .before .before .before .before
+
+loop-holds : tie.Need-loop-holds Inv-loop μ-loop
+loop-holds c =
+    let a = c .before .before .before .before .before .before .args in
+    let s = c .start-merge .ensures in
+    (s .0, ap distinct (from-all (a .store .now) (a .pages .now) (a .n) (c .start-merge .last .1 .1 .1 .0) (s .1)))
+
+-- the page of the next entry
+upto : (c : tie.At-loop Inv-loop μ-loop) → getD (c .loop .tree) 1 0 < maxPages
+upto c =
+    let m = c .loop .inv .0 in
+    omega (arith, merging-upto m (entry c .pre .1), m .pages .few)
+
+array-read-j : tie.Need-array-read-j Inv-loop μ-loop
+array-read-j c = omega arith
+
+mul-key : tie.Need-mul-key Inv-loop μ-loop
+mul-key c = omega (arith, upto c)
+
+array-read-key : tie.Need-array-read-key Inv-loop μ-loop
+array-read-key c = omega (arith, upto c)
+
+returns : tie.Need-returns Inv-loop μ-loop
+returns c =
+    let l = c .before in
+    sym (sym (l .loop .inv .1) ∙ ap distinct (merging-done (l .loop .inv .0) (entry l .pre .1) (c .if1 .taken)))
+
+mul-offset : tie.Need-mul-offset Inv-loop μ-loop
+mul-offset c = omega (arith, upto (c .before))
+
+array-read-offset : tie.Need-array-read-offset Inv-loop μ-loop
+array-read-offset c = omega (arith, upto (c .before))
+
+below : (c : tie.Else1 Inv-loop μ-loop)
+    → let l = c .before in
+    getD (l .loop .keys) (getD (l .loop .tree) 1 0) 0 < noKey
+below c =
+    let l = c .before in
+    next-below (l .loop .inv .0) (entry l .pre .1) (c .if1 .left)
+
+take-first-requires : tie.Need-take-first-requires Inv-loop μ-loop
+take-first-requires c κs =
+    let e = c .before .before .before in
+    let l = e .before in
+    ((l .loop .inv .0, entry l .pre .1), below e)
+
+is-next-requires : tie.Need-is-next-requires Inv-loop μ-loop
+is-next-requires c κs =
+    let t = c .before .before .before in
+    let l = t .before .before .before .before .before in
+    let m = t .take-first .ensures .merging in
+    omega (arith, merging-upto m (entry l .pre .1), m .pages .few)
+
+-- a turn, by what is left
+turn : (c : tie.After-is-next Inv-loop μ-loop)
+    → let t = c .before .before .before .before in
+    let l = t .before .before .before .before .before in
+    let a = entry l .args in
+    distinct (joined (pageAt (a .store .now) (a .pages .now)) 0 (a .n))
+    ≡ not (c .is-next .result)
+    && distinct (joined (leftOf (a .store .now) (a .pages .now) (t .take-first .last .1 .1 .1 .0)) 0 (a .n))
+turn c =
+    let t = c .before .before .before .before in
+    let e = t .before .before .before .before in
+    let l = e .before in
+    let a = entry l .args in
+    sym (l .loop .inv .1)
+    ∙ turn-distinct (l .loop .inv .0) (entry l .pre .1) (below e) (t .take-first .ensures)
+    ∙ ap (λ (b : Bool). not b
+    && distinct (joined (leftOf (a .store .now) (a .pages .now) (t .take-first .last .1 .1 .1 .0)) 0 (a .n)))
+    (sym (c .is-next .ensures))
+
+returns-2 : tie.Need-returns-2 Inv-loop μ-loop
+returns-2 c = sym (failed _ _ _ (turn (c .before)) (ap not (c .if2 .taken)))
+
+loop-less : tie.Need-loop-less Inv-loop μ-loop
+loop-less c =
+    let t = c .before .before .before .before .before in
+    let l = t .before .before .before .before .before in
+    let a = entry l .args in
+    taken-less (leftOf (a .store .now) (a .pages .now) (l .loop .marks))
+    (leftOf (a .store .now) (a .pages .now) (t .take-first .last .1 .1 .1 .0)) (a .n) (t .take-first .ensures .taken)
+    (merging-upto (l .loop .inv .0) (entry l .pre .1))
+
+loop-again : tie.Need-loop-again Inv-loop μ-loop
+loop-again c =
+    let n = c .before in
+    (n .before .before .before .before .take-first .ensures .merging, passed _ _ _ (turn n) (ap not (c .if2 .left)))
+
+pub all-distinct-spec : {M : Type 1} → statement M
+all-distinct-spec =
+    tie.close
+    (tie.spec
+    Inv-loop
+    μ-loop
+    no-keys-requires
+    no-marks-requires
+    start-merge-requires
+    loop-holds
+    array-read-j
+    mul-key
+    array-read-key
+    returns
+    mul-offset
+    array-read-offset
+    take-first-requires
+    is-next-requires
+    returns-2
+    loop-less
+    loop-again)
