@@ -5,12 +5,14 @@ use mathlib.Core.Bool.{Bool, true, false, _&&_, Bool·beq}
 use mathlib.Core.List.{List, _∷_}
 use Prim.Native.Nat.{ℕ, _+_, _%_, _/_, _≤_, _<_}
 use native.Mathlib.Omega.{arith}
+use borrow.Author.Tests.{le-ltb, ne-eqb}
 use lib.ListN.{getD, drop}
 use Rattle.lists.specs.Lists.{any, all}
 use Rattle.lists.specs.Block.{block}
 use Rattle.page.specs.declared.Pair.{Pair}
 use Rattle.page.specs.declared.Entry.{Entry}
 use Rattle.page.specs.Pair.{PairFits, before, is}
+use Rattle.page.specs.PairLaws.{no-way, Order, less, equal, more, order}
 use Rattle.page.specs.SublistLaws.{each-map}
 use Rattle.page.specs.Entries.{entryAt}
 use Rattle.merge.specs.Merge.{joined}
@@ -46,6 +48,18 @@ module _ {s ks : List ℕ} {n : ℕ} {keys marks tree : List ℕ} (m : Merging s
   pub pass-end : nextBefore keys marks tree key offset ≡ false → NotBefore (leftOf s ks marks) n (pairFrom key offset)
   pass-end h = next-none m some p fits key offset (sym (from-key key offset)) refl below h
 
+  -- there is one to take
+  pub pass-below : nextBefore keys marks tree key offset ≡ true → getD keys (getD tree 1 0) 0 < noKey
+  pass-below h = go (order (getD keys (getD tree 1 0) 0) key)
+    where
+      go : Order (getD keys (getD tree 1 0) 0) key → getD keys (getD tree 1 0) 0 < noKey
+      go (less l) = omega (arith, l, below)
+      go (equal e) = omega (arith, e, below)
+      go (more l) =
+          no-way h
+          (rw (ne-eqb (getD keys (getD tree 1 0) 0) key (omega arith))
+          (le-ltb (getD keys (getD tree 1 0) 0) key (omega arith)))
+
   pub pass-turn : nextBefore keys marks tree key offset ≡ true → (keys′ marks′ tree′ : List ℕ)
       → Moved s ks n tree marks keys′ marks′ tree′
       → Kept (leftOf s ks marks) (leftOf s ks marks′) n (pairFrom key offset)
@@ -55,6 +69,12 @@ module _ {s ks : List ℕ} {n : ℕ} {keys marks tree : List ℕ} (m : Merging s
       (moved .taken .here))
 
 -- ---- the mark of the next copy
+
+pub copy-small : {s ks : List ℕ} {n : ℕ} {keys marks tree : List ℕ} (m : Merging s ks n keys marks tree) (some : 1 ≤ n)
+    → getD keys (getD tree 1 0) 0 < noKey → getD marks (getD tree 1 0) 0 / 64 < 65536
+copy-small m some below =
+    let first = first-left m some below in
+    omega (arith, next-offset m some _ _ first, next-fits m some _ _ first .offset)
 
 -- copies ks, originals os
 module _ {s ks os : List ℕ} {n k : ℕ} {keys marks tree : List ℕ} (m : Merging s ks n keys marks tree) (some : 1 ≤ n)

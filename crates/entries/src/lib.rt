@@ -2,5 +2,6 @@
 // under the rules before it.
 pub mod next; // next.rt: the next entry of a merge, held against a pair
 pub mod pages; // pages.rt: rule 5, pages, and no pair twice in a chain
+pub mod marks; // marks.rt: rule 7, the marks of copies
 pub mod places; // places.rt: rule 7, entries in their buckets
 pub mod counts; // counts.rt: rule 8, previous fields and the count

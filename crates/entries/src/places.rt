@@ -1,12 +1,11 @@
 // Rule 7: each entry in its bucket, and the marks of a job that copies.
+use crate::marks::all_marked;
 use address::bucket_of;
 use address::limits::MAX_BLOCKS;
-use chain::Found;
 use chain::links::page_on;
-use chain::search::find_pair;
 use image::Meta;
+use merge::walks::join_walks;
 use model::Phase;
-use page::Entry;
 use page::slots::count_entries;
 use page::slots::get_entry;
 use reader::buckets::walk_bucket;
@@ -81,36 +80,6 @@ fn check_walk_places(
     true
 }
 
-// Whether the entry is marked moved exactly if the walk has its pair.
-fn is_marked(store: &[u8], blocks: &[u32; MAX_BLOCKS + 1], count: usize, entry: Entry) -> bool
-    requires { ⌜ (Within (now store) (now blocks) count) × (PagesOk (now store) (take count (now blocks))) ⌝ }
-    ensures { λ r. ⌜ r ≡ markedBy (bind (take count (now (blocks .entry))) (entriesOn (now (store .entry)))) entry ⌝ }
-{
-    let found = find_pair(store, blocks, count, entry.pair);
-    match found {
-        Found::At { block: _, slot: _ } => entry.moved,
-        Found::Nothing => !entry.moved,
-    }
-}
-
-// Whether each entry of the page is marked moved exactly if the walk has its pair.
-fn check_page_marks(page: &[u8], store: &[u8], blocks: &[u32; MAX_BLOCKS + 1], count: usize) -> bool
-    requires { ⌜ Sorted (now page) ⌝ }
-    requires { ⌜ (Within (now store) (now blocks) count) × (PagesOk (now store) (take count (now blocks))) ⌝ }
-    ensures { λ r. ⌜ r ≡ all (markedBy (bind (take count (now (blocks .entry))) (entriesOn (now (store .entry)))))
-        (entriesOf (now (page .entry))) ⌝ }
-{
-    let n = count_entries(page);
-    let mut i = 0;
-    while i < n {
-        if !is_marked(store, blocks, count, get_entry(page, i)) {
-            return false;
-        }
-        i += 1;
-    }
-    true
-}
-
 // Whether each entry of the walk `copies` is marked moved exactly if the walk `originals` has its pair.
 fn check_walk_marks(
     store: &[u8],
@@ -121,17 +90,13 @@ fn check_walk_marks(
 ) -> bool
     requires { ⌜ (Within (now store) (now copies) count) × (PagesOk (now store) (take count (now copies))) ⌝ }
     requires { ⌜ (Within (now store) (now originals) total) × (PagesOk (now store) (take total (now originals))) ⌝ }
+    requires { ⌜ (1 ≤ count) × (1 ≤ total) ⌝ }
     ensures { λ r. ⌜ r ≡ all (markedBy (bind (take total (now (originals .entry))) (entriesOn (now (store .entry)))))
         (bind (take count (now (copies .entry))) (entriesOn (now (store .entry)))) ⌝ }
 {
-    let mut i = 0;
-    while i < count {
-        if !check_page_marks(page_on(store, copies, count, i), store, originals, total) {
-            return false;
-        }
-        i += 1;
-    }
-    true
+    let new = join_walks(copies, count, copies, 0);
+    let old = join_walks(originals, total, originals, 0);
+    all_marked(store, &new, &old, count, total)
 }
 
 // Whether each entry of each chain may stand there.

@@ -2,6 +2,7 @@ use mathlib.Core.Path.{_∙_}
 use Prim.Native.Nat.{_≤_}
 use native.Mathlib.Omega.{arith}
 use Rattle.image.specs.Decode.{maxAt}
+use Rattle.chain.specs.WithinLaws.{walked-some}
 use Rattle.reader.specs.KnownLaws.{max-is}
 use Rattle.entries.specs.WalkedLaws.{walk-within, walk-pages}
 use Rattle.entries.proofs.Homing.{walks-marked}
@@ -31,8 +32,11 @@ check-walk-marks-requires c κs =
         walk-pages (s .args .new) (new-made s) (n .walk-bucket .ensures) k,
       ),
       (
-        walk-within (s .args .old) (old-made s) (o .walk-bucket2 .ensures) (k .known),
-        walk-pages (s .args .old) (old-made s) (o .walk-bucket2 .ensures) k,
+        (
+          walk-within (s .args .old) (old-made s) (o .walk-bucket2 .ensures) (k .known),
+          walk-pages (s .args .old) (old-made s) (o .walk-bucket2 .ensures) k,
+        ),
+        (walked-some (n .walk-bucket .ensures), walked-some (o .walk-bucket2 .ensures)),
       ),
     )
 

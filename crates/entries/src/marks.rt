@@ -1,0 +1,111 @@
+// Rule 7, the marks of copies: in one pass over the new chain's pages and the old chain's, each merged.
+use crate::next::is_next;
+use crate::next::is_next_before;
+use merge::MAX_PAGES;
+use merge::heads::NO_KEY;
+use merge::heads::no_keys;
+use merge::heads::no_marks;
+use merge::heads::start_merge;
+use merge::heads::take_first;
+use page::Pair;
+use page::slots::get_entry;
+use store::block_at;
+ghost use mathlib.Core.Path.{_≡_};
+ghost use Prim.Native.Nat.{_%_, _≤_, _<_};
+ghost use lib.ListN.{getD};
+ghost use Rattle.lists.specs.Lists.{all};
+ghost use Rattle.lists.specs.Block.{block};
+ghost use Rattle.page.specs.Entries.{entryAt};
+ghost use Rattle.merge.specs.Merge.{joined};
+ghost use Rattle.merge.specs.Heads.{noKey, pageAt, Pages, Merging};
+ghost use Rattle.entries.specs.Tests.{markedBy};
+ghost use Rattle.entries.specs.Next.{pairFrom, Passed};
+
+// Takes all entries that stand before the pair.
+fn pass_before(
+    store: &[u8],
+    pages: &[u32; MAX_PAGES],
+    keys: &mut [u64; MAX_PAGES],
+    marks: &mut [u32; MAX_PAGES],
+    tree: &mut [usize; 2 * MAX_PAGES],
+    n: usize,
+    key: u64,
+    offset: u32,
+)
+    requires { ⌜ (Merging (now store) (now pages) n (now keys) (now marks) (now tree)) × (1 ≤ n) ⌝ }
+    requires { ⌜ (key < noKey) × (offset < 65536) ⌝ }
+    ensures { λ _. ⌜ Passed (now (store .entry)) (now (pages .entry)) n (pairFrom key offset) (now (marks .entry))
+        (now (keys .exit)) (now (marks .exit)) (now (tree .exit)) ⌝ }
+{
+    while is_next_before(keys, marks, tree, key, offset) {
+        take_first(store, pages, keys, marks, tree, n);
+    }
+}
+
+// Whether the next entry is marked moved.
+fn is_next_moved(
+    store: &[u8],
+    pages: &[u32; MAX_PAGES],
+    marks: &[u32; MAX_PAGES],
+    tree: &[usize; 2 * MAX_PAGES],
+    n: usize,
+) -> bool
+    requires { ⌜ (Pages (now store) (now pages) n) × (getD (now tree) 1 0 < n) ⌝ }
+    requires { ⌜ getD (now marks) (getD (now tree) 1 0) 0 % 64 < 40 ⌝ }
+    ensures { λ r. ⌜ r ≡ entryAt
+        (block (now (store .entry)) (getD (now (pages .entry)) (getD (now (tree .entry)) 1 0) 0))
+        (getD (now (marks .entry)) (getD (now (tree .entry)) 1 0) 0 % 64) .moved ⌝ }
+{
+    let j = tree[1];
+    let slot = (marks[j] % 64) as usize;
+    get_entry(block_at(store, pages[j] as usize), slot).moved
+}
+
+// Whether each entry of the `n` pages of copies is marked moved exactly if the `k` pages of originals have its pair.
+pub fn all_marked(
+    store: &[u8],
+    copies: &[u32; MAX_PAGES],
+    originals: &[u32; MAX_PAGES],
+    n: usize,
+    k: usize,
+) -> bool
+    requires { ⌜ (Pages (now store) (now copies) n) × (1 ≤ n) ⌝ }
+    requires { ⌜ (Pages (now store) (now originals) k) × (1 ≤ k) ⌝ }
+    ensures { λ r. ⌜ r ≡ all (markedBy (joined (pageAt (now (store .entry)) (now (originals .entry))) 0 k))
+        (joined (pageAt (now (store .entry)) (now (copies .entry))) 0 n) ⌝ }
+{
+    let from = Pair {
+        hash: 0,
+        block: 0,
+        offset: 0,
+    };
+    let mut keys = no_keys();
+    let mut marks = no_marks();
+    let mut tree = start_merge(store, copies, &mut keys, &mut marks, n, from);
+    let mut old_keys = no_keys();
+    let mut old_marks = no_marks();
+    let mut old_tree = start_merge(store, originals, &mut old_keys, &mut old_marks, k, from);
+    loop {
+        let j = tree[1];
+        let key = keys[j];
+        if key == NO_KEY {
+            return true;
+        }
+        let offset = marks[j] / 64;
+        let moved = is_next_moved(store, copies, &marks, &tree, n);
+        pass_before(
+            store,
+            originals,
+            &mut old_keys,
+            &mut old_marks,
+            &mut old_tree,
+            k,
+            key,
+            offset,
+        );
+        take_first(store, copies, &mut keys, &mut marks, &mut tree, n);
+        if moved != is_next(&old_keys, &old_marks, &old_tree, key, offset) {
+            return false;
+        }
+    }
+}
