@@ -1,5 +1,4 @@
 pub mod Walking
 pub mod Slots
 pub mod Searching
-pub mod Paging
 pub mod Tallies

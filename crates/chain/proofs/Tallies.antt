@@ -24,7 +24,7 @@ use Rattle.page.specs.RunLaws.{run-le, run-keep}
 use Rattle.model.specs.TallyLaws.{and-comm}
 use Rattle.chain.specs.Within.{entriesOn, Within, PageOn}
 use Rattle.chain.specs.WithinLaws.{rest-turn, rest-done}
-use Rattle.chain.specs.Next.{isMatch}
+use Rattle.chain.specs.Pairs.{isMatch}
 
 abbrev pub unmoved : Entry → Bool
 unmoved e = not (e .moved)

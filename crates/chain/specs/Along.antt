@@ -8,7 +8,7 @@ use Rattle.page.specs.declared.Pair.{Pair}
 use Rattle.chain.specs.declared.Found.{Found}
 use Rattle.chain.specs.Within.{entriesOn}
 use Rattle.chain.specs.Search.{findIn}
-use Rattle.chain.specs.Next.{pairsIn}
+use Rattle.chain.specs.Pairs.{pairsIn}
 
 abbrev pub orElse : Found → Found → Found
 orElse (Found.At k n) other = Found.At k n

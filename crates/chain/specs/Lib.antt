@@ -5,8 +5,7 @@ pub mod Within
 pub mod WithinLaws
 pub mod Search
 pub mod SearchLaws
-pub mod Next
-pub mod NextLaws
+pub mod Pairs
 pub mod PairsLaws
 pub mod Along
 pub mod Bitmap

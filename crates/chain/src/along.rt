@@ -1,38 +1,14 @@
 // The pairs of a hash code along two walks: the `n` blocks of its own bucket's chain, of which only the unmoved entries
 // count where `fresh`, and the `k` blocks of the old chain, none where there is no such chain.
 use crate::Found;
-use crate::Next;
 use crate::counting::count_in_walk;
-use crate::matches::earlier_of;
-use crate::matches::next_in_walk;
 use crate::search::find_pair;
 use address::limits::MAX_BLOCKS;
 use page::Pair;
 ghost use mathlib.Core.Path.{_≡_};
 ghost use lib.ListN.{length, take};
 ghost use Rattle.chain.specs.Within.{PagesOk, Within};
-ghost use Rattle.chain.specs.Next.{nextAfter};
 ghost use Rattle.chain.specs.Along.{pairsAlong, findAlong};
-
-// The next pair that has the hash code of `after`.
-pub fn next_along(
-    store: &[u8],
-    own: &[u32; MAX_BLOCKS + 1],
-    n: usize,
-    old: &[u32; MAX_BLOCKS + 1],
-    k: usize,
-    after: Pair,
-    fresh: bool,
-) -> Next
-    requires { ⌜ (Within (now store) (now own) n) × (PagesOk (now store) (take n (now own))) ⌝ }
-    requires { ⌜ (Within (now store) (now old) k) × (PagesOk (now store) (take k (now old))) ⌝ }
-    ensures { λ r. ⌜ r ≡ nextAfter after (pairsAlong (now (store .entry)) (take n (now (own .entry)))
-        (take k (now (old .entry))) (after .hash) fresh) ⌝ }
-{
-    let first = next_in_walk(store, own, n, after, fresh);
-    let second = next_in_walk(store, old, k, after, false);
-    earlier_of(first, second)
-}
 
 // The number of pairs.
 pub fn count_along(

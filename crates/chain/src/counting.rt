@@ -13,7 +13,7 @@ ghost use Rattle.lists.specs.Lists.{b2n, tally, bind};
 ghost use Rattle.page.specs.Entries.{entriesOf};
 ghost use Rattle.page.specs.Allowed.{Sorted};
 ghost use Rattle.chain.specs.Within.{entriesOn, PagesOk, Within};
-ghost use Rattle.chain.specs.Next.{isMatch};
+ghost use Rattle.chain.specs.Pairs.{isMatch};
 
 // 1 for an unmoved entry, 0 for a moved one.
 fn count_unmoved(e: Entry) -> u32

@@ -2,13 +2,11 @@
 // store, the lowest free bit.
 pub mod links; // links.rt: the blocks of a chain
 pub mod search; // search.rt: a pair in a chain, the first page with room
-pub mod matches; // matches.rt: the next pair of a hash code after a place
 pub mod counting; // counting.rt: the number of pairs of a hash code
 pub mod along; // along.rt: the same over the walks of a hash code's own and old chain
 pub mod bitmap; // bitmap.rt: the lowest free bit
 
 use address::limits::MAX_BLOCKS;
-use page::Pair;
 
 // The blocks of a chain, in order: the first `count` of `blocks`.
 pub struct Walk {
@@ -32,12 +30,6 @@ pub enum Found {
 pub enum Room {
     Page { block: u32 },
     Full { last: u32 },
-}
-
-// The next pair after a place.
-pub enum Next {
-    At(Pair),
-    Nothing,
 }
 
 // The lowest free bit of a bitmap.

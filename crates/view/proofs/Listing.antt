@@ -1,29 +1,31 @@
--- The turns of the loop that writes pairs out: what is left to write, after the last place written.
-use mathlib.Core.Path.{_≡_, refl, sym, ap, _∙_}
-use mathlib.Core.Bool.{Bool, false}
+-- The turns of the loop that writes pairs out: what is left to write is what is left of the merged pages.
+use mathlib.Core.Path.{_≡_, refl, sym, ap, ap₂, _∙_}
+use mathlib.Core.Logic.{_≢_}
+use mathlib.Core.Bool.{Bool, true, false, cond}
 use mathlib.Core.List.{List, [], _∷_, _++_}
-use Prim.Native.Nat.{ℕ, suc, _+_, _*_, _≤_, _<_}
+use Prim.Native.Nat.{ℕ, suc, _+_, _*_, _/_, _≤_, _<_}
 use native.Mathlib.Omega.{arith}
-use lib.ListN.{length, getD, drop, length-append, length-drop}
-use lib.Seq.{sets, sets-eq, length-sets, getD-drop, drop-drop}
-use Rattle.lists.specs.Lists.{bind, Each}
-use Rattle.lists.specs.ListsLaws.{each-append}
+use borrow.Author.Tests.{eq-eqb}
+use lib.ListN.{length, getD, drop, length-append}
+use lib.Seq.{sets, sets-eq, length-sets}
+use Rattle.lists.specs.Lists.{tally, bind}
 use Rattle.lists.specs.BytesLaws.{sets-append}
 use Rattle.endian.specs.Endian.{le16, le32}
 use Rattle.page.specs.declared.Pair.{Pair}
-use Rattle.page.specs.SublistLaws.{each-getD}
-use Rattle.page.specs.RunLaws.{lowest}
-use Rattle.model.specs.Held.{sorted}
+use Rattle.page.specs.declared.Entry.{Entry}
+use Rattle.page.specs.Pair.{pairOf, ascending}
+use Rattle.model.specs.Held.{self, sorted}
 use Rattle.model.specs.SortedLaws.{length-sorted}
 use Rattle.model.specs.Calls.{placeBytes}
-use Rattle.chain.specs.declared.Next.{Next}
-use Rattle.chain.specs.Within.{entriesOn}
-use Rattle.chain.specs.Next.{nextAfter, pairsIn}
-use Rattle.chain.specs.PairsLaws.{pairs-hash}
-use Rattle.chain.specs.Along.{pairsAlong}
+use Rattle.chain.specs.Pairs.{counts, isMatch}
+use Rattle.merge.specs.Merge.{joined, Best, Taken}
+use Rattle.merge.specs.MergeLaws.{taken-tally}
+use Rattle.merge.specs.Heads.{noKey, leftOf, Merging, Moved}
+use Rattle.merge.specs.MergingLaws.{merging-up, merging-upto, merging-best, merging-none, first-left}
+use Rattle.view.specs.Left.{pairsLeft, freshAt, NoLower, firstAt, headPair, Told}
+use Rattle.view.specs.ToldLaws.{merging-told}
+use Rattle.view.specs.LeftLaws.{left-none, left-past, turn-above, turn-once, turn-skip, turn-first}
 use Rattle.view.specs.Lookup.{written, Listable}
-use Rattle.view.specs.AfterLaws.{headOf, next-sorted, next-listed}
-use Rattle.view.specs.SourcePairsLaws.{each-sorted}
 
 pub length-placeBytes : (p : Pair) → length (placeBytes p) ≡ 6
 unfolding le32 le16
@@ -43,112 +45,163 @@ written-start ps out room =
     sym (sets-eq (bind ps placeBytes) out 0 (omega (arith, n))
     ∙ ap (λ (k : ℕ). bind ps placeBytes ++ drop k out) n)
 
--- the list from place i on, by its first pair
-head-none : (ps : List Pair) (i : ℕ) → headOf (drop i ps) ≡ Next.Nothing → drop i ps ≡ []
-head-none ps i h = go (drop i ps) h
-  where
-    go : (qs : List Pair) → headOf qs ≡ Next.Nothing → qs ≡ []
-    go [] h = refl
-    go (q ∷ qs) h = let z : _≡_ {A = ℕ} 0 1 = cc in absurd (omega arith)
+-- what is left to write from the place `at` on is what is left of the pages
+pub record Listed (f : ℕ → List Entry) (n k h : ℕ) (fresh : Bool) (whole out : List ℕ) (at : ℕ) : Type 0 where
+  pub once : ascending self (sorted (pairsLeft f n k h fresh)) ≡ true
+  pub above : NoLower f (n + k) h
+  pub room : at + 6 * length (pairsLeft f n k h fresh) ≤ length out
+  pub rest : whole ≡ sets out at (bind (sorted (pairsLeft f n k h fresh)) placeBytes)
 
-head-some : (ps : List Pair) (i : ℕ) (p : Pair) → headOf (drop i ps) ≡ Next.At p → drop i ps ≡ p ∷ drop (suc i) ps
-head-some ps i p h = go (drop i ps) refl h
-  where
-    go : (qs : List Pair) → drop i ps ≡ qs → headOf qs ≡ Next.At p → drop i ps ≡ p ∷ drop (suc i) ps
-    go [] e h = let z : _≡_ {A = ℕ} 0 1 = cc in absurd (omega arith)
-    go (q ∷ qs) e h =
-        let f : q ≡ p = cc in
-        let n : suc i ≡ i + 1 = omega arith in
-        let rest : drop (suc i) ps ≡ qs = ap (λ (k : ℕ). drop k ps) n ∙ sym (drop-drop 1 i ps) ∙ ap (drop 1) e in
-        e ∙ ap (λ (r : Pair). r ∷ qs) f ∙ ap (λ (l : List Pair). p ∷ l) (sym rest)
+pub list-start : (f : ℕ → List Entry) (n k h : ℕ) (fresh : Bool) (out : List ℕ) → NoLower f (n + k) h
+    → Listable (pairsLeft f n k h fresh) out
+    → Listed f n k h fresh (written (sorted (pairsLeft f n k h fresh)) out) out 0
+list-start f n k h fresh out above all =
+    let ps : List Pair = pairsLeft f n k h fresh in
+    record {
+      once = all .ascends;
+      above = above;
+      room = omega (arith, all .room);
+      rest = written-start (sorted ps) out (omega (arith, length-sorted ps, all .room));
+    }
 
--- `number` pairs stand in the output, up to the place `at`; `last` is the last of them
-pub record Listed (ps : List Pair) (h : ℕ) (out₀ out : List ℕ) (last : Pair) (at : ℕ) : Type 0 where
-  pub number : ℕ
-  pub inside : number ≤ length ps
-  pub place : at ≡ 6 * number
-  pub after : last ≡ getD (lowest h ∷ ps) number last
-  pub size : length out ≡ length out₀
-  pub left : written ps out₀ ≡ sets out at (bind (drop number ps) placeBytes)
+-- nothing is left
+list-done : (f : ℕ → List Entry) (n k h : ℕ) (fresh : Bool) (whole out : List ℕ) (at : ℕ)
+    → Listed f n k h fresh whole out at → pairsLeft f n k h fresh ≡ [] → out ≡ whole
+list-done f n k h fresh whole out at l z =
+    sym (l .rest ∙ ap (λ (ps : List Pair). sets out at (bind (sorted ps) placeBytes)) z)
 
--- the pairs of the hash code h along the blocks ks and js
-module _ (s ks js : List ℕ) (fresh : Bool) (h : ℕ) (out₀ : List ℕ)
-    (all : Listable (pairsAlong s ks js h fresh) h out₀) where
-  abbrev qs : ℕ → List Pair
-  qs g = pairsAlong s ks js g fresh
-
+-- the list with an entry taken
+module _ (n k h : ℕ) (fresh : Bool) (f g : ℕ → List Entry) {j : ℕ} {e : Entry} (best : Best f (n + k) j)
+    (up : (i : ℕ) → i < n + k → ascending pairOf (f i) ≡ true) (taken : Taken f g j e) (code : e .pair .hash ≡ h)
+    {whole out : List ℕ} {at : ℕ} (l : Listed f n k h fresh whole out at) where
   abbrev ps : List Pair
-  ps = sorted (qs h)
+  ps = pairsLeft f n k h fresh
 
-  hashes : Each (λ p. p .hash ≡ h) (qs h)
-  hashes =
-      let es = bind ks (entriesOn s) in
-      let fs = bind js (entriesOn s) in
-      each-append (λ p. p .hash ≡ h) (pairsIn h fresh es) (pairsIn h false fs)
-      (pairs-hash h fresh es) (pairs-hash h false fs)
+  abbrev qs : List Pair
+  qs = pairsLeft g n k h fresh
 
-  number-is : length ps ≡ length (qs h)
-  number-is = length-sorted (qs h)
+  abbrev c : Bool
+  c = counts (freshAt fresh n j) e
 
-  pub list-start : Listed (sorted (pairsAlong s ks js h fresh)) h out₀ out₀ (lowest h) 0
-  list-start =
-      record {
-        number = 0;
-        inside = omega arith;
-        place = refl;
-        after = refl;
-        size = refl;
-        left = written-start ps out₀ (omega (arith, number-is, all .room));
-      }
+  matches : (b : Bool) → c ≡ b → isMatch h (freshAt fresh n j) e ≡ b
+  matches true q = rw q (eq-eqb (e .pair .hash) h code)
+  matches false q = rw q
 
-  module _ {out : List ℕ} {last : Pair} {at : ℕ} (l : Listed (sorted (pairsAlong s ks js h fresh)) h out₀ out last at)
-      (found : Next)
-      (next : found ≡ nextAfter last (pairsAlong s ks js (last .hash) fresh)) where
-    abbrev i : ℕ
-    i = l .number
+  first : c ≡ true → sorted ps ≡ e .pair ∷ sorted qs
+  first q = turn-first n k h fresh f best up e g taken (l .once) (matches true q)
 
-    same : getD (lowest h ∷ ps) i last .hash ≡ h
-    same =
-        each-getD (λ p. p .hash ≡ h) (lowest h ∷ ps) i last (refl, each-sorted (λ p. p .hash ≡ h) (qs h) hashes)
-        (omega (arith, l .inside))
+  counted : c ≡ true → length ps ≡ suc (length qs)
+  counted q = omega (arith, ap length (first q), length-sorted ps, length-sorted qs)
 
-    head : found ≡ headOf (drop i ps)
-    head =
-        next ∙ ap (λ (g : ℕ). nextAfter last (qs g)) (ap (λ (p : Pair). p .hash) (l .after) ∙ same)
-        ∙ sym (next-sorted last (qs h))
-        ∙ ap (λ (p : Pair). nextAfter p ps) (l .after)
-        ∙ next-listed h ps (all .ascends) i last (l .inside) same
+  pub turn-room : counts (freshAt fresh n j) e ≡ true → at + 6 ≤ length out
+  turn-room q = omega (arith, counted q, l .room)
 
-    pub list-end : found ≡ Next.Nothing → out ≡ written (sorted (pairsAlong s ks js h fresh)) out₀
-    list-end e =
-        sym (l .left ∙ ap (λ (rs : List Pair). sets out at (bind rs placeBytes)) (head-none ps i (sym head ∙ e)))
-
-    module _ (p : Pair) (e : found ≡ Next.At p) where
-      split : drop i ps ≡ p ∷ drop (suc i) ps
-      split = head-some ps i p (sym head ∙ e)
-
-      more : i < length ps
-      more = omega (arith, length-drop i ps, ap length split)
-
-      pub list-room : at + 6 ≤ length out
-      list-room = omega (arith, l .place, l .size, more, number-is, all .room)
-
-      pub list-turn : (out′ : List ℕ) → out′ ≡ sets out at (placeBytes p)
-          → Listed (sorted (pairsAlong s ks js h fresh)) h out₀ out′ p (at + 6)
-      list-turn out′ q =
-          let n : i ≡ i + 0 = omega arith in
+  pub turn-listed : (out′ : List ℕ) (at′ : ℕ)
+      → out′ ≡ cond (counts (freshAt fresh n j) e) (sets out at (placeBytes (e .pair))) out
+      → at′ ≡ cond (counts (freshAt fresh n j) e) (at + 6) at
+      → Listed g n k h fresh whole out′ at′
+  turn-listed out′ at′ o a = go c refl o a
+    where
+      go : (b : Bool) → c ≡ b → out′ ≡ cond b (sets out at (placeBytes (e .pair))) out → at′ ≡ cond b (at + 6) at
+          → Listed g n k h fresh whole out′ at′
+      go true q o a =
+          let size : length out′ ≡ length out = ap length o ∙ length-sets out at (placeBytes (e .pair)) in
+          let rest : List ℕ = bind (sorted qs) placeBytes in
           record {
-            number = suc i;
-            inside = more;
-            place = omega (arith, l .place);
-            after =
-                sym (ap (λ (k : ℕ). getD ps k p) n ∙ sym (getD-drop i ps 0 p)
-                ∙ ap (λ (rs : List Pair). getD rs 0 p) split);
-            size = ap length q ∙ length-sets out at (placeBytes p) ∙ l .size;
-            left =
-                l .left ∙ ap (λ (rs : List Pair). sets out at (bind rs placeBytes)) split
-                ∙ sym (sets-append (placeBytes p) (bind (drop (suc i) ps) placeBytes) out at)
-                ∙ ap (λ (n : ℕ). sets (sets out at (placeBytes p)) (at + n) (bind (drop (suc i) ps) placeBytes))
-                (length-placeBytes p)
-                ∙ ap (λ (o : List ℕ). sets o (at + 6) (bind (drop (suc i) ps) placeBytes)) (sym q);
+            once = turn-once n k h fresh f best up e g taken (l .once);
+            above = turn-above n k h fresh f best up e g taken (l .above);
+            room = omega (arith, a, size, counted q, l .room);
+            rest =
+                l .rest ∙ ap (λ (ps : List Pair). sets out at (bind ps placeBytes)) (first q)
+                ∙ sym (sets-append (placeBytes (e .pair)) rest out at)
+                ∙ ap (λ (m : ℕ). sets (sets out at (placeBytes (e .pair))) (at + m) rest) (length-placeBytes (e .pair))
+                ∙ ap (λ (x : List ℕ). sets x (at + 6) rest) (sym o) ∙ ap (λ (m : ℕ). sets out′ m rest) (sym a);
           }
+      go false q o a =
+          let same = turn-skip n k h fresh f best up e g taken (l .once) (matches false q) in
+          let rest : List ℕ = bind (sorted qs) placeBytes in
+          record {
+            once = turn-once n k h fresh f best up e g taken (l .once);
+            above = turn-above n k h fresh f best up e g taken (l .above);
+            room = omega (
+              arith,
+              a,
+              ap length o,
+              ap length same,
+              l .room,
+              length-sorted ps,
+              length-sorted qs,
+            );
+            rest =
+                l .rest ∙ ap (λ (ps : List Pair). sets out at (bind ps placeBytes)) same
+                ∙ ap (λ (x : List ℕ). sets x at rest) (sym o) ∙ ap (λ (m : ℕ). sets out′ m rest) (sym a);
+          }
+
+-- ---- a merge under way
+
+-- the entries that are left
+abbrev pub entriesLeft : (s ks marks : List ℕ) (n : ℕ) → ℕ
+entriesLeft s ks marks n = tally (λ e. true) (joined (leftOf s ks marks) 0 n)
+
+module _ {s ks keys marks tree : List ℕ} {n k h : ℕ} {fresh : Bool} (m : Merging s ks (n + k) keys marks tree)
+    (some : 1 ≤ n + k) {whole out : List ℕ} {at : ℕ} (l : Listed (leftOf s ks marks) n k h fresh whole out at) where
+  abbrev j : ℕ
+  j = getD tree 1 0
+
+  pub list-none : getD keys (getD tree 1 0) 0 ≡ noKey → out ≡ whole
+  list-none z =
+      list-done (leftOf s ks marks) n k h fresh whole out at l
+      (left-none n k h fresh (leftOf s ks marks) (merging-best m some) (merging-none m some z))
+
+  module _ (more : getD keys (getD tree 1 0) 0 < noKey) where
+    abbrev e : Entry
+    e = firstAt s (getD ks j 0) (getD marks j 0)
+
+    told : Told s (getD ks j 0) (getD keys j 0) (getD marks j 0)
+    told = merging-told m some more
+
+    code : e .pair .hash ≡ getD keys j 0 / 4294967296
+    code = sym (ap (λ (p : Pair). p .hash) (told .pair))
+
+    pub list-past : getD keys (getD tree 1 0) 0 / 4294967296 ≢ h → out ≡ whole
+    list-past ne =
+        list-done (leftOf s ks marks) n k h fresh whole out at l
+        (left-past n k h fresh (leftOf s ks marks) (merging-best m some) (merging-up m) e _ (first-left m some more)
+        (l .above) (λ q. ne (sym code ∙ q)))
+
+    module _ (here : getD keys (getD tree 1 0) 0 / 4294967296 ≡ h) {keys′ marks′ tree′ : List ℕ}
+        (v : Moved s ks (n + k) tree marks keys′ marks′ tree′) where
+      is-first : v .entry ≡ e
+      is-first = let q = sym (v .taken .here) ∙ first-left m some more in cc
+
+      taken : Taken (leftOf s ks marks) (leftOf s ks marks′) j e
+      taken = rw is-first at (v .taken)
+
+      pub list-less : entriesLeft s ks marks′ (n + k) < entriesLeft s ks marks (n + k)
+      list-less =
+          omega (
+            arith,
+            taken-tally (leftOf s ks marks) (leftOf s ks marks′) taken (λ e. true) 0 (n + k) (omega arith)
+                (omega (arith, merging-upto m some)),
+          )
+
+      module _ {b : Bool} (own : b ≡ freshAt fresh n (getD tree 1 0)) where
+        told-counts : counts b e ≡ counts (freshAt fresh n j) e
+        told-counts = ap (λ (d : Bool). counts d e) own
+
+        pub list-room : counts b (firstAt s (getD ks (getD tree 1 0) 0) (getD marks (getD tree 1 0) 0)) ≡ true
+            → at + 6 ≤ length out
+        list-room q =
+            turn-room n k h fresh (leftOf s ks marks) (leftOf s ks marks′) (merging-best m some) (merging-up m) taken
+            (code ∙ here) l (sym told-counts ∙ q)
+
+        pub list-turn : (out′ : List ℕ) (at′ : ℕ)
+            → out′ ≡ cond (counts b (firstAt s (getD ks (getD tree 1 0) 0) (getD marks (getD tree 1 0) 0)))
+            (sets out at (placeBytes (headPair (getD keys (getD tree 1 0) 0) (getD marks (getD tree 1 0) 0)))) out
+            → at′ ≡ cond (counts b (firstAt s (getD ks (getD tree 1 0) 0) (getD marks (getD tree 1 0) 0))) (at + 6) at
+            → Listed (leftOf s ks marks′) n k h fresh whole out′ at′
+        list-turn out′ at′ o a =
+            turn-listed n k h fresh (leftOf s ks marks) (leftOf s ks marks′) (merging-best m some) (merging-up m) taken
+            (code ∙ here) l out′ at′
+            (o ∙ ap₂ (λ (d : Bool) (p : Pair). cond d (sets out at (placeBytes p)) out) told-counts (told .pair))
+            (a ∙ ap (λ (d : Bool). cond d (at + 6) at) told-counts)

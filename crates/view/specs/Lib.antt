@@ -8,6 +8,8 @@ pub mod SourcesLaws
 pub mod HeldLaws
 pub mod SourcePairsLaws
 pub mod SourcedLaws
+pub mod Left
+pub mod ToldLaws
+pub mod LeftLaws
 pub mod Lookup
-pub mod AfterLaws
 pub mod LookupLaws

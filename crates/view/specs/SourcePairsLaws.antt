@@ -1,20 +1,17 @@
 -- The pairs of a hash code in its sources: the matches, before they are sorted.
-use mathlib.Core.Path.{_≡_, refl, sym, ap, ap₂, _∙_, subst}
+use mathlib.Core.Path.{_≡_, refl, ap, ap₂, _∙_}
 use mathlib.Core.Bool.{Bool, true, false, cond, not, _&&_}
 use mathlib.Core.List.{List, [], _∷_, _++_, map, map-append}
 use Prim.Native.Nat.{ℕ}
 use lib.Dec.{eqb}
-use Rattle.lists.specs.Lists.{keep, Each}
-use Rattle.lists.specs.ListsLaws.{and-right, each-append}
+use Rattle.lists.specs.Lists.{keep}
 use Rattle.page.specs.declared.Pair.{Pair}
 use Rattle.page.specs.declared.Entry.{Entry}
 use Rattle.page.specs.Pair.{pairOf}
-use Rattle.page.specs.AscendingLaws.{each-enter}
-use Rattle.page.specs.SublistLaws.{each-map}
 use Rattle.model.specs.Index.{Index, entriesAt}
-use Rattle.model.specs.Held.{sources, self, sorted, hasHash, matches}
-use Rattle.chain.specs.Next.{isMatch, pairsIn}
-use Rattle.chain.specs.PairsLaws.{keep-append, each-match}
+use Rattle.model.specs.Held.{sources, sorted, hasHash, matches}
+use Rattle.chain.specs.Pairs.{pairsIn}
+use Rattle.chain.specs.PairsLaws.{keep-append}
 use Rattle.view.specs.declared.Sources.{Sources}
 use Rattle.view.specs.Places.{sourcesOf}
 use Rattle.view.specs.SourcesLaws.{entriesBy, sources-by}
@@ -39,10 +36,6 @@ keep-map f t (x ∷ xs) = go (t (f x)) (keep-map f t xs)
         ≡ map f (cond b (x ∷ keep (λ y. t (f y)) xs) (keep (λ y. t (f y)) xs))
     go true ih = ap (λ (l : List _). f x ∷ l) ih
     go false ih = ih
-
-pub each-sorted : (P : Pair → Type 0) (ps : List Pair) → Each P ps → Each P (sorted ps)
-each-sorted P [] k = tt
-each-sorted P (p ∷ ps) k = each-enter self P p (sorted ps) (k .0) (each-sorted P ps (k .1))
 
 -- ---- among the sources
 
@@ -76,24 +69,6 @@ module _ (x : Index) (h : ℕ) where
   sources-pairs : found ≡ pairsBy x h (sourcesOf x h)
   sources-pairs =
       ap (λ (es : List Entry). keep (hasHash h) (map pairOf es)) (sources-by x h) ∙ found-pairs (sourcesOf x h)
-
-  -- what holds of every entry with the hash code
-  pub each-matches : (P : Pair → Type 0)
-      → ((b : ℕ) → Each (λ e. eqb (e .pair .hash) h ≡ true → P (e .pair)) (entriesAt x b))
-      → Each P (matches x h)
-  unfolding matches
-  each-matches P k = each-sorted P found (subst (Each P) (sym sources-pairs) (go (sourcesOf x h)))
-    where
-      fresh : (b : ℕ) → Each (λ e. isMatch h true e ≡ true → P (e .pair)) (entriesAt x b)
-      fresh b =
-          each-map (λ e. eqb (e .pair .hash) h ≡ true → P (e .pair)) (λ e. isMatch h true e ≡ true → P (e .pair))
-          (λ e p m. p (and-right (not (e .moved)) (eqb (e .pair .hash) h) m)) (entriesAt x b) (k b)
-
-      go : (f : Sources) → Each P (pairsBy x h f)
-      go (Sources.Home b) = each-match h false P (entriesAt x b) (k b)
-      go (Sources.Both new old) =
-          each-append P (pairsIn h true (entriesAt x new)) (pairsIn h false (entriesAt x old))
-          (each-match h true P (entriesAt x new) (fresh new)) (each-match h false P (entriesAt x old) (k old))
 
   pub matches-by : matches x h ≡ sorted (pairsBy x h (sourcesOf x h))
   unfolding matches

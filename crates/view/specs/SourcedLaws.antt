@@ -2,7 +2,8 @@
 use mathlib.Core.Path.{_≡_, refl, sym, ap, ap₂, _∙_, subst}
 use mathlib.Core.Bool.{Bool, true, false}
 use mathlib.Core.List.{List, _++_, append-nil}
-use Prim.Native.Nat.{ℕ}
+use Prim.Native.Nat.{ℕ, _≤_}
+use native.Mathlib.Omega.{arith}
 use lib.ListN.{length, take}
 use Rattle.lists.specs.Lists.{bind}
 use Rattle.page.specs.declared.Pair.{Pair}
@@ -18,7 +19,7 @@ use Rattle.chain.specs.Walk.{Walked}
 use Rattle.chain.specs.Within.{entriesOn, PagesOk, Within}
 use Rattle.chain.specs.WithinLaws.{within-none}
 use Rattle.chain.specs.Search.{findIn}
-use Rattle.chain.specs.Next.{pairsIn}
+use Rattle.chain.specs.Pairs.{pairsIn}
 use Rattle.chain.specs.Along.{orElse, pairsAlong, findAlong}
 use Rattle.view.specs.declared.Sources.{Sources}
 use Rattle.view.specs.Reads.{Reads}
@@ -76,6 +77,14 @@ module _ {s : List ℕ} {m : Meta} (r : Reads s m) (h : ℕ) where
 
     pub sourced-old : (Within s old k) × (PagesOk s (take k old))
     sourced-old = old-walkable old k (w .old-count) (sourcesOf x h) refl (w .old-blocks)
+
+    -- an own chain has a block
+    pub sourced-some : 1 ≤ n
+    sourced-some = omega (arith, w .own-count, ap length (w .own-blocks), some (sourcesOf x h))
+      where
+        some : (f : Sources) → 1 ≤ length (ownBlocks x f)
+        some (Sources.Home b) = omega arith
+        some (Sources.Both new old) = omega arith
 
     -- sorted, the pairs along the walks are the matches
     pub sourced-matches : sorted (pairsAlong s (take n own) (take k old) h fresh) ≡ matches (decode s) h

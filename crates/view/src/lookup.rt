@@ -1,25 +1,38 @@
-// Lookup: the matches of a hash code written out, each as the next one after the last.
+// Lookup: the matches of a hash code written out. The pages of its chains are merged, from the first place of the hash
+// code on.
 use crate::held::walk_sources;
 use address::limits::MAX_BLOCKS;
-use chain::Next;
 use chain::along::count_along;
-use chain::along::next_along;
 use endian::put_u16;
 use endian::put_u32;
 use image::Meta;
+use merge::MAX_PAGES;
+use merge::heads::NO_KEY;
+use merge::heads::no_keys;
+use merge::heads::no_marks;
+use merge::heads::start_merge;
+use merge::heads::take_first;
+use merge::walks::join_walks;
 use model::LookupAnswer;
 use model::Refusal;
 use page::Pair;
+use page::slots::get_entry;
+use store::block_at;
 ghost use mathlib.Core.Path.{_≡_};
-ghost use Prim.Native.Nat.{_+_, _≤_};
+ghost use mathlib.Core.Bool.{true, cond};
+ghost use Prim.Native.Nat.{_+_, _%_, _/_, _≤_, _<_};
 ghost use lib.ListN.{length, take};
 ghost use lib.Seq.{sets};
+ghost use Rattle.lists.specs.Block.{blocks};
 ghost use Rattle.model.specs.Held.{sorted};
 ghost use Rattle.model.specs.Calls.{placeBytes, lookup};
 ghost use Rattle.image.specs.Decode.{decode};
 ghost use Rattle.chain.specs.Within.{PagesOk, Within};
+ghost use Rattle.chain.specs.Pairs.{counts};
 ghost use Rattle.chain.specs.Along.{pairsAlong};
+ghost use Rattle.merge.specs.Heads.{leftOf, Merging};
 ghost use Rattle.view.specs.Reads.{Reads};
+ghost use Rattle.view.specs.Left.{pairsLeft, freshAt, NoLower, firstAt, headPair, Told};
 ghost use Rattle.view.specs.Lookup.{written, Listable};
 
 // Writes a reading's place, six bytes.
@@ -31,8 +44,106 @@ fn put_place(output: &mut [u8], at: usize, p: Pair)
     put_u16(output, at + 4, p.offset);
 }
 
-// Writes the places of the matches along two walks, for which there is room. Each is the next one after the last, and
-// none is at block 0, offset 0.
+// The pair that a head stands for.
+fn head_pair(key: u64, mark: u32) -> Pair
+    requires { ⌜ mark / 64 < 65536 ⌝ }
+    ensures { λ r. ⌜ r ≡ headPair key mark ⌝ }
+{
+    Pair {
+        hash: (key / 4294967296) as u32,
+        block: (key % 4294967296) as u32,
+        offset: (mark / 64) as u16,
+    }
+}
+
+// Whether only the unmoved entries of page `j` count: where `fresh`, those of the first `n`, the own ones.
+fn is_fresh(fresh: bool, n: usize, j: usize) -> bool
+    ensures { λ r. ⌜ r ≡ freshAt fresh n j ⌝ }
+{
+    if j < n { fresh } else { false }
+}
+
+// Whether the head of a page counts. The page is read only where a moved one does not.
+fn is_counted(store: &[u8], block: u32, mark: u32, fresh: bool) -> bool
+    requires { ⌜ (block < blocks (now store)) × (mark % 64 < 40) ⌝ }
+    ensures { λ r. ⌜ r ≡ counts fresh (firstAt (now (store .entry)) block mark) ⌝ }
+{
+    if !fresh {
+        return true;
+    }
+    let page = block_at(store, block as usize);
+    let e = get_entry(page, (mark % 64) as usize);
+    !e.moved
+}
+
+// Writes the place of the head of a page, if it counts, and gives the place in the output of what comes next.
+fn put_match(
+    store: &[u8],
+    output: &mut [u8],
+    block: u32,
+    key: u64,
+    mark: u32,
+    fresh: bool,
+    at: usize,
+) -> usize
+    requires { ⌜ Told (now store) block key mark ⌝ }
+    requires { ⌜ (counts fresh (firstAt (now store) block mark) ≡ true → at + 6 ≤ length (now output)) ⌝ }
+    ensures { λ r. ⌜ (now (output .exit) ≡ cond (counts fresh (firstAt (now (store .entry)) block mark))
+        (sets (now (output .entry)) at (placeBytes (headPair key mark))) (now (output .entry)))
+        × (r ≡ cond (counts fresh (firstAt (now (store .entry)) block mark)) (at + 6) at) ⌝ }
+{
+    if !is_counted(store, block, mark, fresh) {
+        return at;
+    }
+    put_place(output, at, head_pair(key, mark));
+    at + 6
+}
+
+// Writes the places of the matches that are left in a merge of `n` own and `k` old pages, for which there is room.
+fn put_left(
+    store: &[u8],
+    pages: &[u32; MAX_PAGES],
+    keys: &mut [u64; MAX_PAGES],
+    marks: &mut [u32; MAX_PAGES],
+    tree: &mut [usize; 2 * MAX_PAGES],
+    output: &mut [u8],
+    n: usize,
+    k: usize,
+    hash: u32,
+    fresh: bool,
+)
+    requires { ⌜ (Merging (now store) (now pages) (n + k) (now keys) (now marks) (now tree)) × (1 ≤ n + k) ⌝ }
+    requires { ⌜ (NoLower (leftOf (now store) (now pages) (now marks)) (n + k) hash)
+        × (Listable (pairsLeft (leftOf (now store) (now pages) (now marks)) n k hash fresh) (now output)) ⌝ }
+    ensures { λ _. ⌜ now (output .exit) ≡ written (sorted (pairsLeft
+        (leftOf (now (store .entry)) (now (pages .entry)) (now (marks .entry))) n k hash fresh))
+        (now (output .entry)) ⌝ }
+{
+    let mut at = 0;
+    loop {
+        let j = tree[1];
+        let key = keys[j];
+        if key == NO_KEY {
+            return;
+        }
+        if key / 4294967296 != hash as u64 {
+            return;
+        }
+        let mark = marks[j];
+        take_first(store, pages, keys, marks, tree, n + k);
+        at = put_match(
+            store,
+            output,
+            pages[j],
+            key,
+            mark,
+            is_fresh(fresh, n, j),
+            at,
+        );
+    }
+}
+
+// Writes the places of the matches along two walks, for which there is room.
 fn put_matches(
     store: &[u8],
     own: &[u32; MAX_BLOCKS + 1],
@@ -45,26 +156,32 @@ fn put_matches(
 )
     requires { ⌜ (Within (now store) (now own) n) × (PagesOk (now store) (take n (now own))) ⌝ }
     requires { ⌜ (Within (now store) (now old) k) × (PagesOk (now store) (take k (now old))) ⌝ }
-    requires { ⌜ Listable (pairsAlong (now store) (take n (now own)) (take k (now old)) hash fresh) hash
-        (now output) ⌝ }
+    requires { ⌜ (1 ≤ n) × (Listable (pairsAlong (now store) (take n (now own)) (take k (now old)) hash fresh)
+        (now output)) ⌝ }
     ensures { λ _. ⌜ now (output .exit) ≡ written (sorted (pairsAlong (now (store .entry)) (take n (now (own .entry)))
         (take k (now (old .entry))) hash fresh)) (now (output .entry)) ⌝ }
 {
-    let mut after = Pair {
+    let pages = join_walks(own, n, old, k);
+    let mut keys = no_keys();
+    let mut marks = no_marks();
+    let from = Pair {
         hash,
         block: 0,
         offset: 0,
     };
-    let mut at = 0;
-    loop {
-        let next = next_along(store, own, n, old, k, after, fresh);
-        let Next::At(p) = next else {
-            return;
-        };
-        put_place(output, at, p);
-        after = p;
-        at += 6;
-    }
+    let mut tree = start_merge(store, &pages, &mut keys, &mut marks, n + k, from);
+    put_left(
+        store,
+        &pages,
+        &mut keys,
+        &mut marks,
+        &mut tree,
+        output,
+        n,
+        k,
+        hash,
+        fresh,
+    );
 }
 
 pub fn lookup_in(store: &[u8], m: Meta, hash: u32, output: &mut [u8]) -> LookupAnswer

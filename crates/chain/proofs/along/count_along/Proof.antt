@@ -6,7 +6,7 @@ use lib.ListN.{take, length-append}
 use Rattle.lists.specs.Lists.{bind}
 use Rattle.page.specs.declared.Entry.{Entry}
 use Rattle.chain.specs.Within.{entriesOn}
-use Rattle.chain.specs.Next.{pairsIn}
+use Rattle.chain.specs.Pairs.{pairsIn}
 use Rattle.chain.specs.PairsLaws.{length-pairs}
 use borrow.Author.Needs.{needs}
 use Rattle.chain.proofs.along.count_along.Statement.{statement}

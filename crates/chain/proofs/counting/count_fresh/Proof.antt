@@ -9,7 +9,7 @@ use Rattle.endian.specs.Endian.{u16At}
 use Rattle.page.specs.declared.Entry.{Entry}
 use Rattle.page.specs.Entries.{entriesOf}
 use Rattle.page.specs.RuleLaws.{number-le}
-use Rattle.chain.specs.Next.{isMatch}
+use Rattle.chain.specs.Pairs.{isMatch}
 use Rattle.chain.proofs.Tallies.{unmoved, count-few, run-inside, fresh-start, fresh-turn, fresh-end}
 use Rattle.chain.proofs.counting.count_fresh.Statement.{statement}
 use Rattle.chain.proofs.counting.count_fresh.Tie as tie

@@ -3,7 +3,7 @@ use mathlib.Core.Bool.{true, false}
 use native.Mathlib.Omega.{arith}
 use borrow.Author.Needs.{needs}
 use Rattle.page.specs.Places.{runLength}
-use Rattle.chain.specs.Next.{isMatch}
+use Rattle.chain.specs.Pairs.{isMatch}
 use Rattle.chain.proofs.Tallies.{count-few}
 use Rattle.chain.proofs.counting.count_in_page.Statement.{statement}
 use Rattle.chain.proofs.counting.count_in_page.Tie as tie

@@ -5,7 +5,7 @@ use lib.ListN.{take, drop}
 use Rattle.lists.specs.Lists.{tally, bind}
 use Rattle.page.specs.Allowed.{Sorted}
 use Rattle.chain.specs.Within.{entriesOn}
-use Rattle.chain.specs.Next.{isMatch}
+use Rattle.chain.specs.Pairs.{isMatch}
 use Rattle.chain.proofs.Tallies.{count-few, count-turn, count-end}
 use Rattle.chain.proofs.counting.count_in_walk.Statement.{statement}
 use Rattle.chain.proofs.counting.count_in_walk.Tie as tie

@@ -4,7 +4,7 @@ use borrow.Author.Needs.{needs}
 use Rattle.page.specs.declared.Pair.{Pair}
 use Rattle.image.specs.Decode.{decode}
 use Rattle.view.specs.Lookup.{written}
-use Rattle.view.specs.SourcedLaws.{sourced-own, sourced-old, sourced-number, sourced-matches}
+use Rattle.view.specs.SourcedLaws.{sourced-own, sourced-old, sourced-some, sourced-number, sourced-matches}
 use Rattle.view.specs.LookupLaws.{sourced-listable, lookup-short, lookup-written}
 use Rattle.view.proofs.lookup.lookup_in.Statement.{statement}
 use Rattle.view.proofs.lookup.lookup_in.Tie as tie
@@ -40,8 +40,11 @@ put-matches-requires c κs =
       sourced-own (s .pre) h (w .walk-sources .ensures),
       (
         sourced-old (s .pre) h (w .walk-sources .ensures),
-        sourced-listable (s .pre) h (w .walk-sources .ensures) (s .args .output .now) (n .count-along .result)
-            (n .count-along .ensures) (e .if1 .left),
+        (
+          sourced-some (s .pre) h (w .walk-sources .ensures),
+          sourced-listable (s .pre) h (w .walk-sources .ensures) (s .args .output .now) (n .count-along .result)
+              (n .count-along .ensures) (e .if1 .left),
+        ),
       ),
     )
 

@@ -1,94 +1,108 @@
-use Prim.Native.Nat.{_+_, _-_, _≤_}
+use mathlib.Core.Path.{_≡_, sym, ap, ap₂, _∙_, subst}
+use mathlib.Core.Bool.{false}
+use mathlib.Core.List.{List, _++_}
+use Prim.Native.Nat.{ℕ, _+_}
 use native.Mathlib.Omega.{arith}
 use borrow.Author.Needs.{needs}
-use lib.ListN.{length, take}
+use lib.ListN.{length, take, length-replicate}
+use Rattle.lists.specs.Bytes.{Bytes}
+use Rattle.page.specs.declared.Pair.{Pair}
+use Rattle.page.specs.declared.Entry.{Entry}
 use Rattle.model.specs.Held.{sorted}
+use Rattle.chain.specs.Pairs.{pairsIn}
 use Rattle.chain.specs.Along.{pairsAlong}
-use Rattle.view.proofs.Listing.{Listed, list-start, list-end, list-room, list-turn}
+use Rattle.merge.specs.Tree.{maxPages}
+use Rattle.merge.specs.Heads.{leftOf, Pages}
+use Rattle.merge.specs.WalksLaws.{joined-pages, joined-first, joined-second}
+use Rattle.view.specs.Left.{pairsLeft}
+use Rattle.view.specs.LeftLaws.{start-pairs, start-above}
+use Rattle.view.specs.Lookup.{written, Listable}
 use Rattle.view.proofs.lookup.put_matches.Statement.{statement}
 use Rattle.view.proofs.lookup.put_matches.Tie as tie
 
-abbrev Inv-loop : tie.InvT-loop
-Inv-loop store own n old k output₀ hash fresh after₀ at₀ output after at =
-    Listed (sorted (pairsAlong store (take n own) (take k old) hash fresh)) hash output₀ output after at
+join-walks-requires : tie.Need-join-walks-requires
+join-walks-requires c κs = search needs
 
-abbrev μ-loop : tie.MeasureT-loop
-μ-loop store own n old k output₀ hash fresh after₀ at₀ output after at = length output - at
+no-keys-requires : tie.Need-no-keys-requires
+no-keys-requires c κs = search needs
 
-loop-holds : tie.Need-loop-holds Inv-loop μ-loop
-loop-holds c =
-    let s = c .before .before in
-    list-start (s .args .store .now) (take (s .args .n) (s .args .own .now)) (take (s .args .k) (s .args .old .now))
-    (s .args .fresh) (s .args .hash) (s .args .output .now) (s .pre .1 .1)
+no-marks-requires : tie.Need-no-marks-requires
+no-marks-requires c κs = search needs
 
-next-along-requires : tie.Need-next-along-requires Inv-loop μ-loop
-next-along-requires c κs = let s = c .before .before .before in (s .pre .0, s .pre .1 .0)
+add-start-merge : tie.Need-add-start-merge
+add-start-merge c = search needs
 
-enum-known-next : tie.Need-enum-known-next Inv-loop μ-loop
-enum-known-next c = search needs
+-- the joined walks are pages of a merge
+pages : (c : tie.After-join-walks) → let a = c .before .before .before .args in
+    Pages (a .store .now) (c .join-walks .result) (a .n + a .k)
+pages c =
+    let b = c .before .before in
+    let p = b .before .pre in
+    joined-pages (λ i. omega (arith, b .shared-slice-known .given i)) (c .join-walks .ensures) (p .0 .0) (p .0 .1)
+    (p .1 .0 .0) (p .1 .0 .1)
 
-enum-told : tie.Need-enum-told Inv-loop μ-loop
-enum-told c = search needs
+start-merge-requires : tie.Need-start-merge-requires
+start-merge-requires c κs =
+    let m = c .before .before .before in
+    let k = m .before in (
+      pages (k .before),
+      (
+        ap length (k .no-keys .ensures) ∙ length-replicate {A = ℕ} maxPages 0,
+        ap length (m .no-marks .ensures) ∙ length-replicate {A = ℕ} maxPages 0,
+      ),
+    )
 
-same-length : tie.Need-same-length Inv-loop μ-loop
-same-length c = c .before .before .before .loop .inv .size
+-- the pairs that are left at the start are all pairs along the walks
+all : (c : tie.After-start-merge) → let j = c .before .before .before .before .before .before in
+    let a = j .before .before .before .args in
+    let left = leftOf (a .store .now) (j .join-walks .result) (c .start-merge .last .1 .1 .1 .0) in
+    pairsLeft left (a .n) (a .k) (a .hash) (a .fresh)
+    ≡ pairsAlong (a .store .now) (take (a .n) (a .own .now)) (take (a .k) (a .old .now)) (a .hash) (a .fresh)
+all c =
+    let j = c .before .before .before .before .before .before in
+    let b = j .before .before in
+    let p = b .before .pre in
+    let a = b .before .args in
+    let bytes : Bytes (a .store .now) = λ i. omega (arith, b .shared-slice-known .given i) in
+    start-pairs (a .store .now) (j .join-walks .result) (c .start-merge .last .1 .1 .1 .0) (a .n) (a .k) (a .hash)
+    (a .fresh) (pages j) (c .start-merge .ensures .1)
+    ∙ ap₂ (λ (es fs : List Entry). pairsIn (a .hash) (a .fresh) es ++ pairsIn (a .hash) false fs)
+    (joined-first bytes (j .join-walks .ensures) (p .0 .0) (p .0 .1) (p .1 .0 .0) (p .1 .0 .1))
+    (joined-second bytes (j .join-walks .ensures) (p .0 .0) (p .0 .1) (p .1 .0 .0) (p .1 .0 .1))
 
-returns : tie.Need-returns Inv-loop μ-loop
+put-left-requires : tie.Need-put-left-requires
+put-left-requires c κs =
+    let m = c .before .before .before .before .before in
+    let j = m .before .before .before .before .before .before in
+    let s = j .before .before .before in
+    let a = s .args in (
+      (m .start-merge .ensures .0, omega (arith, s .pre .1 .1 .0)),
+      (
+        start-above (a .store .now) (j .join-walks .result) (m .start-merge .last .1 .1 .1 .0) (a .n) (a .k) (a .hash)
+            (a .fresh) (pages j) (m .start-merge .ensures .1),
+        subst (λ (ps : List Pair). Listable ps (a .output .now)) (sym (all m)) (s .pre .1 .1 .1),
+      ),
+    )
+
+same-length : tie.Need-same-length
+same-length c = search needs
+
+returns : tie.Need-returns
 returns c =
-    let n = c .before .before in
-    let l = n .before in
-    let s = l .before .before .before in
-    list-end (s .args .store .now) (take (s .args .n) (s .args .own .now)) (take (s .args .k) (s .args .old .now))
-    (s .args .fresh) (s .args .hash) (s .args .output .now) (s .pre .1 .1) (l .loop .inv)
-    (n .next-along .result) (n .next-along .ensures) (c .enum-told .given .1)
-
--- a match that is found has room
-room : (c : tie.After-put-place-arg Inv-loop μ-loop)
-    → let l = c .before .before .before .before .before in l .loop .at + 6 ≤ length (l .loop .output)
-room c =
-    let k = c .before .before in
-    let n = k .before .before in
-    let l = n .before in
-    let s = l .before .before .before in
-    list-room (s .args .store .now) (take (s .args .n) (s .args .own .now)) (take (s .args .k) (s .args .old .now))
-    (s .args .fresh) (s .args .hash) (s .args .output .now) (s .pre .1 .1) (l .loop .inv)
-    (n .next-along .result) (n .next-along .ensures) _ (k .next .given .1)
-
-put-place-requires : tie.Need-put-place-requires Inv-loop μ-loop
-put-place-requires c κs = room c
-
-add-at : tie.Need-add-at Inv-loop μ-loop
-add-at c =
-    let l = c .before .before .before .before .before .before .before .before in
-    omega (arith, room (c .before .before .before), l .loop .inv .size, l .before .before .before .good)
-
-loop-less : tie.Need-loop-less Inv-loop μ-loop
-loop-less c = omega (arith, room (c .before .before .before), c .before .before .put-place .kept .0)
-
-loop-again : tie.Need-loop-again Inv-loop μ-loop
-loop-again c =
     let p = c .before .before in
-    let k = p .before .before .before in
-    let n = k .before .before in
-    let l = n .before in
-    let s = l .before .before .before in
-    list-turn (s .args .store .now) (take (s .args .n) (s .args .own .now)) (take (s .args .k) (s .args .old .now))
-    (s .args .fresh) (s .args .hash) (s .args .output .now) (s .pre .1 .1) (l .loop .inv)
-    (n .next-along .result) (n .next-along .ensures) _ (k .next .given .1) _ (p .put-place .ensures)
+    let m = p .before .before .before .before .before .before in
+    let a = m .before .before .before .before .before .before .before .before .before .args in
+    p .put-left .ensures ∙ ap (λ (ps : List Pair). written (sorted ps) (a .output .now)) (all m)
 
 pub put-matches-spec : {M : Type 1} → statement M
 put-matches-spec =
     tie.close
     (tie.spec
-    Inv-loop
-    μ-loop
-    loop-holds
-    next-along-requires
-    enum-known-next
-    enum-told
+    join-walks-requires
+    no-keys-requires
+    no-marks-requires
+    add-start-merge
+    start-merge-requires
+    put-left-requires
     same-length
-    returns
-    put-place-requires
-    add-at
-    loop-less
-    loop-again)
+    returns)
