@@ -1,13 +1,12 @@
 // Rule 7, the marks of copies: in one pass over the new chain's pages and the old chain's, each merged.
 use crate::next::is_next;
 use crate::next::is_next_before;
+use crate::next::start_all;
 use merge::MAX_PAGES;
 use merge::heads::NO_KEY;
 use merge::heads::no_keys;
 use merge::heads::no_marks;
-use merge::heads::start_merge;
 use merge::heads::take_first;
-use page::Pair;
 use page::slots::get_entry;
 use store::block_at;
 ghost use mathlib.Core.Path.{_≡_};
@@ -61,50 +60,36 @@ fn is_next_moved(
     get_entry(block_at(store, pages[j] as usize), slot).moved
 }
 
-// Whether each entry of the `n` pages of copies is marked moved exactly if the `k` pages of originals have its pair.
+// Whether each entry of the `n` pages `new` is marked moved exactly if the `k` pages `old` have its pair.
 pub fn all_marked(
     store: &[u8],
-    copies: &[u32; MAX_PAGES],
-    originals: &[u32; MAX_PAGES],
+    new: &[u32; MAX_PAGES],
+    old: &[u32; MAX_PAGES],
     n: usize,
     k: usize,
 ) -> bool
-    requires { ⌜ (Pages (now store) (now copies) n) × (1 ≤ n) ⌝ }
-    requires { ⌜ (Pages (now store) (now originals) k) × (1 ≤ k) ⌝ }
-    ensures { λ r. ⌜ r ≡ all (markedBy (joined (pageAt (now (store .entry)) (now (originals .entry))) 0 k))
-        (joined (pageAt (now (store .entry)) (now (copies .entry))) 0 n) ⌝ }
+    requires { ⌜ (Pages (now store) (now new) n) × (1 ≤ n) ⌝ }
+    requires { ⌜ (Pages (now store) (now old) k) × (1 ≤ k) ⌝ }
+    ensures { λ r. ⌜ r ≡ all (markedBy (joined (pageAt (now (store .entry)) (now (old .entry))) 0 k))
+        (joined (pageAt (now (store .entry)) (now (new .entry))) 0 n) ⌝ }
 {
-    let from = Pair {
-        hash: 0,
-        block: 0,
-        offset: 0,
-    };
+    let mut new_keys = no_keys();
+    let mut new_marks = no_marks();
+    let mut new_tree = start_all(store, new, &mut new_keys, &mut new_marks, n);
     let mut keys = no_keys();
     let mut marks = no_marks();
-    let mut tree = start_merge(store, copies, &mut keys, &mut marks, n, from);
-    let mut old_keys = no_keys();
-    let mut old_marks = no_marks();
-    let mut old_tree = start_merge(store, originals, &mut old_keys, &mut old_marks, k, from);
+    let mut tree = start_all(store, old, &mut keys, &mut marks, k);
     loop {
-        let j = tree[1];
-        let key = keys[j];
+        let j = new_tree[1];
+        let key = new_keys[j];
         if key == NO_KEY {
             return true;
         }
-        let offset = marks[j] / 64;
-        let moved = is_next_moved(store, copies, &marks, &tree, n);
-        pass_before(
-            store,
-            originals,
-            &mut old_keys,
-            &mut old_marks,
-            &mut old_tree,
-            k,
-            key,
-            offset,
-        );
-        take_first(store, copies, &mut keys, &mut marks, &mut tree, n);
-        if moved != is_next(&old_keys, &old_marks, &old_tree, key, offset) {
+        let offset = new_marks[j] / 64;
+        let moved = is_next_moved(store, new, &new_marks, &new_tree, n);
+        pass_before(store, old, &mut keys, &mut marks, &mut tree, k, key, offset);
+        take_first(store, new, &mut new_keys, &mut new_marks, &mut new_tree, n);
+        if moved != is_next(&keys, &marks, &tree, key, offset) {
             return false;
         }
     }

@@ -1,10 +1,43 @@
-// The next entry of a merge, held against a pair by the pair's two numbers: its key and its offset.
+// A merge of all entries of pages: its start, and its next entry held against a pair by the pair's two numbers, its key
+// and its offset.
 use merge::MAX_PAGES;
+use merge::heads::start_merge;
+use page::Pair;
 ghost use mathlib.Core.Path.{_≡_};
 ghost use Prim.Native.Nat.{_<_};
-ghost use lib.ListN.{getD};
+ghost use lib.ListN.{length, getD};
 ghost use Rattle.merge.specs.Tree.{maxPages};
+ghost use Rattle.merge.specs.Merge.{joined};
+ghost use Rattle.merge.specs.Heads.{pageAt, Pages, leftOf, Merging};
 ghost use Rattle.entries.specs.Next.{nextIs, nextBefore};
+
+// Begins a merge of all entries of the pages.
+pub fn start_all(
+    store: &[u8],
+    pages: &[u32; MAX_PAGES],
+    keys: &mut [u64; MAX_PAGES],
+    marks: &mut [u32; MAX_PAGES],
+    n: usize,
+) -> [usize; 2 * MAX_PAGES]
+    requires { ⌜ Pages (now store) (now pages) n ⌝ }
+    requires { ⌜ (length (now keys) ≡ maxPages) × (length (now marks) ≡ maxPages) ⌝ }
+    ensures { λ r. ⌜ (Merging (now (store .entry)) (now (pages .entry)) n (now (keys .exit)) (now (marks .exit)) r)
+        × (joined (leftOf (now (store .entry)) (now (pages .entry)) (now (marks .exit))) 0 n
+        ≡ joined (pageAt (now (store .entry)) (now (pages .entry))) 0 n) ⌝ }
+{
+    start_merge(
+        store,
+        pages,
+        keys,
+        marks,
+        n,
+        Pair {
+            hash: 0,
+            block: 0,
+            offset: 0,
+        },
+    )
+}
 
 // Whether the next entry has the pair.
 pub fn is_next(

@@ -1,5 +1,6 @@
 // Rule 5: the pages of each chain, and no pair twice in a chain.
 use crate::next::is_next;
+use crate::next::start_all;
 use address::limits::MAX_BLOCKS;
 use chain::links::page_on;
 use image::Meta;
@@ -7,10 +8,8 @@ use merge::MAX_PAGES;
 use merge::heads::NO_KEY;
 use merge::heads::no_keys;
 use merge::heads::no_marks;
-use merge::heads::start_merge;
 use merge::heads::take_first;
 use merge::walks::join_walks;
-use page::Pair;
 use page::rule::check_page;
 use reader::buckets::walk_bucket;
 ghost use mathlib.Core.Path.{_≡_};
@@ -47,18 +46,7 @@ fn all_distinct(store: &[u8], pages: &[u32; MAX_PAGES], n: usize) -> bool
 {
     let mut keys = no_keys();
     let mut marks = no_marks();
-    let mut tree = start_merge(
-        store,
-        pages,
-        &mut keys,
-        &mut marks,
-        n,
-        Pair {
-            hash: 0,
-            block: 0,
-            offset: 0,
-        },
-    );
+    let mut tree = start_all(store, pages, &mut keys, &mut marks, n);
     loop {
         let j = tree[1];
         let key = keys[j];

@@ -11,7 +11,6 @@ use Rattle.merge.specs.Tree.{maxPages}
 use Rattle.merge.specs.Merge.{joined}
 use Rattle.merge.specs.Heads.{noKey, pageAt, leftOf, Merging}
 use Rattle.merge.specs.MergingLaws.{merging-upto, merging-done, next-few}
-use Rattle.merge.specs.WalksLaws.{from-all}
 use Rattle.shape.specs.LoopLaws.{passed, failed}
 use Rattle.entries.specs.Tests.{markedBy}
 use Rattle.entries.specs.TakenLaws.{taken-less}
@@ -22,8 +21,8 @@ use Rattle.entries.proofs.marks.all_marked.Tie as tie
 
 -- what is left of the copies is marked by what is left of the originals
 pub record Marking (s cs os : List ℕ) (n k : ℕ) (keys marks tree keys′ marks′ tree′ : List ℕ) : Type 0 where
-  pub copies : Merging s cs n keys marks tree
-  pub originals : Merging s os k keys′ marks′ tree′
+  pub news : Merging s cs n keys marks tree
+  pub olds : Merging s os k keys′ marks′ tree′
   pub answer : all (markedBy (joined (leftOf s os marks′) 0 k)) (joined (leftOf s cs marks) 0 n)
       ≡ all (markedBy (joined (pageAt s os) 0 k)) (joined (pageAt s cs) 0 n)
 
@@ -41,8 +40,8 @@ no-keys-requires c κs = tt
 no-marks-requires : tie.Need-no-marks-requires Inv-loop μ-loop
 no-marks-requires c κs = tt
 
-start-merge-requires : tie.Need-start-merge-requires Inv-loop μ-loop
-start-merge-requires c κs =
+start-all-requires : tie.Need-start-all-requires Inv-loop μ-loop
+start-all-requires c κs =
     let m = c .before .before in
     let k = m .before in (
       k .before .before .pre .0 .0,
@@ -58,8 +57,8 @@ no-keys-requires-2 c κs = tt
 no-marks-requires-2 : tie.Need-no-marks-requires-2 Inv-loop μ-loop
 no-marks-requires-2 c κs = tt
 
-start-merge-requires-2 : tie.Need-start-merge-requires-2 Inv-loop μ-loop
-start-merge-requires-2 c κs =
+start-all-requires-2 : tie.Need-start-all-requires-2 Inv-loop μ-loop
+start-all-requires-2 c κs =
     let m = c .before .before in
     let k = m .before in (
       k .before .before .before .before .before .before .before .pre .1 .0,
@@ -69,29 +68,25 @@ start-merge-requires-2 c κs =
       ),
     )
 
-abbrev entry : (c : tie.After-start-merge2 Inv-loop μ-loop) → tie.Start Inv-loop μ-loop
+abbrev entry : (c : tie.After-start-all2 Inv-loop μ-loop) → tie.Start Inv-loop μ-loop
 entry c = c .before .before .before .before .before .before .before .before .before .before .before
 
 loop-holds : tie.Need-loop-holds Inv-loop μ-loop
 loop-holds c =
-    let a = entry c .args in
-    let f = c .before .before .before .before .before .start-merge in
+    let f = c .before .before .before .before .before .start-all in
     record {
-      copies = f .ensures .0;
-      originals = c .start-merge2 .ensures .0;
+      news = f .ensures .0;
+      olds = c .start-all2 .ensures .0;
       answer =
-          ap₂ (λ (os cs : List Entry). all (markedBy os) cs)
-          (from-all (a .store .now) (a .originals .now) (a .k) (c .start-merge2 .last .1 .1 .1 .0)
-          (c .start-merge2 .ensures .1))
-          (from-all (a .store .now) (a .copies .now) (a .n) (f .last .1 .1 .1 .0) (f .ensures .1));
+          ap₂ (λ (os cs : List Entry). all (markedBy os) cs) (c .start-all2 .ensures .1) (f .ensures .1);
     }
 
 some : (c : tie.At-loop Inv-loop μ-loop) → 1 ≤ entry (c .before) .args .n
 some c = entry (c .before) .pre .0 .1
 
 -- the page of the next copy
-upto : (c : tie.At-loop Inv-loop μ-loop) → getD (c .loop .tree) 1 0 < maxPages
-upto c = let m = c .loop .inv .copies in omega (arith, merging-upto m (some c), m .pages .few)
+upto : (c : tie.At-loop Inv-loop μ-loop) → getD (c .loop .new-tree) 1 0 < maxPages
+upto c = let m = c .loop .inv .news in omega (arith, merging-upto m (some c), m .pages .few)
 
 array-read-j : tie.Need-array-read-j Inv-loop μ-loop
 array-read-j c = omega arith
@@ -109,8 +104,8 @@ returns c =
     let i = l .loop .inv in
     sym
     (sym (i .answer)
-    ∙ ap (all (markedBy (joined (leftOf (a .store .now) (a .originals .now) (l .loop .old-marks)) 0 (a .k))))
-    (merging-done (i .copies) (some l) (c .if1 .taken)))
+    ∙ ap (all (markedBy (joined (leftOf (a .store .now) (a .old .now) (l .loop .marks)) 0 (a .k))))
+    (merging-done (i .news) (some l) (c .if1 .taken)))
 
 mul-offset : tie.Need-mul-offset Inv-loop μ-loop
 mul-offset c = omega (arith, upto (c .before))
@@ -119,13 +114,13 @@ array-read-offset : tie.Need-array-read-offset Inv-loop μ-loop
 array-read-offset c = omega (arith, upto (c .before))
 
 -- there is a next copy
-below : (c : tie.Else1 Inv-loop μ-loop) → getD (c .before .loop .keys) (getD (c .before .loop .tree) 1 0) 0 < noKey
-below c = next-below (c .before .loop .inv .copies) (some (c .before)) (c .if1 .left)
+below : (c : tie.Else1 Inv-loop μ-loop) → getD (c .before .loop .new-keys) (getD (c .before .loop .new-tree) 1 0) 0 < noKey
+below c = next-below (c .before .loop .inv .news) (some (c .before)) (c .if1 .left)
 
 is-next-moved-requires : tie.Need-is-next-moved-requires Inv-loop μ-loop
 is-next-moved-requires c κs =
     let e = c .before .before in
-    let m = e .before .loop .inv .copies in
+    let m = e .before .loop .inv .news in
     let first = some (e .before) in
     ((m .pages, merging-upto m first), omega (arith, next-few m first (below e)))
 
@@ -134,13 +129,13 @@ pass-before-requires c κs =
     let e = c .before .before .before .before .before .before in
     let l = e .before in
     let i = l .loop .inv in
-    ((i .originals, entry (l .before) .pre .1 .1), (below e, copy-small (i .copies) (some l) (below e)))
+    ((i .olds, entry (l .before) .pre .1 .1), (below e, copy-small (i .news) (some l) (below e)))
 
 take-first-requires : tie.Need-take-first-requires Inv-loop μ-loop
 take-first-requires c κs =
     let e = c .before .before .before .before .before .before .before .before .before .before in
     let l = e .before in
-    ((l .loop .inv .copies, some l), below e)
+    ((l .loop .inv .news, some l), below e)
 
 is-next-requires : tie.Need-is-next-requires Inv-loop μ-loop
 is-next-requires c κs =
@@ -160,11 +155,11 @@ turn : (c : tie.After-is-next Inv-loop μ-loop)
     → let t = c .before .before .before .before in
     let p = t .before .before .before .before in
     let a = entry (p .before .before .before .before .before .before .before .before .before) .args in
-    all (markedBy (joined (pageAt (a .store .now) (a .originals .now)) 0 (a .k)))
-    (joined (pageAt (a .store .now) (a .copies .now)) 0 (a .n))
+    all (markedBy (joined (pageAt (a .store .now) (a .old .now)) 0 (a .k)))
+    (joined (pageAt (a .store .now) (a .new .now)) 0 (a .n))
     ≡ marked c
-    && all (markedBy (joined (leftOf (a .store .now) (a .originals .now) (p .pass-before .last .1 .1 .1 .0)) 0 (a .k)))
-    (joined (leftOf (a .store .now) (a .copies .now) (t .take-first .last .1 .1 .1 .0)) 0 (a .n))
+    && all (markedBy (joined (leftOf (a .store .now) (a .old .now) (p .pass-before .last .1 .1 .1 .0)) 0 (a .k)))
+    (joined (leftOf (a .store .now) (a .new .now) (t .take-first .last .1 .1 .1 .0)) 0 (a .n))
 turn c =
     let t = c .before .before .before .before in
     let p = t .before .before .before .before in
@@ -174,10 +169,10 @@ turn c =
     let a = entry (l .before) .args in
     let i = l .loop .inv in
     let rest =
-    all (markedBy (joined (leftOf (a .store .now) (a .originals .now) (p .pass-before .last .1 .1 .1 .0)) 0 (a .k)))
-    (joined (leftOf (a .store .now) (a .copies .now) (t .take-first .last .1 .1 .1 .0)) 0 (a .n)) in
+    all (markedBy (joined (leftOf (a .store .now) (a .old .now) (p .pass-before .last .1 .1 .1 .0)) 0 (a .k)))
+    (joined (leftOf (a .store .now) (a .new .now) (t .take-first .last .1 .1 .1 .0)) 0 (a .n)) in
     sym (i .answer)
-    ∙ turn-marked (i .copies) (some l) (below e) (entry (l .before) .pre .1 .1) (p .pass-before .ensures)
+    ∙ turn-marked (i .news) (some l) (below e) (entry (l .before) .pre .1 .1) (p .pass-before .ensures)
     (t .take-first .last .1 .1 .0) (t .take-first .last .1 .1 .1 .0) (t .take-first .last .1 .1 .1 .1 .0)
     (t .take-first .ensures)
     ∙ ap₂ (λ (x y : Bool). Bool·beq x y && rest) (sym (q .is-next-moved .ensures)) (sym (c .is-next .ensures))
@@ -191,9 +186,9 @@ loop-less c =
     let t = c .before .before .before .before .before in
     let l = t .before .before .before .before .before .before .before .before .before .before .before .before in
     let a = entry (l .before) .args in
-    taken-less (leftOf (a .store .now) (a .copies .now) (l .loop .marks))
-    (leftOf (a .store .now) (a .copies .now) (t .take-first .last .1 .1 .1 .0)) (a .n) (t .take-first .ensures .taken)
-    (merging-upto (l .loop .inv .copies) (some l))
+    taken-less (leftOf (a .store .now) (a .new .now) (l .loop .new-marks))
+    (leftOf (a .store .now) (a .new .now) (t .take-first .last .1 .1 .1 .0)) (a .n) (t .take-first .ensures .taken)
+    (merging-upto (l .loop .inv .news) (some l))
 
 loop-again : tie.Need-loop-again Inv-loop μ-loop
 loop-again c =
@@ -201,8 +196,8 @@ loop-again c =
     let t = n .before .before .before .before in
     let p = t .before .before .before .before in
     record {
-      copies = t .take-first .ensures .merging;
-      originals = p .pass-before .ensures .merging;
+      news = t .take-first .ensures .merging;
+      olds = p .pass-before .ensures .merging;
       answer = passed _ _ _ (turn n) (not-false (marked n) (c .if2 .left));
     }
 
@@ -214,10 +209,10 @@ all-marked-spec =
     μ-loop
     no-keys-requires
     no-marks-requires
-    start-merge-requires
+    start-all-requires
     no-keys-requires-2
     no-marks-requires-2
-    start-merge-requires-2
+    start-all-requires-2
     loop-holds
     array-read-j
     mul-key

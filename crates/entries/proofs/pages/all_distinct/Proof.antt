@@ -9,7 +9,6 @@ use Rattle.merge.specs.Tree.{maxPages}
 use Rattle.merge.specs.Merge.{joined}
 use Rattle.merge.specs.Heads.{noKey, pageAt, leftOf, Merging}
 use Rattle.merge.specs.MergingLaws.{merging-upto, merging-done}
-use Rattle.merge.specs.WalksLaws.{from-all}
 use Rattle.shape.specs.LoopLaws.{passed, failed}
 use Rattle.entries.specs.TakenLaws.{taken-less}
 use Rattle.entries.specs.NextLaws.{next-below}
@@ -31,8 +30,8 @@ no-keys-requires c κs = tt
 no-marks-requires : tie.Need-no-marks-requires Inv-loop μ-loop
 no-marks-requires c κs = tt
 
-start-merge-requires : tie.Need-start-merge-requires Inv-loop μ-loop
-start-merge-requires c κs =
+start-all-requires : tie.Need-start-all-requires Inv-loop μ-loop
+start-all-requires c κs =
     let m = c .before .before in
     let k = m .before in (
       k .before .before .pre .0,
@@ -47,9 +46,7 @@ entry c = c .before .before .before .before .before .before .before
 
 loop-holds : tie.Need-loop-holds Inv-loop μ-loop
 loop-holds c =
-    let a = c .before .before .before .before .before .before .args in
-    let s = c .start-merge .ensures in
-    (s .0, ap distinct (from-all (a .store .now) (a .pages .now) (a .n) (c .start-merge .last .1 .1 .1 .0) (s .1)))
+    let s = c .start-all .ensures in (s .0, ap distinct (s .1))
 
 -- the page of the next entry
 upto : (c : tie.At-loop Inv-loop μ-loop) → getD (c .loop .tree) 1 0 < maxPages
@@ -141,7 +138,7 @@ all-distinct-spec =
     μ-loop
     no-keys-requires
     no-marks-requires
-    start-merge-requires
+    start-all-requires
     loop-holds
     array-read-j
     mul-key
