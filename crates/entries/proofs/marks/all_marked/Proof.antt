@@ -114,7 +114,9 @@ array-read-offset : tie.Need-array-read-offset Inv-loop μ-loop
 array-read-offset c = omega (arith, upto (c .before))
 
 -- there is a next copy
-below : (c : tie.Else1 Inv-loop μ-loop) → getD (c .before .loop .new-keys) (getD (c .before .loop .new-tree) 1 0) 0 < noKey
+below : (c : tie.Else1 Inv-loop μ-loop)
+    → let l = c .before in
+    getD (l .loop .new-keys) (getD (l .loop .new-tree) 1 0) 0 < noKey
 below c = next-below (c .before .loop .inv .news) (some (c .before)) (c .if1 .left)
 
 is-next-moved-requires : tie.Need-is-next-moved-requires Inv-loop μ-loop
