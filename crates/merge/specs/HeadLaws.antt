@@ -21,9 +21,9 @@ use Rattle.page.specs.EntriesLaws.{length-entriesOf, getD-entriesOf}
 use Rattle.page.specs.Places.{placeOf}
 use Rattle.page.specs.Allowed.{Allowed}
 use Rattle.model.specs.TallyLaws.{or-right}
-use Rattle.merge.specs.Tree.{maxPages}
+use Rattle.merge.specs.Tree.{maxPages, noLater}
 use Rattle.merge.specs.Merge.{leads}
-use Rattle.merge.specs.Heads.{noKey, keyOf, markOf, pageAt, leftOf, Head, Heads, From}
+use Rattle.merge.specs.Heads.{noKey, keyOf, markOf, pageAt, leftOf, Head, Heads, CursorsAt}
 
 -- the key of a pair
 abbrev code : Pair → ℕ
@@ -79,12 +79,8 @@ pub key-done : (es : List Entry) → Allowed es → keyOf es ≡ noKey → es �
 key-done [] ok h = refl
 key-done (e ∷ es) ok h = absurd (omega (arith, h, key-below e es ok))
 
--- the test by numbers
-abbrev pub no-later : (k m l o : ℕ) → Bool
-no-later k m l o = cond (eqb k l) (leb m o) (ltb k l)
-
 pub head-leads : (xs ys : List Entry) (c d : ℕ) → c < 64 → d < 64 → Allowed xs → Allowed ys
-    → no-later (keyOf xs) (markOf c xs) (keyOf ys) (markOf d ys) ≡ true → leads xs ys ≡ true
+    → noLater (keyOf xs) (markOf c xs) (keyOf ys) (markOf d ys) ≡ true → leads xs ys ≡ true
 head-leads xs [] c d a b ok ok′ h = refl
 head-leads [] (y ∷ ys) c d a b ok ok′ h =
     let l = key-below y ys ok′ in
@@ -211,8 +207,8 @@ module _ (s ks keys marks : List ℕ) (i c : ℕ) (in-keys : i < length keys) (i
       → Heads s ks (i + 1) (set keys i (keyOf (drop c (pageAt s ks i)))) (set marks i (markOf c (drop c (pageAt s ks i))))
   heads-next h = heads-put (i + 1) (h .keys-size) (h .marks-size) (λ k l ne. h .each k (omega (arith, l, ne)))
 
-  pub from-next : (from : Pair) → c ≡ placeOf from (pageAt s ks i) → From s ks from i marks
-      → From s ks from (i + 1) (set marks i (markOf c (drop c (pageAt s ks i))))
+  pub from-next : (from : Pair) → c ≡ placeOf from (pageAt s ks i) → CursorsAt s ks from i marks
+      → CursorsAt s ks from (i + 1) (set marks i (markOf c (drop c (pageAt s ks i))))
   from-next from e h k l = go (ℕ-discrete k i)
     where
       go : Dec (k ≡ i) → getD marks′ k 0 % 64 ≡ placeOf from (pageAt s ks k)

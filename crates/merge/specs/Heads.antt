@@ -61,8 +61,8 @@ module _ (s ks : List ℕ) where
     pub won : Won keys marks n tree
 
   -- every cursor stands at the sorted place of a pair
-  abbrev pub From : (from : Pair) (n : ℕ) (marks : List ℕ) → Type 0
-  From from n marks = (i : ℕ) → i < n → getD marks i 0 % 64 ≡ placeOf from (pageAt i)
+  abbrev pub CursorsAt : (from : Pair) (n : ℕ) (marks : List ℕ) → Type 0
+  CursorsAt from n marks = (i : ℕ) → i < n → getD marks i 0 % 64 ≡ placeOf from (pageAt i)
 
 -- the first entry that is left of the page at node 1 is taken
 pub record Moved (s ks : List ℕ) (n : ℕ) (tree marks keys′ marks′ tree′ : List ℕ) : Type 0 where

@@ -1,15 +1,16 @@
 -- The winner tree built and replayed: the nodes that are open at each turn, and what a finished tree says.
-use mathlib.Core.Path.{_≡_, sym, subst}
+use mathlib.Core.Path.{_≡_, refl, sym, ap, subst, _∙_}
 use mathlib.Core.Logic.{_≢_}
-use mathlib.Core.Bool.{true}
+use mathlib.Core.Bool.{Bool, true, false}
 use mathlib.Core.List.{List}
-use Prim.Native.Nat.{ℕ, zero, suc, _+_, _*_, _-_, _/_, _≤_, _<_}
+use Prim.Native.Nat.{ℕ, zero, suc, _+_, _*_, _-_, _/_, _%_, _≤_, _<_}
 use native.Mathlib.Omega.{arith}
 use native.Mathlib.Decide.{ℕ-discrete}
 use lib.ListN.{length, getD, set}
-use Rattle.merge.specs.Tree.{maxPages, Above, Nowhere, ahead, winner, Leads, Settled, Won}
+use lib.Seq.{getD-set-same}
+use Rattle.merge.specs.Tree.{maxPages, Above, Nowhere, noLater, ahead, winner, Tops, Settled, Won}
 use Rattle.merge.specs.TreeLaws.{ahead-refl, ahead-trans, above-up, above-half, not-above, above-none}
-use Rattle.merge.specs.TreeLaws.{settled-more, settled-next}
+use Rattle.merge.specs.TreeLaws.{Picked, winner-picked, here-picked, side-picked, settled-more, settled-put}
 
 -- node c is one that `build_tree` comes to after node k
 abbrev pub Under : (k c : ℕ) → Type 0
@@ -35,7 +36,7 @@ module _ (keys marks : List ℕ) (n : ℕ) (tree : List ℕ) where
         leaf = leaf;
         few = λ c l u o. omega (arith, page c u o);
         below = λ c l u o. (0, omega (arith, page c u o));
-        leads = λ c l u o. absurd (o u);
+        tops = λ c l u o. absurd (o u);
       }
     where
       page : (c : ℕ) → c < 2 * n → (c < n → ⊥) → n + getD tree c 0 ≡ c
@@ -46,18 +47,19 @@ module _ (keys marks : List ℕ) (n : ℕ) (tree : List ℕ) where
   pub built-next : (k : ℕ) → 1 < k → k ≤ n → n ≤ maxPages → Settled keys marks n tree (Under k)
       → Settled keys marks n (set tree (k - 1) (winner keys marks tree (k - 1))) (Under (k - 1))
   built-next k l u m s =
-      settled-next keys marks n tree (Under k) (Under (k - 1)) (k - 1) s m (omega arith) (omega arith)
+      settled-put keys marks n tree (Under k) (Under (k - 1)) (k - 1) s m (omega arith) (omega arith)
       (λ o. omega arith) (λ o. omega arith) (λ c o ne p. omega arith) (λ c b o. omega arith)
+      (winner keys marks tree (k - 1)) (winner-picked keys marks tree (k - 1))
 
   pub built-won : (k : ℕ) → k ≤ 1 → Settled keys marks n tree (Under k) → Won keys marks n tree
   built-won k l s = settled-more keys marks n tree (Under k) Nowhere (λ c b o p. omega arith) s
 
   -- ---- replaying: the nodes above k are open, and k
 
-  pub replayed-next : (k : ℕ) → 1 ≤ k → k < n → n ≤ maxPages → Settled keys marks n tree (Above k)
-      → Settled keys marks n (set tree k (winner keys marks tree k)) (Above (k / 2))
+  replayed-next : (k : ℕ) → 1 ≤ k → k < n → n ≤ maxPages → Settled keys marks n tree (Above k)
+      → (w : ℕ) → Picked keys marks tree k w → Settled keys marks n (set tree k w) (Above (k / 2))
   replayed-next k l u m s =
-      settled-next keys marks n tree (Above k) (Above (k / 2)) k s m l u
+      settled-put keys marks n tree (Above k) (Above (k / 2)) k s m l u
       (not-above k (2 * k) (omega arith)) (not-above k (2 * k + 1) (omega arith))
       (λ c o ne a. o (above-half k c ne a)) (λ c b o e. o (0, sym e))
 
@@ -65,6 +67,59 @@ module _ (keys marks : List ℕ) (n : ℕ) (tree : List ℕ) where
   replayed-won k l s =
       let e : k ≡ 0 = omega arith in
       settled-more keys marks n tree (Above k) Nowhere (λ c b o a. above-none c b (rw e at a)) s
+
+-- page p, of key x and mark y, goes up from node k: the nodes above it are open
+pub record Rising (keys marks : List ℕ) (n : ℕ) (tree : List ℕ) (k p x y : ℕ) : Type 0 where
+  pub node : (1 ≤ k) × (k < 2 * n)
+  pub page : p ≡ getD tree k 0
+  pub key : x ≡ getD keys p 0
+  pub mark : y ≡ getD marks p 0
+  pub rest : Settled keys marks n tree (Above (k / 2))
+
+module _ {keys marks : List ℕ} {n : ℕ} {tree : List ℕ} {k p x y : ℕ} (few : n ≤ maxPages)
+    (r : Rising keys marks n tree k p x y) where
+  -- the sibling of node k is right, so that its page is in range
+  pub sibling-few : 1 < k → getD tree (k + 1 - 2 * (k % 2)) 0 < n
+  sibling-few l =
+      r .rest .few (k + 1 - 2 * (k % 2)) (omega (arith, l)) (omega (arith, l, r .node .1))
+      (not-above (k / 2) (k + 1 - 2 * (k % 2)) (omega (arith, l)))
+
+  -- the page that is ahead goes up to the node above node k
+  rise : (w u v : ℕ) → u ≡ getD keys w 0 → v ≡ getD marks w 0 → 1 < k → Picked keys marks tree (k / 2) w
+      → Rising keys marks n (set tree (k / 2) w) (k / 2) w u v
+  rise w u v e f l picked =
+      record {
+        node = (omega (arith, l), omega (arith, l, r .node .1));
+        page = sym (getD-set-same tree (k / 2) w 0 (omega (arith, r .rest .size, r .node .1, few)));
+        key = e;
+        mark = f;
+        rest =
+            replayed-next keys marks n tree (k / 2) (omega (arith, l)) (omega (arith, r .node .1)) few (r .rest) w picked;
+      }
+
+  module _ (l : 1 < k) (q : ℕ) (e : q ≡ getD tree (k + 1 - 2 * (k % 2)) 0) where
+    test : (t : Bool) → noLater x y (getD keys q 0) (getD marks q 0) ≡ t
+        → ahead keys marks (getD tree k 0) (getD tree (k + 1 - 2 * (k % 2)) 0) ≡ t
+    unfolding ahead
+    test t h =
+        let a : getD keys (getD tree k 0) 0 ≡ x = ap (λ (v : ℕ). getD keys v 0) (sym (r .page)) ∙ sym (r .key) in
+        let b : getD marks (getD tree k 0) 0 ≡ y = ap (λ (v : ℕ). getD marks v 0) (sym (r .page)) ∙ sym (r .mark) in
+        rw (a, b, sym e) h
+
+    pub rise-here : noLater x y (getD keys q 0) (getD marks q 0) ≡ true
+        → Rising keys marks n (set tree (k / 2) p) (k / 2) p x y
+    rise-here h =
+        rise p x y (r .key) (r .mark) l
+        (subst (Picked keys marks tree (k / 2)) (sym (r .page)) (here-picked keys marks tree k (test true h)))
+
+    pub rise-side : noLater x y (getD keys q 0) (getD marks q 0) ≡ false
+        → Rising keys marks n (set tree (k / 2) q) (k / 2) q (getD keys q 0) (getD marks q 0)
+    rise-side h =
+        rise q (getD keys q 0) (getD marks q 0) refl refl l
+        (subst (Picked keys marks tree (k / 2)) (sym e) (side-picked keys marks tree k (test false h)))
+
+  pub risen : k ≤ 1 → Won keys marks n tree
+  risen l = replayed-won keys marks n tree (k / 2) (omega (arith, l)) (r .rest)
 
 -- ---- a finished tree
 
@@ -83,8 +138,8 @@ module _ {keys marks : List ℕ} {n : ℕ} {tree : List ℕ} (s : Won keys marks
   first-below : (c : ℕ) → 2 ≤ c → c < 2 * n → First (c / 2) → First c
   first-below c l u f = go (ℕ-discrete c (2 * (c / 2)))
     where
-      b : Leads keys marks tree (c / 2)
-      b = s .leads (c / 2) (omega arith) (omega arith) shut
+      b : Tops keys marks tree (c / 2)
+      b = s .tops (c / 2) (omega arith) (omega arith) shut
 
       step : (a : ℕ) → ahead keys marks (getD tree (c / 2) 0) a ≡ true → ahead keys marks (getD tree 1 0) a ≡ true
       step a = ahead-trans keys marks (getD tree 1 0) (getD tree (c / 2) 0) a f
@@ -131,8 +186,8 @@ module _ {keys marks : List ℕ} {n : ℕ} {tree : List ℕ} (s : Won keys marks
           leaf = s .leaf;
           few = λ c l u o. s .few c l u shut;
           below = λ c l u o. s .below c l u shut;
-          leads = λ c l u o.
-              let b = s .leads c l u shut in
+          tops = λ c l u o.
+              let b = s .tops c l u shut in
               let p : getD tree c 0 ≢ j = not-moved c c l (omega arith) u (λ a. a) o in
               record {
                 first =

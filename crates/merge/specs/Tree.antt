@@ -24,12 +24,14 @@ Above k c = (d : ℕ) × (halves d k ≡ c)
 abbrev pub Nowhere : ℕ → Type 0
 Nowhere c = ⊥
 
+-- a head of key k and mark m comes no later than one of key l and mark o
+abbrev pub noLater : (k m l o : ℕ) → Bool
+noLater k m l o = cond (eqb k l) (leb m o) (ltb k l)
+
 module _ (keys marks : List ℕ) where
   -- the head of page a comes no later than that of page b
   unfoldable pub ahead : (a b : ℕ) → Bool
-  ahead a b =
-      cond (eqb (getD keys a 0) (getD keys b 0)) (leb (getD marks a 0) (getD marks b 0))
-      (ltb (getD keys a 0) (getD keys b 0))
+  ahead a b = noLater (getD keys a 0) (getD marks a 0) (getD keys b 0) (getD marks b 0)
 
   -- of the pages at the two nodes below node k, the one that is ahead
   unfoldable pub winner : (tree : List ℕ) → (k : ℕ) → ℕ
@@ -37,7 +39,7 @@ module _ (keys marks : List ℕ) where
       cond (ahead (getD tree (2 * k) 0) (getD tree (2 * k + 1) 0)) (getD tree (2 * k) 0) (getD tree (2 * k + 1) 0)
 
   -- the page at node c is ahead of those at the nodes below it
-  pub record Leads (tree : List ℕ) (c : ℕ) : Type 0 where
+  pub record Tops (tree : List ℕ) (c : ℕ) : Type 0 where
     pub first : ahead (getD tree c 0) (getD tree (2 * c) 0) ≡ true
     pub second : ahead (getD tree c 0) (getD tree (2 * c + 1) 0) ≡ true
 
@@ -47,7 +49,7 @@ module _ (keys marks : List ℕ) where
     pub leaf : (i : ℕ) → i < n → getD tree (n + i) 0 ≡ i
     pub few : (c : ℕ) → 1 ≤ c → c < 2 * n → (Open c → ⊥) → getD tree c 0 < n
     pub below : (c : ℕ) → 1 ≤ c → c < 2 * n → (Open c → ⊥) → Above (n + getD tree c 0) c
-    pub leads : (c : ℕ) → 1 ≤ c → c < n → (Open c → ⊥) → Leads tree c
+    pub tops : (c : ℕ) → 1 ≤ c → c < n → (Open c → ⊥) → Tops tree c
 
   -- every node is right
   abbrev pub Won : (n : ℕ) (tree : List ℕ) → Type 0

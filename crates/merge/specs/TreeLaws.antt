@@ -1,9 +1,9 @@
 -- The winner tree's order, its nodes one above the other, and one node put right.
-use mathlib.Core.Path.{_≡_, refl, sym, ap, subst, _∙_}
+use mathlib.Core.Path.{_≡_, refl, sym, ap, ap₂, subst, _∙_}
 use mathlib.Core.Logic.{_≢_}
 use mathlib.Core.Bool.{Bool, true, false, cond}
 use mathlib.Core.List.{List}
-use Prim.Native.Nat.{ℕ, zero, suc, _+_, _*_, _/_, _≤_, _<_}
+use Prim.Native.Nat.{ℕ, zero, suc, _+_, _*_, _-_, _/_, _%_, _≤_, _<_}
 use native.Mathlib.Omega.{arith}
 use native.Mathlib.Decide.{ℕ-discrete}
 use borrow.Author.Tests.{ltb-true, ltb-false, leb-true, leb-false, eqb-true, eqb-false, lt-ltb, le-leb}
@@ -11,7 +11,7 @@ use lib.Dec.{eqb, ltb, leb}
 use lib.ListN.{getD, set, length-set}
 use lib.Seq.{getD-set-same, getD-set-other}
 use Rattle.lists.specs.TestLaws.{cond-put}
-use Rattle.merge.specs.Tree.{maxPages, halves, Above, ahead, winner, Leads, Settled}
+use Rattle.merge.specs.Tree.{maxPages, halves, Above, ahead, winner, Tops, Settled}
 
 -- ---- the order of the heads: by their keys, and of equal keys by their marks
 
@@ -91,6 +91,13 @@ above-none c l (d, e) = omega (arith, halves-zero d)
 
 -- ---- the page that wins at a node
 
+-- page w is one of the two at the nodes below node k, and is ahead of both
+pub data Picked (keys marks tree : List ℕ) (k : ℕ) : ℕ → Type 0 where
+  lefts : ahead keys marks (getD tree (2 * k) 0) (getD tree (2 * k + 1) 0) ≡ true
+      → Picked keys marks tree k (getD tree (2 * k) 0)
+  rights : ahead keys marks (getD tree (2 * k + 1) 0) (getD tree (2 * k) 0) ≡ true
+      → Picked keys marks tree k (getD tree (2 * k + 1) 0)
+
 module _ (keys marks tree : List ℕ) (k : ℕ) where
   abbrev left : ℕ
   left = getD tree (2 * k) 0
@@ -98,24 +105,77 @@ module _ (keys marks tree : List ℕ) (k : ℕ) where
   abbrev right : ℕ
   right = getD tree (2 * k + 1) 0
 
-  winner-has : (P : ℕ → Type 0) → P left → P right → P (winner keys marks tree k)
-  unfolding winner
-  winner-has P l r = go (ahead keys marks left right)
-    where
-      go : (t : Bool) → P (cond t left right)
-      go true = l
-      go false = r
+  picked-one : (P : ℕ → Type 0) → P left → P right → {w : ℕ} → Picked keys marks tree k w → P w
+  picked-one P l r (lefts h) = l
+  picked-one P l r (rights h) = r
 
-  abbrev Beats : ℕ → Type 0
-  Beats a = (ahead keys marks a left ≡ true) × (ahead keys marks a right ≡ true)
+  picked-first : {w : ℕ} → Picked keys marks tree k w → ahead keys marks w left ≡ true
+  picked-first (lefts h) = ahead-refl keys marks left
+  picked-first (rights h) = h
 
-  winner-beats : Beats (winner keys marks tree k)
+  picked-second : {w : ℕ} → Picked keys marks tree k w → ahead keys marks w right ≡ true
+  picked-second (lefts h) = h
+  picked-second (rights h) = ahead-refl keys marks right
+
+  pub winner-picked : Picked keys marks tree k (winner keys marks tree k)
   unfolding winner
-  winner-beats = go (ahead keys marks left right) refl
+  winner-picked = go (ahead keys marks left right) refl
     where
-      go : (t : Bool) → ahead keys marks left right ≡ t → Beats (cond t left right)
-      go true e = (ahead-refl keys marks left, e)
-      go false e = (ahead-other keys marks left right e, ahead-refl keys marks right)
+      go : (t : Bool) → ahead keys marks left right ≡ t → Picked keys marks tree k (cond t left right)
+      go true e = lefts e
+      go false e = rights (ahead-other keys marks left right e)
+
+-- of the pages at node c and at its sibling, both below node c / 2
+module _ (keys marks tree : List ℕ) (c : ℕ) where
+  abbrev up : ℕ
+  up = c / 2
+
+  abbrev side : ℕ
+  side = c + 1 - 2 * (c % 2)
+
+  -- where c is the left one
+  module _ (even : c % 2 ≡ 0) where
+    left-is : 2 * up ≡ c
+    left-is = omega (arith, even)
+
+    right-is : 2 * up + 1 ≡ side
+    right-is = omega (arith, even)
+
+    even-test : (t : Bool) → ahead keys marks (getD tree c 0) (getD tree side 0) ≡ t
+        → ahead keys marks (getD tree (2 * up) 0) (getD tree (2 * up + 1) 0) ≡ t
+    even-test t h = ap₂ (λ (x y : ℕ). ahead keys marks (getD tree x 0) (getD tree y 0)) left-is right-is ∙ h
+
+  module _ (odd : c % 2 ≢ 0) where
+    left-side : 2 * up ≡ side
+    left-side = omega (arith, odd)
+
+    right-here : 2 * up + 1 ≡ c
+    right-here = omega (arith, odd)
+
+    odd-test : (t : Bool) → ahead keys marks (getD tree c 0) (getD tree side 0) ≡ t
+        → ahead keys marks (getD tree (2 * up + 1) 0) (getD tree (2 * up) 0) ≡ t
+    odd-test t h = ap₂ (λ (x y : ℕ). ahead keys marks (getD tree x 0) (getD tree y 0)) right-here left-side ∙ h
+
+  abbrev PickedAt : ℕ → Type 0
+  PickedAt x = Picked keys marks tree up (getD tree x 0)
+
+  pub here-picked : ahead keys marks (getD tree c 0) (getD tree (c + 1 - 2 * (c % 2)) 0) ≡ true
+      → Picked keys marks tree (c / 2) (getD tree c 0)
+  here-picked h = go (ℕ-discrete (c % 2) 0)
+    where
+      go : Dec (c % 2 ≡ 0) → PickedAt c
+      go (yes e) = subst PickedAt (left-is e) (lefts (even-test e true h))
+      go (no e) = subst PickedAt (right-here e) (rights (odd-test e true h))
+
+  pub side-picked : ahead keys marks (getD tree c 0) (getD tree (c + 1 - 2 * (c % 2)) 0) ≡ false
+      → Picked keys marks tree (c / 2) (getD tree (c + 1 - 2 * (c % 2)) 0)
+  side-picked h = go (ℕ-discrete (c % 2) 0)
+    where
+      go : Dec (c % 2 ≡ 0) → PickedAt side
+      go (yes e) =
+          subst PickedAt (right-is e) (rights (ahead-other keys marks _ _ (even-test e false h)))
+      go (no e) =
+          subst PickedAt (left-side e) (lefts (ahead-other keys marks _ _ (odd-test e false h)))
 
 -- ---- node k put right, where both nodes below it are right and the one above it is open
 
@@ -129,21 +189,21 @@ module _ (keys marks : List ℕ) (n : ℕ) (tree : List ℕ) where
         leaf = s .leaf;
         few = λ c l u o. s .few c l u (f c l o);
         below = λ c l u o. s .below c l u (f c l o);
-        leads = λ c l u o. s .leads c l u (f c l o);
+        tops = λ c l u o. s .tops c l u (f c l o);
       }
 
   module _ (Open Open' : ℕ → Type 0) (k : ℕ) (s : Settled keys marks n tree Open) (most : n ≤ maxPages) (one : 1 ≤ k)
       (inner : k < n) (first : Open (2 * k) → ⊥) (second : Open (2 * k + 1) → ⊥)
       (kept : (c : ℕ) → (Open' c → ⊥) → c ≢ k → Open c → ⊥)
-      (up : (c : ℕ) → 1 ≤ c → (Open' c → ⊥) → c ≢ k / 2) where
+      (up : (c : ℕ) → 1 ≤ c → (Open' c → ⊥) → c ≢ k / 2) (w : ℕ) (picked : Picked keys marks tree k w) where
     abbrev next : List ℕ
-    next = set tree k (winner keys marks tree k)
+    next = set tree k w
 
-    at-k : getD next k 0 ≡ winner keys marks tree k
-    at-k = getD-set-same tree k (winner keys marks tree k) 0 (omega (arith, s .size))
+    at-k : getD next k 0 ≡ w
+    at-k = getD-set-same tree k w 0 (omega (arith, s .size))
 
     other : (c : ℕ) → c ≢ k → getD next c 0 ≡ getD tree c 0
-    other c ne = getD-set-other tree k c (winner keys marks tree k) 0 ne
+    other c ne = getD-set-other tree k c w 0 ne
 
     -- what holds of both pages below k, and of the page at each other node, holds after the step
     each : (P : ℕ → ℕ → Type 0) → P k (getD tree (2 * k) 0) → P k (getD tree (2 * k + 1) 0) → (c : ℕ)
@@ -151,32 +211,31 @@ module _ (keys marks : List ℕ) (n : ℕ) (tree : List ℕ) where
     each P l r c h = go (ℕ-discrete c k)
       where
         go : Dec (c ≡ k) → P c (getD next c 0)
-        go (yes e) = rw (e, at-k) (winner-has keys marks tree k (P k) l r)
+        go (yes e) = rw (e, at-k) (picked-one keys marks tree k (P k) l r picked)
         go (no ne) = rw (other c ne) (h ne)
 
     rise : (c : ℕ) → 1 ≤ c → c < 2 * n → (Open c → ⊥) → c / 2 ≡ k → Above (n + getD tree c 0) k
     rise c l u o e = subst (Above (n + getD tree c 0)) e (above-up (n + getD tree c 0) c (s .below c l u o))
 
-    lead : (c : ℕ) → 1 ≤ c → c < n → (Open' c → ⊥) → Dec (c ≡ k) → Leads keys marks next c
+    lead : (c : ℕ) → 1 ≤ c → c < n → (Open' c → ⊥) → Dec (c ≡ k) → Tops keys marks next c
     lead c l u o (yes e) =
-        let b = winner-beats keys marks tree k in
         rw e
         (record {
-          first = rw (at-k, other (2 * k) (omega arith)) (b .0);
-          second = rw (at-k, other (2 * k + 1) (omega arith)) (b .1);
+          first = rw (at-k, other (2 * k) (omega arith)) (picked-first keys marks tree k picked);
+          second = rw (at-k, other (2 * k + 1) (omega arith)) (picked-second keys marks tree k picked);
         })
     lead c l u o (no ne) =
-        let b = s .leads c l u (kept c o ne) in
+        let b = s .tops c l u (kept c o ne) in
         let p = up c l o in
         record {
           first = rw (other c ne, other (2 * c) (λ e. p (omega arith))) (b .first);
           second = rw (other c ne, other (2 * c + 1) (λ e. p (omega arith))) (b .second);
         }
 
-    pub settled-next : Settled keys marks n next Open'
-    settled-next =
+    pub settled-put : Settled keys marks n (set tree k w) Open'
+    settled-put =
         record {
-          size = length-set tree k (winner keys marks tree k) ∙ s .size;
+          size = length-set tree k w ∙ s .size;
           leaf = λ i l. other (n + i) (omega arith) ∙ s .leaf i l;
           few = λ c l u o.
               each (λ _ a. a < n)
@@ -190,5 +249,5 @@ module _ (keys marks : List ℕ) (n : ℕ) (tree : List ℕ) where
               (rise (2 * k + 1) (omega arith) (omega arith) second (omega arith))
               c
               (λ ne. s .below c l u (kept c o ne));
-          leads = λ c l u o. lead c l u o (ℕ-discrete c k);
+          tops = λ c l u o. lead c l u o (ℕ-discrete c k);
         }

@@ -21,7 +21,7 @@ use Rattle.chain.specs.Within.{entriesOn, PagesOk, Within}
 use Rattle.chain.specs.WithinLaws.{block-inside, block-sorted, block-fine, walk-turn, walk-done}
 use Rattle.merge.specs.Merge.{joined}
 use Rattle.merge.specs.MergeLaws.{joined-same}
-use Rattle.merge.specs.Heads.{pageAt, Pages, leftOf, From}
+use Rattle.merge.specs.Heads.{pageAt, Pages, leftOf, CursorsAt}
 use Rattle.merge.specs.Walks.{Joined}
 
 -- the entries of a walk, page by page
@@ -90,7 +90,7 @@ zero-place (e ∷ es) =
     ap (λ (b : Bool). cond b (suc (placeOf (record { hash = 0; block = 0; offset = 0 }) es)) 0)
     (before-hash (e .pair) 0 ∙ le-ltb (e .pair .hash) 0 (omega arith))
 
-pub from-all : (s ks : List ℕ) (n : ℕ) (marks : List ℕ) → From s ks (record { hash = 0; block = 0; offset = 0 }) n marks
+pub from-all : (s ks : List ℕ) (n : ℕ) (marks : List ℕ) → CursorsAt s ks (record { hash = 0; block = 0; offset = 0 }) n marks
     → joined (leftOf s ks marks) 0 n ≡ joined (pageAt s ks) 0 n
 from-all s ks n marks f =
     joined-same (leftOf s ks marks) (pageAt s ks) 0 n

@@ -14,7 +14,7 @@ ghost use Rattle.lists.specs.Block.{block};
 ghost use Rattle.page.specs.Entries.{entriesOf};
 ghost use Rattle.page.specs.Allowed.{Sorted};
 ghost use Rattle.merge.specs.Tree.{maxPages};
-ghost use Rattle.merge.specs.Heads.{noKey, keyOf, markOf, pageAt, Pages, Heads, Merging, From, Moved};
+ghost use Rattle.merge.specs.Heads.{noKey, keyOf, markOf, pageAt, Pages, Heads, Merging, CursorsAt, Moved};
 
 // The key where nothing is left: no entry has it.
 pub const NO_KEY: u64 = 18446744073709551615;
@@ -95,7 +95,7 @@ fn put_heads(
     requires { ⌜ Pages (now store) (now pages) n ⌝ }
     requires { ⌜ (length (now keys) ≡ maxPages) × (length (now marks) ≡ maxPages) ⌝ }
     ensures { λ _. ⌜ (Heads (now (store .entry)) (now (pages .entry)) n (now (keys .exit)) (now (marks .exit)))
-        × (From (now (store .entry)) (now (pages .entry)) from n (now (marks .exit))) ⌝ }
+        × (CursorsAt (now (store .entry)) (now (pages .entry)) from n (now (marks .exit))) ⌝ }
 {
     let mut i = 0;
     while i < n {
@@ -117,7 +117,7 @@ pub fn start_merge(
     requires { ⌜ Pages (now store) (now pages) n ⌝ }
     requires { ⌜ (length (now keys) ≡ maxPages) × (length (now marks) ≡ maxPages) ⌝ }
     ensures { λ r. ⌜ (Merging (now (store .entry)) (now (pages .entry)) n (now (keys .exit)) (now (marks .exit)) r)
-        × (From (now (store .entry)) (now (pages .entry)) from n (now (marks .exit))) ⌝ }
+        × (CursorsAt (now (store .entry)) (now (pages .entry)) from n (now (marks .exit))) ⌝ }
 {
     put_heads(store, pages, keys, marks, n, from);
     build_tree(keys, marks, n)

@@ -2,24 +2,21 @@
 // that is ahead of the two below it; so node 1 has the page that is ahead of all.
 use crate::MAX_PAGES;
 ghost use mathlib.Core.Path.{_≡_};
-ghost use Prim.Native.Nat.{ℕ, _+_, _*_, _/_, _≤_, _<_};
+ghost use Prim.Native.Nat.{ℕ, _+_, _*_, _-_, _/_, _%_, _≤_, _<_};
 ghost use lib.ListN.{length, getD, replicate};
-ghost use Rattle.merge.specs.Tree.{maxPages, ahead, winner, Above, Settled, Won};
+ghost use Rattle.merge.specs.Tree.{maxPages, noLater, winner, Above, Settled, Won};
 
-// Whether page `a` is ahead of page `b`: its head comes no later.
-fn is_ahead(keys: &[u64; MAX_PAGES], marks: &[u32; MAX_PAGES], a: usize, b: usize) -> bool
-    requires { ⌜ (a < maxPages) × (b < maxPages) ⌝ }
-    ensures { λ r. ⌜ r ≡ ahead (now (keys .entry)) (now (marks .entry)) a b ⌝ }
+// Whether a head of key `k` and mark `m` comes no later than one of key `l` and mark `o`.
+fn is_no_later(k: u64, m: u32, l: u64, o: u32) -> bool
+    ensures { λ r. ⌜ r ≡ noLater k m l o ⌝ }
 {
-    let x = keys[a];
-    let y = keys[b];
-    if x == y {
-        return marks[a] <= marks[b];
+    if k == l {
+        return m <= o;
     }
-    x < y
+    k < l
 }
 
-// Of the pages at the two nodes below node `k`, the one that is ahead.
+// Of the pages at the two nodes below node `k`, the one that is ahead: its head comes no later.
 fn winner_at(
     keys: &[u64; MAX_PAGES],
     marks: &[u32; MAX_PAGES],
@@ -32,7 +29,11 @@ fn winner_at(
 {
     let a = tree[2 * k];
     let b = tree[2 * k + 1];
-    if is_ahead(keys, marks, a, b) { a } else { b }
+    if is_no_later(keys[a], marks[a], keys[b], marks[b]) {
+        a
+    } else {
+        b
+    }
 }
 
 fn no_winners() -> [usize; 2 * MAX_PAGES]
@@ -74,7 +75,16 @@ pub fn build_tree(
     tree
 }
 
-// Makes the nodes above leaf n + `j` right again, whose head has changed.
+// The other of the two nodes that stand below the node above node `k`.
+fn sibling_of(k: usize) -> usize
+    requires { ⌜ (1 < k) × (k < 2 * maxPages) ⌝ }
+    ensures { λ r. ⌜ r ≡ k + 1 - 2 * (k % 2) ⌝ }
+{
+    k + 1 - 2 * (k % 2)
+}
+
+// Makes the nodes above leaf n + `j` right again, whose head has changed. The head that is ahead goes up with them, so
+// that no node waits for what was written at the one below it.
 pub fn replay(
     keys: &[u64; MAX_PAGES],
     marks: &[u32; MAX_PAGES],
@@ -86,10 +96,20 @@ pub fn replay(
         × Settled (now keys) (now marks) n (now tree) (Above ((n + j) / 2)) ⌝ }
     ensures { λ _. ⌜ Won (now (keys .entry)) (now (marks .entry)) n (now (tree .exit)) ⌝ }
 {
-    let mut k = (n + j) / 2;
-    while 0 < k {
-        let page = winner_at(keys, marks, tree, k);
-        tree[k] = page;
+    let mut page = j;
+    let mut key = keys[j];
+    let mut mark = marks[j];
+    let mut k = n + j;
+    while 1 < k {
+        let other = tree[sibling_of(k)];
+        let x = keys[other];
+        let y = marks[other];
+        if !is_no_later(key, mark, x, y) {
+            page = other;
+            key = x;
+            mark = y;
+        }
         k /= 2;
+        tree[k] = page;
     }
 }

@@ -27,7 +27,7 @@ use Rattle.chain.specs.Pairs.{counts, isMatch, pairsIn}
 use Rattle.chain.specs.PairsLaws.{pairs-append, pairs-none, each-pairs}
 use Rattle.merge.specs.Merge.{joined, Best, Taken}
 use Rattle.merge.specs.MergeLaws.{joined-each, taken-tally, taken-apart, taken-each, best-none, best-least}
-use Rattle.merge.specs.Heads.{pageAt, leftOf, From, Pages}
+use Rattle.merge.specs.Heads.{pageAt, leftOf, CursorsAt, Pages}
 use Rattle.view.specs.Left.{pairsLeft, freshAt, NoLower}
 
 each-sorted : (P : Pair → Type 0) (ps : List Pair) → Each P ps → Each P (sorted ps)
@@ -90,7 +90,7 @@ module _ (h : ℕ) (fresh : Bool) where
 -- ---- the start
 
 module _ (s ks marks : List ℕ) (n k h : ℕ) (fresh : Bool) (pages : Pages s ks (n + k))
-    (from : From s ks (lowest h) (n + k) marks) where
+    (from : CursorsAt s ks (lowest h) (n + k) marks) where
   start-left : (i : ℕ) → i < n + k → leftOf s ks marks i ≡ drop (placeOf (lowest h) (pageAt s ks i)) (pageAt s ks i)
   start-left i l = ap (λ (c : ℕ). drop c (pageAt s ks i)) (from i l)
 

@@ -6,14 +6,14 @@ use lib.ListN.{length}
 use Rattle.page.specs.Places.{placeOf}
 use Rattle.page.specs.PlaceLaws.{place-le}
 use Rattle.page.specs.Entries.{entriesOf}
-use Rattle.merge.specs.Heads.{pageAt, Heads, From}
+use Rattle.merge.specs.Heads.{pageAt, Heads, CursorsAt}
 use Rattle.merge.specs.HeadLaws.{heads-next, from-next}
 use Rattle.merge.proofs.heads.put_heads.Statement.{statement}
 use Rattle.merge.proofs.heads.put_heads.Tie as tie
 
 abbrev Inv-loop : tie.InvT-loop
 Inv-loop store pages keys₀ marks₀ n from i₀ keys marks i =
-    (Heads store pages i keys marks) × (From store pages from i marks) × (i ≤ n)
+    (Heads store pages i keys marks) × (CursorsAt store pages from i marks) × (i ≤ n)
 
 abbrev μ-loop : tie.MeasureT-loop
 μ-loop store pages keys₀ marks₀ n from i₀ keys marks i = n - i
@@ -84,7 +84,7 @@ returns c =
     let end : l .loop .i ≡ s .args .n = omega (arith, l .loop .inv .2, c .loop-test .left) in (
       subst (λ (i : ℕ). Heads (s .args .store .now) (s .args .pages .now) i (l .loop .keys) (l .loop .marks)) end
           (l .loop .inv .0),
-      subst (λ (i : ℕ). From (s .args .store .now) (s .args .pages .now) (s .args .from) i (l .loop .marks)) end
+      subst (λ (i : ℕ). CursorsAt (s .args .store .now) (s .args .pages .now) (s .args .from) i (l .loop .marks)) end
           (l .loop .inv .1),
     )
 
