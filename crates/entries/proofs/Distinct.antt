@@ -19,7 +19,8 @@ use Rattle.merge.specs.Heads.{noKey, leftOf, Merging, Moved}
 use Rattle.merge.specs.MergingLaws.{merging-upto}
 use Rattle.entries.specs.Next.{nextIs}
 use Rattle.entries.specs.TakenLaws.{ascending-distinct, taken-distinct}
-use Rattle.entries.specs.NextLaws.{next-key, next-offset, next-fits, next-least, next-any}
+use Rattle.merge.specs.MergingLaws.{next-key, next-offset, next-fits}
+use Rattle.entries.specs.NextLaws.{next-least, next-any}
 
 -- a walk of one page, or none
 pub one-page : {s bs : List ℕ} {n : ℕ} (ok : Within s bs n) → PagesOk s (take n bs) → n ≤ 1

@@ -20,20 +20,12 @@ use Rattle.merge.specs.MergeLaws.{joined-each}
 use Rattle.merge.specs.Heads.{noKey, pageAt, leftOf, Merging, Moved}
 use Rattle.merge.specs.MergingLaws.{merging-upto, first-left}
 use Rattle.entries.specs.Tests.{markedBy}
-use Rattle.entries.specs.Next.{pairKey, pairFrom, nextIs, nextBefore, NotBefore, Kept, Passed}
+use Rattle.merge.specs.Heads.{pairKey, pairFrom}
+use Rattle.entries.specs.Next.{nextIs, nextBefore, NotBefore, Kept, Passed}
 use Rattle.entries.specs.TakenLaws.{all-same, taken-all, taken-kept}
-use Rattle.entries.specs.NextLaws.{
-  from-key,
-  from-fits,
-  next-key,
-  next-offset,
-  next-pair,
-  next-fits,
-  next-least,
-  next-any,
-  next-none,
-  next-passed,
-}
+use Rattle.merge.specs.MergingLaws.{next-key, next-offset, next-pair, next-fits}
+use Rattle.merge.specs.KeyLaws.{from-key, from-fits}
+use Rattle.entries.specs.NextLaws.{next-least, next-any, next-none, next-passed}
 
 -- ---- entries before a pair are taken
 

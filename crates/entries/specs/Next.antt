@@ -3,7 +3,7 @@
 use mathlib.Core.Path.{_≡_}
 use mathlib.Core.Bool.{Bool, false, cond, _&&_}
 use mathlib.Core.List.{List, [], _∷_}
-use Prim.Native.Nat.{ℕ, _+_, _*_, _%_, _/_, _<_}
+use Prim.Native.Nat.{ℕ, _/_, _<_}
 use lib.Dec.{eqb, ltb}
 use lib.ListN.{getD}
 use Rattle.lists.specs.Lists.{any, Each}
@@ -12,14 +12,6 @@ use Rattle.page.specs.declared.Entry.{Entry}
 use Rattle.page.specs.Pair.{same, before, is}
 use Rattle.merge.specs.Merge.{joined}
 use Rattle.merge.specs.Heads.{leftOf, Merging}
-
--- the key of a pair
-abbrev pub pairKey : Pair → ℕ
-pairKey p = p .hash * 4294967296 + p .block
-
--- the pair with a key and an offset
-abbrev pub pairFrom : (key offset : ℕ) → Pair
-pairFrom key offset = record { hash = key / 4294967296; block = key % 4294967296; offset = offset }
 
 -- the first entry has the pair
 abbrev pub headIs : Pair → List Entry → Bool

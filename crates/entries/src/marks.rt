@@ -18,7 +18,8 @@ ghost use Rattle.page.specs.Entries.{entryAt};
 ghost use Rattle.merge.specs.Merge.{joined};
 ghost use Rattle.merge.specs.Heads.{noKey, pageAt, Pages, Merging};
 ghost use Rattle.entries.specs.Tests.{markedBy};
-ghost use Rattle.entries.specs.Next.{pairFrom, Passed};
+ghost use Rattle.merge.specs.Heads.{pairFrom};
+ghost use Rattle.entries.specs.Next.{Passed};
 
 // Takes all entries that stand before the pair.
 fn pass_before(

@@ -6,7 +6,7 @@ use mathlib.Core.List.{List, [], _∷_}
 use Prim.Native.Nat.{ℕ, suc, _+_, _*_, _%_, _/_, _≤_, _<_}
 use native.Mathlib.Omega.{arith}
 use native.Mathlib.Decide.{ℕ-discrete}
-use borrow.Author.Tests.{le-ltb, lt-ltb, ltb-true, leb-true, eq-eqb, ne-eqb, eqb-false}
+use borrow.Author.Tests.{le-ltb, leb-true, eq-eqb, ne-eqb}
 use lib.Dec.{eqb, ltb, leb}
 use lib.ListN.{length, getD, set, drop, drop-of-length-le, length-set}
 use lib.Seq.{drop-cons, getD-set-same, getD-set-other}
@@ -14,81 +14,40 @@ use Rattle.lists.specs.ListsLaws.{and-left, not-yes}
 use Rattle.endian.specs.Endian.{u16At}
 use Rattle.page.specs.declared.Pair.{Pair}
 use Rattle.page.specs.declared.Entry.{Entry}
-use Rattle.page.specs.Pair.{PairFits, same, before, badPair}
-use Rattle.page.specs.PairLaws.{no-way, Order, less, equal, more, order, lex-equal, lex-apart, same-yes, same-eq}
+use Rattle.page.specs.Pair.{badPair}
+use Rattle.page.specs.PairLaws.{no-way, Order, less, equal, more, order}
 use Rattle.page.specs.Entries.{entryAt, entriesOf}
 use Rattle.page.specs.EntriesLaws.{length-entriesOf, getD-entriesOf}
 use Rattle.page.specs.Places.{placeOf}
 use Rattle.page.specs.Allowed.{Allowed}
-use Rattle.model.specs.TallyLaws.{or-right}
 use Rattle.merge.specs.Tree.{maxPages, noLater}
 use Rattle.merge.specs.Merge.{leads}
-use Rattle.merge.specs.Heads.{noKey, keyOf, markOf, pageAt, leftOf, Head, Heads, CursorsAt}
-
--- the key of a pair
-abbrev code : Pair → ℕ
-code p = p .hash * 4294967296 + p .block
-
-code-below : (p : Pair) → PairFits p → badPair p ≡ false → code p < noKey
-code-below p f h =
-    let ne = eqb-false (p .block) 4294967295 (or-right (eqb (p .offset) 0) (eqb (p .block) 4294967295) h) in
-    let b : p .block < 4294967295 = go (order (p .block) 4294967295) ne in
-    omega (arith, f .hash, b)
-  where
-    go : Order (p .block) 4294967295 → (p .block ≡ 4294967295 → ⊥) → p .block < 4294967295
-    go (less l) ne = l
-    go (equal e) ne = absurd (ne e)
-    go (more l) ne = omega (arith, l, f .block)
-
-module _ (p q : Pair) (fp : PairFits p) (fq : PairFits q) where
-  code-less : code p < code q → before q p ≡ false
-  code-less h = go (order (q .hash) (p .hash))
-    where
-      go : Order (q .hash) (p .hash) → before q p ≡ false
-      go (less l) = absurd (omega (arith, l, h, fp .block, fq .block))
-      go (more l) = lex-apart (q .hash) (p .hash) _ (λ e. omega (arith, l, e)) ∙ le-ltb (q .hash) (p .hash) (omega (arith, l))
-      go (equal e) =
-          lex-equal (q .hash) (p .hash) _ e
-          ∙ lex-apart (q .block) (p .block) _ (λ r. omega (arith, r, e, h))
-          ∙ le-ltb (q .block) (p .block) (omega (arith, e, h))
-
-  code-hash : code p ≡ code q → p .hash ≡ q .hash
-  code-hash e = omega (arith, e, fp .block, fq .block)
-
-  code-block : code p ≡ code q → p .block ≡ q .block
-  code-block e = omega (arith, e, code-hash e)
-
-  code-equal : code p ≡ code q → p .offset ≤ q .offset → before q p ≡ false
-  code-equal e l =
-      lex-equal (q .hash) (p .hash) _ (sym (code-hash e))
-      ∙ lex-equal (q .block) (p .block) _ (sym (code-block e))
-      ∙ le-ltb (q .offset) (p .offset) l
-
-  code-same : code p ≡ code q → p .offset ≡ q .offset → same p q ≡ true
-  code-same e o = same-yes p q (λ i. record { hash = code-hash e i; block = code-block e i; offset = o i })
+use Rattle.merge.specs.KeyLaws.{key-below, before-key}
+use Rattle.merge.specs.Heads.{noKey, pairKey, pairFrom, keyOf, markOf, pageAt, leftOf, Head, Heads, CursorsAt}
 
 -- ---- heads of lists that pages may have
 
 bad-not : (e : Entry) (es : List Entry) → Allowed (e ∷ es) → badPair (e .pair) ≡ false
 bad-not e es ok = not-yes _ (and-left (not (badPair (e .pair))) _ (ok .clean))
 
-key-below : (e : Entry) (es : List Entry) → Allowed (e ∷ es) → keyOf (e ∷ es) < noKey
-key-below e es ok = code-below (e .pair) (ok .fit .0) (bad-not e es ok)
+head-below : (e : Entry) (es : List Entry) → Allowed (e ∷ es) → keyOf (e ∷ es) < noKey
+head-below e es ok = key-below (e .pair) (ok .fit .0) (bad-not e es ok)
 
 pub key-done : (es : List Entry) → Allowed es → keyOf es ≡ noKey → es ≡ []
 key-done [] ok h = refl
-key-done (e ∷ es) ok h = absurd (omega (arith, h, key-below e es ok))
+key-done (e ∷ es) ok h = absurd (omega (arith, h, head-below e es ok))
 
 pub head-leads : (xs ys : List Entry) (c d : ℕ) → c < 64 → d < 64 → Allowed xs → Allowed ys
     → noLater (keyOf xs) (markOf c xs) (keyOf ys) (markOf d ys) ≡ true → leads xs ys ≡ true
 head-leads xs [] c d a b ok ok′ h = refl
 head-leads [] (y ∷ ys) c d a b ok ok′ h =
-    let l = key-below y ys ok′ in
+    let l = head-below y ys ok′ in
     no-way h
     (ap (λ (t : Bool). cond t (leb c (markOf d (y ∷ ys))) (ltb noKey (keyOf (y ∷ ys))))
     (ne-eqb noKey (keyOf (y ∷ ys)) (λ e. omega (arith, e, l)))
     ∙ le-ltb noKey (keyOf (y ∷ ys)) (omega (arith, l)))
-head-leads (x ∷ xs) (y ∷ ys) c d a b ok ok′ h = ap not (go (order (code p) (code q)))
+head-leads (x ∷ xs) (y ∷ ys) c d a b ok ok′ h =
+    ap not (sym (before-key q p (ok′ .fit .0) (ok .fit .0)) ∙ go (order (pairKey p) (pairKey q)))
   where
     p : Pair
     p = x .pair
@@ -96,29 +55,20 @@ head-leads (x ∷ xs) (y ∷ ys) c d a b ok ok′ h = ap not (go (order (code p)
     q : Pair
     q = y .pair
 
-    go : Order (code p) (code q) → before q p ≡ false
-    go (less l) = code-less p q (ok .fit .0) (ok′ .fit .0) l
+    -- by the numbers, q does not come before p
+    go : Order (pairKey p) (pairKey q)
+        → cond (eqb (pairKey q) (pairKey p)) (ltb (q .offset) (p .offset)) (ltb (pairKey q) (pairKey p)) ≡ false
+    go (less l) = rw (ne-eqb (pairKey q) (pairKey p) (omega arith)) (le-ltb (pairKey q) (pairKey p) (omega arith))
     go (equal e) =
-        let t : leb (p .offset * 64 + c) (q .offset * 64 + d) ≡ true =
-        sym (ap (λ (t : Bool). cond t (leb (p .offset * 64 + c) (q .offset * 64 + d)) (ltb (code p) (code q)))
-        (eq-eqb (code p) (code q) e)) ∙ h in
-        code-equal p q (ok .fit .0) (ok′ .fit .0) e
-        (omega (arith, leb-true (p .offset * 64 + c) (q .offset * 64 + d) t, a, b))
+        let t : leb (p .offset * 64 + c) (q .offset * 64 + d) ≡ true = rw (eq-eqb (pairKey p) (pairKey q) e) at h in
+        rw (eq-eqb (pairKey q) (pairKey p) (sym e))
+        (le-ltb (q .offset) (p .offset) (omega (arith, leb-true (p .offset * 64 + c) (q .offset * 64 + d) t, a, b)))
     go (more l) =
-        no-way h
-        (ap (λ (t : Bool). cond t (leb (p .offset * 64 + c) (q .offset * 64 + d)) (ltb (code p) (code q)))
-        (ne-eqb (code p) (code q) (λ e. omega (arith, e, l)))
-        ∙ le-ltb (code p) (code q) (omega (arith, l)))
-
--- the first entries have one pair exactly if their keys and offsets are the same
-pub head-same : (x y : Entry) (xs ys : List Entry) (c d : ℕ) → c < 64 → d < 64 → Allowed (x ∷ xs) → Allowed (y ∷ ys)
-    → keyOf (x ∷ xs) ≡ keyOf (y ∷ ys) → markOf c (x ∷ xs) / 64 ≡ markOf d (y ∷ ys) / 64 → same (x .pair) (y .pair) ≡ true
-head-same x y xs ys c d a b ok ok′ k m =
-    code-same (x .pair) (y .pair) (ok .fit .0) (ok′ .fit .0) k (omega (arith, m, a, b))
+        no-way h (rw (ne-eqb (pairKey p) (pairKey q) (omega arith)) (le-ltb (pairKey p) (pairKey q) (omega arith)))
 
 -- the first entry's pair, by its key and mark
 pub head-pair : (e : Entry) (es : List Entry) (c k m : ℕ) → c < 64 → Allowed (e ∷ es) → k ≡ keyOf (e ∷ es)
-    → m ≡ markOf c (e ∷ es) → e .pair ≡ record { hash = k / 4294967296; block = k % 4294967296; offset = m / 64 }
+    → m ≡ markOf c (e ∷ es) → e .pair ≡ pairFrom k (m / 64)
 head-pair e es c k m few ok key mark =
     let h : e .pair .hash ≡ k / 4294967296 = omega (arith, key, ok .fit .0 .block) in
     let b : e .pair .block ≡ k % 4294967296 = omega (arith, key, ok .fit .0 .block) in

@@ -2,7 +2,7 @@
 -- stand. The mark of a page also tells its cursor, the slot of that entry.
 use mathlib.Core.Path.{_≡_}
 use mathlib.Core.List.{List, [], _∷_}
-use Prim.Native.Nat.{ℕ, _+_, _*_, _%_, _≤_, _<_}
+use Prim.Native.Nat.{ℕ, _+_, _*_, _/_, _%_, _≤_, _<_}
 use lib.ListN.{length, getD, drop}
 use Rattle.lists.specs.Block.{blocks, block}
 use Rattle.page.specs.declared.Pair.{Pair}
@@ -17,10 +17,18 @@ use Rattle.merge.specs.Merge.{Taken}
 abbrev pub noKey : ℕ
 noKey = 18446744073709551615
 
--- hash code and reading block of the first entry
+-- hash code and reading block of a pair
+abbrev pub pairKey : Pair → ℕ
+pairKey p = p .hash * 4294967296 + p .block
+
+-- the pair with a key and an offset
+abbrev pub pairFrom : (key offset : ℕ) → Pair
+pairFrom key offset = record { hash = key / 4294967296; block = key % 4294967296; offset = offset }
+
+-- the key of the first entry
 abbrev pub keyOf : List Entry → ℕ
 keyOf [] = noKey
-keyOf (e ∷ es) = e .pair .hash * 4294967296 + e .pair .block
+keyOf (e ∷ es) = pairKey (e .pair)
 
 -- its offset and the cursor
 abbrev pub markOf : (cursor : ℕ) → List Entry → ℕ

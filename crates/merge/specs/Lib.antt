@@ -4,6 +4,7 @@ pub mod ReplayLaws
 pub mod Merge
 pub mod MergeLaws
 pub mod Heads
+pub mod KeyLaws
 pub mod HeadLaws
 pub mod MergingLaws
 pub mod Walks

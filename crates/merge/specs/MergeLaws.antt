@@ -1,17 +1,17 @@
 -- What the list that leads tells of all lists, and what the taking of its first entry does to them.
 use mathlib.Core.Path.{_≡_, refl, sym, ap, ap₂, _∙_, subst}
 use mathlib.Core.Logic.{_≢_}
-use mathlib.Core.Bool.{Bool, true, false, not}
+use mathlib.Core.Bool.{Bool, true, false}
 use mathlib.Core.List.{List, [], _∷_, _++_}
 use Prim.Native.Nat.{ℕ, zero, suc, _+_, _≤_, _<_}
 use native.Mathlib.Omega.{arith}
 use native.Mathlib.Decide.{ℕ-discrete}
-use Rattle.lists.specs.Lists.{b2n, tally, bind, upFrom, Each}
+use Rattle.lists.specs.Lists.{b2n, tally, Each}
 use Rattle.lists.specs.ListsLaws.{tally-append, each-append, not-yes}
 use Rattle.page.specs.declared.Pair.{Pair}
 use Rattle.page.specs.declared.Entry.{Entry}
 use Rattle.page.specs.Pair.{before, pairOf, ascending}
-use Rattle.page.specs.PairLaws.{no-way, before-trans, before-irrefl, before-conn, before-asym}
+use Rattle.page.specs.PairLaws.{no-way, before-trans, before-conn}
 use Rattle.page.specs.SublistLaws.{each-map}
 use Rattle.page.specs.AscendingLaws.{ascending-head, ascending-tail}
 use Rattle.merge.specs.Merge.{leads, joined, Best, Taken}

@@ -1,9 +1,9 @@
 -- A merge under way: the page at node 1 leads, and its first entry is taken.
-use mathlib.Core.Path.{_≡_, refl, sym, ap, ap₂, _∙_, subst}
+use mathlib.Core.Path.{_≡_, refl, sym, ap, _∙_}
 use mathlib.Core.Logic.{_≢_}
-use mathlib.Core.Bool.{Bool, true}
+use mathlib.Core.Bool.{true}
 use mathlib.Core.List.{List, [], _∷_}
-use Prim.Native.Nat.{ℕ, suc, _+_, _%_, _/_, _≤_, _<_}
+use Prim.Native.Nat.{ℕ, _+_, _%_, _/_, _≤_, _<_}
 use native.Mathlib.Numerals.{add-one}
 use native.Mathlib.Omega.{arith}
 use native.Mathlib.Decide.{decLt}
@@ -12,19 +12,18 @@ use lib.Seq.{getD-set-other}
 use Rattle.lists.specs.Block.{block}
 use Rattle.endian.specs.Endian.{u16At}
 use Rattle.page.specs.declared.Entry.{Entry}
-use Rattle.page.specs.Pair.{pairOf, ascending}
+use Rattle.page.specs.Pair.{PairFits, pairOf, ascending}
 use Rattle.page.specs.SublistLaws.{sublist-drop}
-use Rattle.page.specs.AscendingLaws.{ascending-sublist}
 use Rattle.page.specs.Allowed.{Allowed}
 use Rattle.page.specs.AllowedLaws.{allowed-sublist}
 use Rattle.page.specs.Entries.{entryAt}
 use Rattle.page.specs.RuleLaws.{number-le}
-use Rattle.merge.specs.Tree.{maxPages, ahead, Above, Settled, Won}
+use Rattle.merge.specs.Tree.{ahead, Above, Settled, Won}
 use Rattle.merge.specs.ReplayLaws.{won-upto, won-first, settled-moved}
-use Rattle.merge.specs.Merge.{leads, joined, Best, Taken}
+use Rattle.merge.specs.Merge.{leads, joined, Best}
 use Rattle.merge.specs.MergeLaws.{best-end}
-use Rattle.merge.specs.Heads.{noKey, keyOf, markOf, pageAt, leftOf, Head, Merging, Moved}
-use Rattle.merge.specs.HeadLaws.{key-done, head-leads, left-done, left-more, put-left, other-left, heads-put}
+use Rattle.merge.specs.Heads.{noKey, pairKey, pairFrom, keyOf, markOf, pageAt, leftOf, Merging, Moved}
+use Rattle.merge.specs.HeadLaws.{key-done, head-leads, head-pair, left-done, left-more, put-left, other-left, heads-put}
 
 module _ {s ks : List ℕ} {n : ℕ} {keys marks tree : List ℕ} (m : Merging s ks n keys marks tree) where
   pub left-allowed : (i : ℕ) → i < n → Allowed (leftOf s ks marks i)
@@ -64,6 +63,35 @@ module _ {s ks : List ℕ} {n : ℕ} {keys marks tree : List ℕ} (m : Merging s
     -- nothing is left
     pub merging-done : getD keys (getD tree 1 0) 0 ≡ noKey → joined (leftOf s ks marks) 0 n ≡ []
     merging-done e = best-end (leftOf s ks marks) n merging-best (merging-none e)
+
+    -- ---- its first entry
+
+    module _ (e : Entry) (es : List Entry) (first : leftOf s ks marks (getD tree 1 0) ≡ e ∷ es) where
+      pub next-key : getD keys (getD tree 1 0) 0 ≡ pairKey (e .pair)
+      next-key = m .heads .each j merging-upto .key ∙ ap keyOf first
+
+      pub next-offset : getD marks (getD tree 1 0) 0 / 64 ≡ e .pair .offset
+      next-offset =
+          omega (arith, m .heads .each j merging-upto .mark, ap (markOf (getD marks j 0 % 64)) first)
+
+      pub next-pair : pairFrom (getD keys (getD tree 1 0) 0) (getD marks (getD tree 1 0) 0 / 64) ≡ e .pair
+      next-pair =
+          let h = m .heads .each j merging-upto in
+          let c = getD marks j 0 % 64 in
+          sym (head-pair e es c (getD keys j 0) (getD marks j 0) (omega arith)
+          (rw first at (left-allowed j merging-upto)) next-key (h .mark ∙ ap (markOf c) first))
+
+      pub next-fits : PairFits (e .pair)
+      next-fits = (rw first at (left-allowed j merging-upto)) .fit .0
+
+    -- where it is not the key of nothing it is below it
+    pub next-below : getD keys (getD tree 1 0) 0 ≢ noKey → getD keys (getD tree 1 0) 0 < noKey
+    next-below ne = go (leftOf s ks marks j) refl
+      where
+        go : (xs : List Entry) → leftOf s ks marks j ≡ xs → getD keys j 0 < noKey
+        go [] z = absurd (ne (m .heads .each j merging-upto .key ∙ ap keyOf z))
+        go (e ∷ es) z =
+            let f = next-fits e es z in omega (arith, ne, next-key e es z, f .hash, f .block)
 
     -- its first entry is taken
     module _ (more : getD keys (getD tree 1 0) 0 < noKey) where

@@ -1,7 +1,7 @@
 -- The blocks of walks among the pages of a merge.
 use mathlib.Core.Path.{_≡_}
 use mathlib.Core.List.{List}
-use Prim.Native.Nat.{ℕ, _+_, _≤_, _<_}
+use Prim.Native.Nat.{ℕ, _+_, _<_}
 use lib.ListN.{length, getD}
 use Rattle.merge.specs.Tree.{maxPages}
 

@@ -8,7 +8,7 @@ use page::slots::count_entries;
 use page::slots::get_entry;
 use store::block_at;
 ghost use mathlib.Core.Path.{_≡_};
-ghost use Prim.Native.Nat.{ℕ, _≤_, _<_};
+ghost use Prim.Native.Nat.{_≤_, _<_};
 ghost use lib.ListN.{length, getD, set, drop, replicate};
 ghost use Rattle.lists.specs.Block.{block};
 ghost use Rattle.page.specs.Entries.{entriesOf};

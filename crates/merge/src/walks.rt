@@ -2,7 +2,7 @@
 use crate::MAX_PAGES;
 use address::limits::MAX_BLOCKS;
 ghost use mathlib.Core.Path.{_≡_};
-ghost use Prim.Native.Nat.{ℕ, suc, _≤_};
+ghost use Prim.Native.Nat.{suc, _≤_};
 ghost use lib.ListN.{length, replicate};
 ghost use Rattle.address.specs.Limits.{maxBlocks};
 ghost use Rattle.merge.specs.Tree.{maxPages};

@@ -20,9 +20,9 @@ use Rattle.model.specs.Calls.{placeBytes}
 use Rattle.chain.specs.Pairs.{counts, isMatch}
 use Rattle.merge.specs.Merge.{joined, Best, Taken}
 use Rattle.merge.specs.MergeLaws.{taken-tally}
-use Rattle.merge.specs.Heads.{noKey, leftOf, Merging, Moved}
+use Rattle.merge.specs.Heads.{pairFrom, noKey, leftOf, Merging, Moved}
 use Rattle.merge.specs.MergingLaws.{merging-up, merging-upto, merging-best, merging-none, first-left}
-use Rattle.view.specs.Left.{pairsLeft, freshAt, NoLower, firstAt, headPair, Told}
+use Rattle.view.specs.Left.{pairsLeft, freshAt, NoLower, firstAt, Told}
 use Rattle.view.specs.ToldLaws.{merging-told}
 use Rattle.view.specs.LeftLaws.{left-none, left-past, turn-above, turn-once, turn-skip, turn-first}
 use Rattle.view.specs.Lookup.{written, Listable}
@@ -197,7 +197,7 @@ module _ {s ks keys marks tree : List ℕ} {n k h : ℕ} {fresh : Bool} (m : Mer
 
         pub list-turn : (out′ : List ℕ) (at′ : ℕ)
             → out′ ≡ cond (counts b (firstAt s (getD ks (getD tree 1 0) 0) (getD marks (getD tree 1 0) 0)))
-            (sets out at (placeBytes (headPair (getD keys (getD tree 1 0) 0) (getD marks (getD tree 1 0) 0)))) out
+            (sets out at (placeBytes (pairFrom (getD keys (getD tree 1 0) 0) (getD marks (getD tree 1 0) 0 / 64)))) out
             → at′ ≡ cond (counts b (firstAt s (getD ks (getD tree 1 0) 0) (getD marks (getD tree 1 0) 0))) (at + 6) at
             → Listed (leftOf s ks marks′) n k h fresh whole out′ at′
         list-turn out′ at′ o a =

@@ -12,6 +12,7 @@ use Rattle.page.specs.declared.Entry.{Entry}
 use Rattle.page.specs.Entries.{entryAt}
 use Rattle.chain.specs.Pairs.{pairsIn}
 use Rattle.merge.specs.Merge.{joined}
+use Rattle.merge.specs.Heads.{pairFrom}
 
 abbrev pub pairsLeft : (f : ℕ → List Entry) (n k hash : ℕ) (fresh : Bool) → List Pair
 pairsLeft f n k h fresh = pairsIn h fresh (joined f 0 n) ++ pairsIn h false (joined f n k)
@@ -30,12 +31,9 @@ NoLower f m h = (i : ℕ) → i < m → Each (λ e. h ≤ e .pair .hash) (f i)
 abbrev pub firstAt : (s : List ℕ) (b mark : ℕ) → Entry
 firstAt s b mark = entryAt (block s b) (mark % 64)
 
--- its pair, by its key and mark
-abbrev pub headPair : (key mark : ℕ) → Pair
-headPair key mark = record { hash = key / 4294967296; block = key % 4294967296; offset = mark / 64 }
-
+-- its key and its mark tell its pair
 pub record Told (s : List ℕ) (b key mark : ℕ) : Type 0 where
   pub inside : b < blocks s
   pub slot : mark % 64 < 40
   pub fits : mark / 64 < 65536
-  pub pair : headPair key mark ≡ firstAt s b mark .pair
+  pub pair : pairFrom key (mark / 64) ≡ firstAt s b mark .pair

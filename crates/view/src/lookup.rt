@@ -30,9 +30,9 @@ ghost use Rattle.image.specs.Decode.{decode};
 ghost use Rattle.chain.specs.Within.{PagesOk, Within};
 ghost use Rattle.chain.specs.Pairs.{counts};
 ghost use Rattle.chain.specs.Along.{pairsAlong};
-ghost use Rattle.merge.specs.Heads.{leftOf, Merging};
+ghost use Rattle.merge.specs.Heads.{pairFrom, leftOf, Merging};
 ghost use Rattle.view.specs.Reads.{Reads};
-ghost use Rattle.view.specs.Left.{pairsLeft, freshAt, NoLower, firstAt, headPair, Told};
+ghost use Rattle.view.specs.Left.{pairsLeft, freshAt, NoLower, firstAt, Told};
 ghost use Rattle.view.specs.Lookup.{written, Listable};
 
 // Writes a reading's place, six bytes.
@@ -47,7 +47,7 @@ fn put_place(output: &mut [u8], at: usize, p: Pair)
 // The pair that a head stands for.
 fn head_pair(key: u64, mark: u32) -> Pair
     requires { ⌜ mark / 64 < 65536 ⌝ }
-    ensures { λ r. ⌜ r ≡ headPair key mark ⌝ }
+    ensures { λ r. ⌜ r ≡ pairFrom key (mark / 64) ⌝ }
 {
     Pair {
         hash: (key / 4294967296) as u32,
@@ -89,7 +89,7 @@ fn put_match(
     requires { ⌜ Told (now store) block key mark ⌝ }
     requires { ⌜ (counts fresh (firstAt (now store) block mark) ≡ true → at + 6 ≤ length (now output)) ⌝ }
     ensures { λ r. ⌜ (now (output .exit) ≡ cond (counts fresh (firstAt (now (store .entry)) block mark))
-        (sets (now (output .entry)) at (placeBytes (headPair key mark))) (now (output .entry)))
+        (sets (now (output .entry)) at (placeBytes (pairFrom key (mark / 64)))) (now (output .entry)))
         × (r ≡ cond (counts fresh (firstAt (now (store .entry)) block mark)) (at + 6) at) ⌝ }
 {
     if !is_counted(store, block, mark, fresh) {

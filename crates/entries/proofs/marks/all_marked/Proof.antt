@@ -14,7 +14,7 @@ use Rattle.merge.specs.MergingLaws.{merging-upto, merging-done, next-few}
 use Rattle.shape.specs.LoopLaws.{passed, failed}
 use Rattle.entries.specs.Tests.{markedBy}
 use Rattle.entries.specs.TakenLaws.{taken-less}
-use Rattle.entries.specs.NextLaws.{next-below}
+use Rattle.merge.specs.MergingLaws.{next-below}
 use Rattle.entries.proofs.Marking.{copy-small, turn-marked}
 use Rattle.entries.proofs.marks.all_marked.Statement.{statement}
 use Rattle.entries.proofs.marks.all_marked.Tie as tie

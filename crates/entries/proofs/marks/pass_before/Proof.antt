@@ -5,7 +5,8 @@ use Rattle.lists.specs.Lists.{tally}
 use Rattle.merge.specs.Merge.{joined}
 use Rattle.merge.specs.Heads.{leftOf, Merging}
 use Rattle.merge.specs.MergingLaws.{merging-upto}
-use Rattle.entries.specs.Next.{pairFrom, Kept}
+use Rattle.merge.specs.Heads.{pairFrom}
+use Rattle.entries.specs.Next.{Kept}
 use Rattle.entries.specs.TakenLaws.{taken-less}
 use Rattle.entries.proofs.Marking.{pass-end, pass-below, pass-turn}
 use Rattle.entries.proofs.marks.pass_before.Statement.{statement}

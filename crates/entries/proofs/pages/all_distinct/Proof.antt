@@ -11,7 +11,7 @@ use Rattle.merge.specs.Heads.{noKey, pageAt, leftOf, Merging}
 use Rattle.merge.specs.MergingLaws.{merging-upto, merging-done}
 use Rattle.shape.specs.LoopLaws.{passed, failed}
 use Rattle.entries.specs.TakenLaws.{taken-less}
-use Rattle.entries.specs.NextLaws.{next-below}
+use Rattle.merge.specs.MergingLaws.{next-below}
 use Rattle.entries.proofs.Distinct.{turn-distinct}
 use Rattle.entries.proofs.pages.all_distinct.Statement.{statement}
 use Rattle.entries.proofs.pages.all_distinct.Tie as tie

@@ -1,8 +1,5 @@
-use mathlib.Core.Path.{_≡_, sym, subst}
-use Prim.Native.Nat.{_+_, _*_, _≤_, _<_}
+use mathlib.Core.Path.{sym, subst}
 use native.Mathlib.Omega.{arith}
-use borrow.Author.Needs.{needs}
-use lib.ListN.{length, getD}
 use Rattle.lists.specs.Block.{blocks}
 use Rattle.page.specs.Allowed.{Sorted}
 use Rattle.merge.proofs.heads.page_at.Statement.{statement}

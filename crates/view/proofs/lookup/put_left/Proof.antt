@@ -6,9 +6,9 @@ use lib.ListN.{length, getD}
 use Rattle.model.specs.Held.{sorted}
 use Rattle.merge.specs.Tree.{maxPages}
 use Rattle.merge.specs.Heads.{noKey, leftOf, Merging}
-use Rattle.merge.specs.MergingLaws.{merging-upto}
+use Rattle.merge.specs.MergingLaws.{merging-upto, next-below}
 use Rattle.view.specs.Left.{pairsLeft}
-use Rattle.view.specs.ToldLaws.{merging-more, merging-told}
+use Rattle.view.specs.ToldLaws.{merging-told}
 use Rattle.view.specs.Lookup.{written}
 use Rattle.view.proofs.Listing.{Listed, list-start, list-none, list-past, entriesLeft, list-less}
 use Rattle.view.proofs.Listing.{list-room, list-turn}
@@ -64,7 +64,7 @@ more : (c : tie.Else1 Inv-loop μ-loop)
     → let l = c .before .before .before in getD (l .loop .keys) (getD (l .loop .tree) 1 0) 0 < noKey
 more c =
     let l = c .before .before .before in
-    merging-more (l .loop .inv .0) (l .before .before .before .pre .0 .1) (c .if1 .left)
+    next-below (l .loop .inv .0) (l .before .before .before .pre .0 .1) (c .if1 .left)
 
 same-length-2 : tie.Need-same-length-2 Inv-loop μ-loop
 same-length-2 c = c .before .before .before .before .loop .inv .2
