@@ -13,19 +13,20 @@ ghost use Rattle.store.specs.Change.{Fits};
 ghost use Rattle.draft.specs.Draft.{Draft};
 ghost use Rattle.draft.specs.Trim.{alike, Kept, Trimmed};
 
-// Whether two blocks are the same but for their checks.
+// Whether two blocks are the same but for their checks. Without an early return, so that the compiler vectorises it.
 fn same_bytes(a: &[u8], b: &[u8]) -> bool
     requires { ⌜ (length (now a) ≡ 512) × (length (now b) ≡ 512) ⌝ }
     ensures { λ r. ⌜ r ≡ alike (covered (now (a .entry))) (covered (now (b .entry))) ⌝ }
 {
+    let mut same = true;
     let mut i = 0;
     while i < 508 {
         if a[i] != b[i] {
-            return false;
+            same = false;
         }
         i += 1;
     }
-    true
+    same
 }
 
 // Lists `k` after the blocks that are kept, with image `i`.
