@@ -11,6 +11,7 @@ use store::block_at;
 use store::finish;
 ghost use mathlib.Core.Path.{_≡_};
 ghost use mathlib.Core.Bool.{true};
+ghost use lib.ListN.{length};
 ghost use Rattle.model.specs.Calls.{pairOk, insert, remove};
 ghost use Rattle.image.specs.Decode.{metaAt, decode};
 ghost use Rattle.outcomes.specs.Outcomes.{changed};
@@ -50,16 +51,17 @@ pub fn remove_sound(store: &mut [u8], pair: Pair) -> Answer
     plan.answer
 }
 
-// One step; where it stops, the store stays. A job's search begins at the place `from`.
-pub fn step_sound(store: &mut [u8], from: usize) -> Stride
+// One step; where it stops, the store stays. A job's search begins at the place `from`. What `images` held does not
+// matter.
+pub fn step_sound(store: &mut [u8], images: &mut [u8], from: usize) -> Stride
     requires { ⌜ (Sound (now store)) × (From (decode (now store)) from) ⌝ }
+    requires { ⌜ length (now images) ≡ 4096 ⌝ }
     ensures { λ r. ⌜ Stepped (now (store .entry)) (r .advance) (now (store .exit)) ⌝ }
     ensures { λ r. ⌜ (r .advance ≡ Advance.Next → From (decode (now (store .exit))) (r .place)) ⌝ }
 {
     let m = read_fields(store);
-    let mut images = [0u8; 4096];
-    let plan = plan_step(store, m, from, &mut images);
-    finish(store, plan.change, &mut images);
+    let plan = plan_step(store, m, from, images);
+    finish(store, plan.change, images);
     let advance = plan.advance;
     Stride {
         advance,

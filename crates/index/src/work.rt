@@ -11,16 +11,17 @@ ghost use Rattle.outcomes.specs.Outcomes.{stepOutcome, workOutcome};
 ghost use Rattle.index.specs.Sound.{Sound, workedBy};
 
 // Steps on a sound store, until the budget is spent, which is tested first, or a step stops. It counts the steps,
-// and each searches from where the last one found its entry.
+// and each searches from where the last one found its entry. The steps share the room for the images.
 fn work_sound(store: &mut [u8], budget: u32) -> WorkAnswer
     requires { ⌜ Sound (now store) ⌝ }
     ensures { λ r. ⌜ workedBy (iterate stepOutcome budget (now (store .entry)))
         ≡ record { answer = r; store = now (store .exit) } ⌝ }
 {
+    let mut images = [0u8; 4096];
     let mut steps: u32 = 0;
     let mut place = 0;
     while steps < budget {
-        let stride = step_sound(store, place);
+        let stride = step_sound(store, &mut images, place);
         let advance = stride.advance;
         if let Advance::Stopped(stop) = advance {
             return WorkAnswer::Worked { steps, stop };

@@ -1,4 +1,4 @@
-use mathlib.Core.Path.{_≡_, refl}
+use mathlib.Core.Path.{_≡_, refl, _∙_}
 use Prim.Native.Nat.{_-_}
 use native.Mathlib.Omega.{arith}
 use borrow.Author.Needs.{needs}
@@ -14,16 +14,20 @@ use Rattle.index.proofs.work.work_sound.Lts as lts
 use Rattle.index.proofs.sound.step_sound.Reads as step-sound-reads
 
 abbrev Inv-loop : tie.InvT-loop
-Inv-loop store₀ budget steps₀ place₀ store steps place = Working budget store₀ store steps × From (decode store) place
+Inv-loop store₀ budget images₀ steps₀ place₀ store images steps place =
+    Working budget store₀ store steps × From (decode store) place × (length images ≡ 4096)
 
 abbrev μ-loop : tie.MeasureT-loop
-μ-loop store₀ budget steps₀ place₀ store steps place = budget - steps
+μ-loop store₀ budget images₀ steps₀ place₀ store images steps place = budget - steps
 
 loop-holds : tie.Need-loop-holds Inv-loop μ-loop
-loop-holds c = (working-none _ _ (c .before .pre), from-start (decode (c .before .args .store .now)))
+loop-holds c = (working-none _ _ (c .before .pre), from-start (decode (c .before .args .store .now)), refl)
+
+slice-aggregate-step-sound : tie.Need-slice-aggregate-step-sound Inv-loop μ-loop
+slice-aggregate-step-sound c = search needs
 
 step-sound-requires : tie.Need-step-sound-requires Inv-loop μ-loop
-step-sound-requires c κs = let h = c .before .before .loop .inv in (h .0 .sound, h .1)
+step-sound-requires c κs = let h = c .before .before .before .loop .inv in ((h .0 .sound, h .1), h .2)
 
 enum-known-advance : tie.Need-enum-known-advance Inv-loop μ-loop
 enum-known-advance c = search needs
@@ -34,8 +38,8 @@ same-length c = search needs
 returns : tie.Need-returns Inv-loop μ-loop
 returns c =
     let k = c .before in
-    let a = k .before .before .before .before in
-    let l = a .before .before in
+    let a = k .before .before .before .before .before in
+    let l = a .before .before .before in
     working-stop (l .before .loop .inv .0) (l .loop-test .taken) (a .step-sound .ensures .0) _ (k .advance .given .1)
 
 enum-told : tie.Need-enum-told Inv-loop μ-loop
@@ -49,12 +53,13 @@ loop-less c = omega arith
 
 loop-again : tie.Need-loop-again Inv-loop μ-loop
 loop-again c =
-    let a = c .before .before .before .before in
-    let l = a .before .before in
+    let a = c .before .before .before .before .before in
+    let l = a .before .before .before in
     let e = a .step-sound .ensures in (
       working-next (l .before .loop .inv .0) (l .loop-test .taken) (e .0) (c .enum-told .given .1)
           (a .step-sound .kept .0),
       e .1 (c .enum-told .given .1),
+      a .step-sound .kept .1 .0 ∙ l .before .loop .inv .2,
     )
 
 same-length-2 : tie.Need-same-length-2 Inv-loop μ-loop
@@ -70,6 +75,7 @@ work-sound-spec =
     Inv-loop
     μ-loop
     loop-holds
+    slice-aggregate-step-sound
     step-sound-requires
     enum-known-advance
     same-length
