@@ -11,7 +11,7 @@ ghost use Rattle.outcomes.specs.Outcomes.{stepOutcome, workOutcome};
 ghost use Rattle.index.specs.Sound.{Sound, workedBy};
 
 // Steps on a sound store, until the budget is spent, which is tested first, or a step stops. It counts the steps,
-// and each searches from where the last one found its entry. The steps share the room for the images.
+// and each searches from where the last one left off. The steps share the room for the images.
 fn work_sound(store: &mut [u8], budget: u32) -> WorkAnswer
     requires { ⌜ Sound (now store) ⌝ }
     ensures { λ r. ⌜ workedBy (iterate stepOutcome budget (now (store .entry)))

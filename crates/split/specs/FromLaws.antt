@@ -1,5 +1,5 @@
 -- A job goes forward along the old chain: what was passed stays passed. So the next step of a work call may search
--- from where the last one found its entry.
+-- from behind the entry that was copied, or from where the cleared one stood.
 use mathlib.Core.Path.{_≡_, refl, sym, ap, _∙_, subst}
 use mathlib.Core.Bool.{Bool, true, false, cond, not, _&&_, _||_}
 use mathlib.Core.List.{List, [], _∷_, _++_, map}
@@ -10,11 +10,11 @@ use borrow.Author.Tests.{not-false, ltb-false}
 use lib.Dec.{eqb}
 use lib.ListN.{length, take}
 use Rattle.lists.specs.Lists.{b2n, any, tally, keep, find}
-use Rattle.lists.specs.ListsLaws.{tally-le, find-yes}
+use Rattle.lists.specs.ListsLaws.{and-false, tally-le, find-yes}
 use Rattle.page.specs.declared.Pair.{Pair}
 use Rattle.page.specs.declared.Entry.{Entry}
 use Rattle.page.specs.Pair.{same, is}
-use Rattle.page.specs.PairLaws.{same-eq}
+use Rattle.page.specs.PairLaws.{same-refl, same-eq}
 use Rattle.model.specs.Index.{Page, Chain, copying, clearing, Index, onPages, entriesIn, chain, entriesAt, bucket}
 use Rattle.model.specs.Index.{newBucket, oldBucket, setChain}
 use Rattle.model.specs.Pages.{put, thinEntries, thin, inUse, without, cut}
@@ -27,7 +27,8 @@ use Rattle.model.specs.PlacedLaws.{clearing-copying}
 use Rattle.model.specs.ViewLaws.{movedEntry, PutAs, put-as, Putting, put-view}
 use Rattle.model.specs.MachineLaws.{never}
 use Rattle.chain.specs.PairsLaws.{keep-append}
-use Rattle.split.specs.Seek.{Before, From, Leads}
+use Rattle.split.specs.Seek.{Before, Stands, From, Leads}
+use Rattle.split.specs.SeekLaws.{before-next}
 use Rattle.split.specs.StepLaws.{step-copies, step-clears}
 
 -- the first place
@@ -46,13 +47,14 @@ module _ (x : Index) (w : WF x) (e : Entry) where
   abbrev o : ℕ
   o = oldBucket x
 
-  -- after the put, none more is left to copy
+  -- after the put, none more is left to copy, and e has its copy
   copy-before : {y : Index} → PutAs x (newBucket x) (movedEntry (e .pair)) y → (k : ℕ)
-      → Before (toCopy x) (entriesAt x (oldBucket x)) k → Before (toCopy y) (entriesAt y (oldBucket y)) k
-  copy-before a k z =
-      subst (λ (v : Index). Before (toCopy v) (entriesAt v (oldBucket v)) k) (sym (a .index))
-      (ap (λ (es : List Entry). tally (toCopy y) (take k es)) there
-      ∙ omega (arith, tally-le (toCopy y) (toCopy x) (take k (entriesAt x o)) fewer))
+      → Stands (toCopy x) (entriesAt x (oldBucket x)) e k → Before (toCopy y) (entriesAt y (oldBucket y)) (k + 1)
+  copy-before a k s =
+      subst (λ (v : Index). Before (toCopy v) (entriesAt v (oldBucket v)) (k + 1)) (sym (a .index))
+      (ap (λ (es : List Entry). tally (toCopy y) (take (k + 1) es)) there
+      ∙ before-next (toCopy y) (entriesAt x o) k e (s .inside) (ap (toCopy y) (s .here) ∙ copied)
+      (omega (arith, tally-le (toCopy y) (toCopy x) (take k (entriesAt x o)) fewer, s .first)))
     where
       y : Index
       y = setChain x (a .spares) n (a .pages)
@@ -64,6 +66,12 @@ module _ (x : Index) (w : WF x) (e : Entry) where
       has p =
           any-more (is p) (entriesAt x n) (entriesAt y n) (same p (e .pair))
           (number-here x (a .spares) n (a .pages) (new-range x (w .laid)) (is p) ∙ a .numbers (is p))
+
+      copied : toCopy y e ≡ false
+      copied =
+          ap (λ (b : Bool). moves x e && not b)
+          (has (e .pair) ∙ ap (λ (b : Bool). b || any (is (e .pair)) (entriesAt x n)) (same-refl (e .pair)))
+          ∙ and-false (moves x e)
 
       less : (b c d : Bool) → b && not (c || d) ≡ true → b && not d ≡ true
       less true false false h = refl
@@ -77,13 +85,13 @@ module _ (x : Index) (w : WF x) (e : Entry) where
           (ap (λ (b : Bool). eqb (bucket x (d .pair)) n && not b) (sym (has (d .pair))) ∙ h)
 
   pub copy-leads : x .job ≡ copying → find (toCopy x) (entriesAt x (oldBucket x)) ≡ some e → (k : ℕ)
-      → Before (toCopy x) (entriesAt x (oldBucket x)) k → Leads x k
-  copy-leads j first k z y h = go (put-view x n (movedEntry (e .pair))) (sym (step-copies x j first) ∙ h)
+      → Stands (toCopy x) (entriesAt x (oldBucket x)) e k → Leads x (k + 1)
+  copy-leads j first k s y h = go (put-view x n (movedEntry (e .pair))) (sym (step-copies x j first) ∙ h)
     where
-      go : {q : Option Index} → Putting x (newBucket x) (movedEntry (e .pair)) q → orFull q ≡ next y → From y k
+      go : {q : Option Index} → Putting x (newBucket x) (movedEntry (e .pair)) q → orFull q ≡ next y → From y (k + 1)
       go {q = none} v f c i = never (cc)
       go {q = some u} v f true i =
-          let g : u ≡ y = cc in copy-before (subst (PutAs x n (movedEntry (e .pair))) g (put-as v)) k z
+          let g : u ≡ y = cc in copy-before (subst (PutAs x n (movedEntry (e .pair))) g (put-as v)) k s
       go {q = some u} v f false i =
           let g : u ≡ y = cc in
           absurd (clearing-copying (sym i ∙ ap (λ (a : Index). a .job) (sym g ∙ put-as v .index) ∙ j))

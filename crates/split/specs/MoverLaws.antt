@@ -106,7 +106,7 @@ module _ (t : Entry → Bool) (l : List ℕ) (i : ℕ) where
     slot-here z h =
         let g = getD-entriesOf l i (entryAt l i) more in
         let first = find-here t (entriesOf l) i (entryAt l i) inList (ap t g ∙ h) ∙ ap some g in
-        sought {k = i} (before-find t (entriesOf l) i z ∙ first) (omega (arith, inList)) z
+        sought {k = i} (before-find t (entriesOf l) i z ∙ first) (record { inside = inList; here = g; first = z })
 
     pub slot-later : Before t (entriesOf l) i → t (entryAt l i) ≡ false → Before t (entriesOf l) (i + 1)
     slot-later z h =

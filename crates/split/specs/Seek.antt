@@ -3,8 +3,8 @@ use mathlib.Core.Path.{_≡_}
 use mathlib.Core.Bool.{Bool, true, false}
 use mathlib.Core.List.{List}
 use mathlib.Core.Option.{none, some}
-use Prim.Native.Nat.{ℕ, _≤_}
-use lib.ListN.{length, take}
+use Prim.Native.Nat.{ℕ, _<_}
+use lib.ListN.{length, getD, take}
 use Rattle.lists.specs.Lists.{tally, find}
 use Rattle.page.specs.declared.Entry.{Entry}
 use Rattle.model.specs.Index.{Job, copying, clearing, Index, entriesAt, oldBucket}
@@ -16,10 +16,21 @@ use Rattle.split.specs.Mover.{movable}
 abbrev pub Before : (Entry → Bool) → List Entry → ℕ → Type 0
 Before t es k = tally t (take k es) ≡ 0
 
--- the first entry that passes, and a place before which none does
+-- e stands at the place k, before which none passes
+pub record Stands (t : Entry → Bool) (es : List Entry) (e : Entry) (k : ℕ) : Type 0 where
+  pub inside : k < length es
+  pub here : getD es k e ≡ e
+  pub first : Before t es k
+
+-- the first entry that passes, and its place
 pub data Seeks (t : Entry → Bool) (es : List Entry) : Mover → Type 0 where
-  sought : {e : Entry} {k : ℕ} → find t es ≡ some e → k ≤ length es → Before t es k → Seeks t es (Mover.At e k)
+  sought : {e : Entry} {k : ℕ} → find t es ≡ some e → Stands t es e k → Seeks t es (Mover.At e k)
   nothing : find t es ≡ none → Seeks t es Mover.Nothing
+
+-- its place, or 0
+abbrev pub placeOf : Mover → ℕ
+placeOf (Mover.At e k) = k
+placeOf Mover.Nothing = 0
 
 -- the job whose steps copy; clear
 abbrev pub jobOf : (copying : Bool) → Job

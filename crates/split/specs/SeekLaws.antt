@@ -6,14 +6,14 @@ use mathlib.Core.Option.{none, some}
 use Prim.Native.Nat.{ℕ, zero, suc, _+_, _-_, _≤_, _<_}
 use native.Mathlib.Numerals.{add-one}
 use native.Mathlib.Omega.{arith}
-use lib.ListN.{length, getD, take, drop, take-append-drop, length-append}
-use lib.Seq.{take-all, take-suc, take-append-le, take-append-add}
+use lib.ListN.{length, getD, take, drop, take-append-drop, length-append, List·getD-append}
+use lib.Seq.{take-all, take-suc, take-append-le, take-append-add, getD-append-add}
 use Rattle.lists.specs.Lists.{b2n, tally, find}
 use Rattle.lists.specs.ListsLaws.{tally-append}
 use Rattle.page.specs.declared.Entry.{Entry}
 use Rattle.frame.specs.ListsLaws.{find-zero, find-left, find-right}
 use Rattle.split.specs.declared.Mover.{Mover}
-use Rattle.split.specs.Seek.{Before, Seeks, sought, nothing}
+use Rattle.split.specs.Seek.{Before, Stands, Seeks, sought, nothing}
 
 module _ (t : Entry → Bool) where
   -- what is not before the place is after it
@@ -51,12 +51,16 @@ module _ (t : Entry → Bool) where
   -- what was found among them was found in all
   pub sought-part : (bs es fs : List Entry) (e : Entry) (k : ℕ) → tally t bs ≡ 0 → Seeks t es (Mover.At e k)
       → Seeks t (bs ++ (es ++ fs)) (Mover.At e (length bs + k))
-  sought-part bs es fs e k z (sought f l b) =
+  sought-part bs es fs e k z (sought f s) =
       sought {k = length bs + k} (find-right t bs (es ++ fs) (find-zero t bs z) ∙ find-left t es fs e f)
-      (omega (arith, length-append bs (es ++ fs), length-append es fs))
-      (ap (tally t) (take-append-add bs (es ++ fs) k)
-      ∙ tally-append t bs (take k (es ++ fs))
-      ∙ omega (arith, ap (tally t) (take-append-le k es fs l)))
+      (record {
+        inside = omega (arith, s .inside, length-append bs (es ++ fs), length-append es fs);
+        here = getD-append-add bs (es ++ fs) k e ∙ List·getD-append es fs e k (s .inside) ∙ s .here;
+        first =
+            ap (tally t) (take-append-add bs (es ++ fs) k)
+            ∙ tally-append t bs (take k (es ++ fs))
+            ∙ omega (arith, ap (tally t) (take-append-le k es fs (omega (arith, s .inside))), s .first);
+      })
 
 -- ---- what was found
 
@@ -68,13 +72,13 @@ module _ {t : Entry → Bool} {es : List Entry} {r : Mover} (found : Seeks t es 
   seeks-entry {e} {k} h = go (subst (Seeks t es) h found)
     where
       go : Seeks t es (Mover.At e k) → find t es ≡ some e
-      go (sought f l b) = f
+      go (sought f s) = f
 
-  pub seeks-place : {e : Entry} {k : ℕ} → r ≡ Mover.At e k → (k ≤ length es) × Before t es k
+  pub seeks-place : {e : Entry} {k : ℕ} → r ≡ Mover.At e k → Stands t es e k
   seeks-place {e} {k} h = go (subst (Seeks t es) h found)
     where
-      go : Seeks t es (Mover.At e k) → (k ≤ length es) × Before t es k
-      go (sought f l b) = (l, b)
+      go : Seeks t es (Mover.At e k) → Stands t es e k
+      go (sought f s) = s
 
   pub seeks-none : r ≡ Mover.Nothing → find t es ≡ none
   seeks-none h = go (subst (Seeks t es) h found)

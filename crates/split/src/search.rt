@@ -13,9 +13,10 @@ use page::slots::count_entries;
 use page::slots::get_entry;
 use reader::buckets::walk_bucket;
 ghost use mathlib.Core.Path.{_≡_};
-ghost use Prim.Native.Nat.{_-_};
+ghost use Prim.Native.Nat.{suc, _-_, _*_, _<_};
 ghost use lib.ListN.{take};
 ghost use Rattle.lists.specs.Lists.{bind};
+ghost use Rattle.address.specs.Limits.{maxBlocks};
 ghost use Rattle.page.specs.Entries.{entriesOf};
 ghost use Rattle.page.specs.Allowed.{Sorted};
 ghost use Rattle.model.specs.Index.{entriesAt, oldBucket};
@@ -23,7 +24,7 @@ ghost use Rattle.image.specs.Decode.{decode};
 ghost use Rattle.chain.specs.Within.{entriesOn, PagesOk, Within};
 ghost use Rattle.view.specs.Reads.{Reads};
 ghost use Rattle.split.specs.Mover.{movable, Copies};
-ghost use Rattle.split.specs.Seek.{Before, Seeks};
+ghost use Rattle.split.specs.Seek.{Before, Seeks, placeOf};
 
 // Where the step copies, the walk along the new chain, in which copies are looked for.
 fn walk_copies(store: &[u8], m: Meta, copying: bool) -> Walk
@@ -118,6 +119,7 @@ fn first_in_walk(
         (bind (take count (now blocks)) (entriesOn (now store))) from ⌝ }
     ensures { λ r. ⌜ Seeks (movable copying (decode (now (store .entry))))
         (bind (take count (now (blocks .entry))) (entriesOn (now (store .entry)))) r ⌝ }
+    ensures { λ r. ⌜ placeOf r < 40 * suc maxBlocks ⌝ }
 {
     let mut passed = 0;
     let mut i = 0;
@@ -142,6 +144,7 @@ pub fn first_mover(store: &[u8], m: Meta, copying: bool, from: usize) -> Mover
         (entriesAt (decode (now store)) (oldBucket (decode (now store)))) from ⌝ }
     ensures { λ r. ⌜ Seeks (movable copying (decode (now (store .entry))))
         (entriesAt (decode (now (store .entry))) (oldBucket (decode (now (store .entry))))) r ⌝ }
+    ensures { λ r. ⌜ placeOf r < 40 * suc maxBlocks ⌝ }
 {
     let walk = walk_bucket(store, m, parent_of(m.max));
     let blocks = walk.blocks;

@@ -102,7 +102,7 @@ fn advance_by(change: Change, place: usize) -> SplitPlan
 }
 
 // The first entry of the old chain without a copy is copied, marked moved; without one copying ends. The search begins
-// at the place `from`.
+// at the place `from`, and the next one after the entry that is copied.
 fn step_copying(store: &[u8], m: Meta, from: usize, images: &mut [u8]) -> SplitPlan
     requires { ⌜ (Reads (now store) m) × (length (now images) ≡ 4096) ⌝ }
     requires { ⌜ (decode (now store) .job ≡ copying) × (From (decode (now store)) from) ⌝ }
@@ -118,7 +118,7 @@ fn step_copying(store: &[u8], m: Meta, from: usize, images: &mut [u8]) -> SplitP
     let copy = Entry { pair, moved: true };
     with_place(
         or_full(plan_put(store, m, m.max, copy, m.count, images)),
-        place,
+        place + 1,
     )
 }
 

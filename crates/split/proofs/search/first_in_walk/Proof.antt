@@ -1,8 +1,9 @@
 use mathlib.Core.Path.{_≡_, sym, _∙_, subst}
-use Prim.Native.Nat.{_-_, _≤_}
+use Prim.Native.Nat.{suc, _+_, _-_, _*_, _≤_, _<_}
 use native.Mathlib.Omega.{arith}
 use borrow.Author.Needs.{needs}
 use lib.ListN.{length}
+use Rattle.address.specs.Limits.{maxBlocks}
 use Rattle.page.specs.Entries.{entriesOf}
 use Rattle.page.specs.EntriesLaws.{length-entriesOf}
 use Rattle.page.specs.RuleLaws.{number-le}
@@ -52,21 +53,29 @@ few c =
     let l = c .page-on .result .now in
     omega (arith, length-entriesOf l, number-le l (c .page-on .ensures .sorted (s .pre .0 .1) .number))
 
-add-at : tie.Need-add-at Inv-loop μ-loop
-add-at c =
+-- the place is one of a walk's slots
+near : (c : tie.After-known-told Inv-loop μ-loop)
+    → c .before .before .before .before .before .before .before .loop .passed + c .before .found .given .0 .1 .0
+    < 40 * suc maxBlocks
+near c =
     let v = c .before in
     let p = v .before .before .before .before in
     let l = p .before .before in
-    let place = seeks-place (v .before .before .first-in-page .ensures) (v .found .given .1) .0 in
+    let place = seeks-place (v .before .before .first-in-page .ensures) (v .found .given .1) .inside in
     omega (arith, few p, place, l .loop .inv .few, l .before .before .pre .0 .0 .few, p .before .loop-test .taken)
+
+add-at : tie.Need-add-at Inv-loop μ-loop
+add-at c = omega (arith, near c)
 
 returns : tie.Need-returns Inv-loop μ-loop
 returns c =
     let v = c .before in
     let p = v .before .before .before .before in
-    let l = p .before .before in
-    page-found (l .before .before .pre .0 .0) (l .loop .inv) (p .before .loop-test .taken) (p .page-on .ensures)
-    (v .before .before .first-in-page .ensures) (v .found .given .1)
+    let l = p .before .before in (
+      page-found (l .before .before .pre .0 .0) (l .loop .inv) (p .before .loop-test .taken) (p .page-on .ensures)
+          (v .before .before .first-in-page .ensures) (v .found .given .1),
+      near c,
+    )
 
 enum-told : tie.Need-enum-told Inv-loop μ-loop
 enum-told c = search needs
@@ -103,7 +112,7 @@ loop-again c =
 returns-2 : tie.Need-returns-2 Inv-loop μ-loop
 returns-2 c =
     let l = c .before in
-    walk-end (l .before .before .pre .0 .0) (l .loop .inv) (c .loop-test .left)
+    (walk-end (l .before .before .pre .0 .0) (l .loop .inv) (c .loop-test .left), omega arith)
 
 pub first-in-walk-spec : {M : Type 1} → statement M
 first-in-walk-spec =

@@ -60,8 +60,11 @@ returns : tie.Need-returns
 returns c =
     let b = c .before .before .before .before .before .before in
     let a = b .before .before .before .args in
-    subst (λ (es : List Entry). Seeks (movable (a .copying) (decode (a .store .now))) es (c .first-in-walk .result))
-    (entries b) (c .first-in-walk .ensures)
+    let e = c .first-in-walk .ensures in (
+      subst (λ (es : List Entry). Seeks (movable (a .copying) (decode (a .store .now))) es (c .first-in-walk .result))
+          (entries b) (e .0),
+      e .1,
+    )
 
 pub first-mover-spec : {M : Type 1} → statement M
 first-mover-spec =

@@ -24,7 +24,7 @@ plan-cleared-requires : tie.Need-plan-cleared-requires
 plan-cleared-requires c κs =
     let t = c .before in
     let s = t .before .before .before .before .before in
-    let none = seeks-none (t .before .before .first-mover .ensures) (t .enum-told .given .1) in
+    let none = seeks-none (t .before .before .first-mover .ensures .0) (t .enum-told .given .1) in
     (s .pre .0, (s .pre .1 .0, none))
 
 advance-by-requires : tie.Need-advance-by-requires
@@ -39,7 +39,7 @@ returns c =
     let p = c .before .before .before in
     let t = p .before .before in
     let s = t .before .before .before .before .before in
-    let none = seeks-none (t .before .before .first-mover .ensures) (t .enum-told .given .1) in
+    let none = seeks-none (t .before .before .first-mover .ensures .0) (t .enum-told .given .1) in
     let x = decode (s .args .store .now) in (
       advances-as (advanced (p .plan-cleared .ensures)) (k .0) (k .1) (step-clears x (s .pre .1 .0) none),
       subst (Leads x) (sym (k .2)) (leads-start x),
@@ -51,7 +51,7 @@ clear-pair-requires c κs =
     let s = v .before .before .before .before .before in
     let r = s .pre .0 .0 in
     let e = v .mover .given .0 .0 in
-    let first = seeks-entry (v .before .before .first-mover .ensures) (v .mover .given .1) in
+    let first = seeks-entry (v .before .before .first-mover .ensures .0) (v .mover .given .1) in
     (s .pre .0, (clear-stands r (s .pre .1 .0) e first, clear-next r (s .pre .1 .0) e first))
 
 advance-by-requires-2 : tie.Need-advance-by-requires-2
@@ -68,12 +68,12 @@ returns-2 c =
     let s = v .before .before .before .before .before in
     let x = decode (s .args .store .now) in
     let at = v .mover .given .0 in
-    let found = v .before .before .first-mover .ensures in
+    let found = v .before .before .first-mover .ensures .0 in
     let first = seeks-entry found (v .mover .given .1) in (
       advances-as (advanced (p .clear-pair .ensures)) (k .0) (k .1) (step-clears x (s .pre .1 .0) first),
       subst (Leads x) (sym (k .2))
           (clear-leads x (s .pre .0 .0 .wf) (at .0) (s .pre .1 .0) first (at .1 .0)
-          (seeks-place found (v .mover .given .1) .1)),
+          (seeks-place found (v .mover .given .1) .first)),
     )
 
 pub step-clearing-spec : {M : Type 1} → statement M

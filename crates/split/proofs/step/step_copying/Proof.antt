@@ -1,10 +1,10 @@
-use mathlib.Core.Path.{sym, _∙_, subst}
+use mathlib.Core.Path.{sym, ap, _∙_, subst}
 use mathlib.Core.Bool.{true}
 use native.Mathlib.Omega.{arith}
 use borrow.Author.Needs.{needs}
 use Rattle.image.specs.Decode.{decode}
 use Rattle.plan.specs.Plan.{advanced}
-use Rattle.split.specs.Seek.{Leads}
+use Rattle.split.specs.Seek.{placeOf, Leads}
 use Rattle.split.specs.SeekLaws.{seeks-entry, seeks-place, seeks-none}
 use Rattle.split.specs.FromLaws.{leads-start, copy-leads}
 use Rattle.split.specs.StepLaws.{step-copies, places-advances, advances-as}
@@ -25,7 +25,7 @@ plan-copied-requires : tie.Need-plan-copied-requires
 plan-copied-requires c κs =
     let t = c .before in
     let s = t .before .before .before .before .before in
-    let none = seeks-none (t .before .before .first-mover .ensures) (t .enum-told .given .1) in
+    let none = seeks-none (t .before .before .first-mover .ensures .0) (t .enum-told .given .1) in
     (s .pre .0, (s .pre .1 .0, none))
 
 advance-by-requires : tie.Need-advance-by-requires
@@ -40,7 +40,7 @@ returns c =
     let p = c .before .before .before in
     let t = p .before .before in
     let s = t .before .before .before .before .before in
-    let none = seeks-none (t .before .before .first-mover .ensures) (t .enum-told .given .1) in
+    let none = seeks-none (t .before .before .first-mover .ensures .0) (t .enum-told .given .1) in
     let x = decode (s .args .store .now) in (
       advances-as (advanced (p .plan-copied .ensures)) (k .0) (k .1) (step-copies x (s .pre .1 .0) none),
       subst (Leads x) (sym (k .2)) (leads-start x),
@@ -52,11 +52,16 @@ plan-put-requires c κs =
     let s = v .before .before .before .before .before in
     let r = s .pre .0 .0 in
     let e = v .mover .given .0 .0 in
-    let first = seeks-entry (v .before .before .first-mover .ensures) (v .mover .given .1) in
+    let first = seeks-entry (v .before .before .first-mover .ensures .0) (v .mover .given .1) in
     ((r, omega arith, s .pre .0 .1), (copy-absent r (s .pre .1 .0) e first, copy-next r (s .pre .1 .0) e first))
 
 or-full-requires : tie.Need-or-full-requires
 or-full-requires c κs = search needs
+
+add-with-place : tie.Need-add-with-place
+add-with-place c =
+    let v = c .before .before .before .before .before .before .before in
+    omega (arith, v .before .before .first-mover .ensures .1, ap placeOf (v .mover .given .1))
 
 with-place-requires : tie.Need-with-place-requires
 with-place-requires c κs = search needs
@@ -72,14 +77,14 @@ returns-2 c =
     let s = v .before .before .before .before .before in
     let r = s .pre .0 .0 in
     let x = decode (s .args .store .now) in
-    let found = v .before .before .first-mover .ensures in
+    let found = v .before .before .first-mover .ensures .0 in
     let first = seeks-entry found (v .mover .given .1) in
     let at = v .mover .given .0 in
     let k = c .with-place .ensures in (
       advances-as (places-advances (p .plan-put .ensures)) (k .0 ∙ o .or-full .ensures .0)
           (k .1 ∙ o .or-full .ensures .1) (copy-step r (s .pre .1 .0) (at .0) first),
       subst (Leads x) (sym (k .2))
-          (copy-leads x (r .wf) (at .0) (s .pre .1 .0) first (at .1 .0) (seeks-place found (v .mover .given .1) .1)),
+          (copy-leads x (r .wf) (at .0) (s .pre .1 .0) first (at .1 .0) (seeks-place found (v .mover .given .1))),
     )
 
 pub step-copying-spec : {M : Type 1} → statement M
@@ -95,6 +100,7 @@ step-copying-spec =
     returns
     plan-put-requires
     or-full-requires
+    add-with-place
     with-place-requires
     same-length-2
     returns-2)
