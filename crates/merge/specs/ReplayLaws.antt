@@ -1,5 +1,5 @@
 -- The winner tree built and replayed: the nodes that are open at each turn, and what a finished tree says.
-use mathlib.Core.Path.{_≡_, refl, sym, ap, subst, _∙_}
+use mathlib.Core.Path.{_≡_, refl, sym, ap₂, subst, _∙_}
 use mathlib.Core.Logic.{_≢_}
 use mathlib.Core.Bool.{Bool, true, false}
 use mathlib.Core.List.{List}
@@ -68,55 +68,54 @@ module _ (keys marks : List ℕ) (n : ℕ) (tree : List ℕ) where
       let e : k ≡ 0 = omega arith in
       settled-more keys marks n tree (Above k) Nowhere (λ c b o a. above-none c b (rw e at a)) s
 
--- page p, of key x and mark y, goes up from node k: the nodes above it are open
-pub record Rising (keys marks : List ℕ) (n : ℕ) (tree : List ℕ) (k p x y : ℕ) : Type 0 where
+-- page p, of key x, goes up from node k: the nodes above it are open
+pub record Rising (keys marks : List ℕ) (n : ℕ) (tree : List ℕ) (k p x : ℕ) : Type 0 where
   pub node : (1 ≤ k) × (k < 2 * n)
   pub page : p ≡ getD tree k 0
   pub key : x ≡ getD keys p 0
-  pub mark : y ≡ getD marks p 0
   pub rest : Settled keys marks n tree (Above (k / 2))
 
-module _ {keys marks : List ℕ} {n : ℕ} {tree : List ℕ} {k p x y : ℕ} (few : n ≤ maxPages)
-    (r : Rising keys marks n tree k p x y) where
+module _ {keys marks : List ℕ} {n : ℕ} {tree : List ℕ} {k p x : ℕ} (few : n ≤ maxPages)
+    (r : Rising keys marks n tree k p x) where
   -- the sibling of node k is right, so that its page is in range
-  pub sibling-few : 1 < k → getD tree (k + 1 - 2 * (k % 2)) 0 < n
+  pub sibling-few : 1 < k → getD tree (4 * (k / 2) + 1 - k) 0 < n
   sibling-few l =
-      r .rest .few (k + 1 - 2 * (k % 2)) (omega (arith, l)) (omega (arith, l, r .node .1))
-      (not-above (k / 2) (k + 1 - 2 * (k % 2)) (omega (arith, l)))
+      r .rest .few (4 * (k / 2) + 1 - k) (omega (arith, l)) (omega (arith, l, r .node .1))
+      (not-above (k / 2) (4 * (k / 2) + 1 - k) (omega (arith, l)))
+
+  pub page-few : p < n
+  page-few =
+      omega (
+        arith,
+        r .page,
+        r .rest .few k (r .node .0) (r .node .1) (not-above (k / 2) k (omega (arith, r .node .0))),
+      )
 
   -- the page that is ahead goes up to the node above node k
-  rise : (w u v : ℕ) → u ≡ getD keys w 0 → v ≡ getD marks w 0 → 1 < k → Picked keys marks tree (k / 2) w
-      → Rising keys marks n (set tree (k / 2) w) (k / 2) w u v
-  rise w u v e f l picked =
+  rise : (w : ℕ) → 1 < k → Picked keys marks tree (k / 2) w
+      → Rising keys marks n (set tree (k / 2) w) (k / 2) w (getD keys w 0)
+  rise w l picked =
       record {
         node = (omega (arith, l), omega (arith, l, r .node .1));
         page = sym (getD-set-same tree (k / 2) w 0 (omega (arith, r .rest .size, r .node .1, few)));
-        key = e;
-        mark = f;
+        key = refl;
         rest =
             replayed-next keys marks n tree (k / 2) (omega (arith, l)) (omega (arith, r .node .1)) few (r .rest) w picked;
       }
 
-  module _ (l : 1 < k) (q : ℕ) (e : q ≡ getD tree (k + 1 - 2 * (k % 2)) 0) where
-    test : (t : Bool) → noLater x y (getD keys q 0) (getD marks q 0) ≡ t
-        → ahead keys marks (getD tree k 0) (getD tree (k + 1 - 2 * (k % 2)) 0) ≡ t
-    unfolding ahead
-    test t h =
-        let a : getD keys (getD tree k 0) 0 ≡ x = ap (λ (v : ℕ). getD keys v 0) (sym (r .page)) ∙ sym (r .key) in
-        let b : getD marks (getD tree k 0) 0 ≡ y = ap (λ (v : ℕ). getD marks v 0) (sym (r .page)) ∙ sym (r .mark) in
-        rw (a, b, sym e) h
+  module _ (l : 1 < k) (q : ℕ) (e : q ≡ getD tree (4 * (k / 2) + 1 - k) 0) where
+    test : (t : Bool) → ahead keys marks p q ≡ t
+        → ahead keys marks (getD tree k 0) (getD tree (4 * (k / 2) + 1 - k) 0) ≡ t
+    test t h = ap₂ (λ (a b : ℕ). ahead keys marks a b) (sym (r .page)) (sym e) ∙ h
 
-    pub rise-here : noLater x y (getD keys q 0) (getD marks q 0) ≡ true
-        → Rising keys marks n (set tree (k / 2) p) (k / 2) p x y
+    pub rise-here : ahead keys marks p q ≡ true → Rising keys marks n (set tree (k / 2) p) (k / 2) p x
     rise-here h =
-        rise p x y (r .key) (r .mark) l
-        (subst (Picked keys marks tree (k / 2)) (sym (r .page)) (here-picked keys marks tree k (test true h)))
+        subst (Rising keys marks n (set tree (k / 2) p) (k / 2) p) (sym (r .key))
+        (rise p l (subst (Picked keys marks tree (k / 2)) (sym (r .page)) (here-picked keys marks tree k (test true h))))
 
-    pub rise-side : noLater x y (getD keys q 0) (getD marks q 0) ≡ false
-        → Rising keys marks n (set tree (k / 2) q) (k / 2) q (getD keys q 0) (getD marks q 0)
-    rise-side h =
-        rise q (getD keys q 0) (getD marks q 0) refl refl l
-        (subst (Picked keys marks tree (k / 2)) (sym e) (side-picked keys marks tree k (test false h)))
+    pub rise-side : ahead keys marks p q ≡ false
+        → Rising keys marks n (set tree (k / 2) q) (k / 2) q (getD keys q 0)
+    rise-side h = rise q l (subst (Picked keys marks tree (k / 2)) (sym e) (side-picked keys marks tree k (test false h)))
 
   pub risen : k ≤ 1 → Won keys marks n tree
   risen l = replayed-won keys marks n tree (k / 2) (omega (arith, l)) (r .rest)

@@ -131,7 +131,7 @@ module _ (keys marks tree : List ℕ) (c : ℕ) where
   up = c / 2
 
   abbrev side : ℕ
-  side = c + 1 - 2 * (c % 2)
+  side = 4 * (c / 2) + 1 - c
 
   -- where c is the left one
   module _ (even : c % 2 ≡ 0) where
@@ -159,7 +159,7 @@ module _ (keys marks tree : List ℕ) (c : ℕ) where
   abbrev PickedAt : ℕ → Type 0
   PickedAt x = Picked keys marks tree up (getD tree x 0)
 
-  pub here-picked : ahead keys marks (getD tree c 0) (getD tree (c + 1 - 2 * (c % 2)) 0) ≡ true
+  pub here-picked : ahead keys marks (getD tree c 0) (getD tree (4 * (c / 2) + 1 - c) 0) ≡ true
       → Picked keys marks tree (c / 2) (getD tree c 0)
   here-picked h = go (ℕ-discrete (c % 2) 0)
     where
@@ -167,8 +167,8 @@ module _ (keys marks tree : List ℕ) (c : ℕ) where
       go (yes e) = subst PickedAt (left-is e) (lefts (even-test e true h))
       go (no e) = subst PickedAt (right-here e) (rights (odd-test e true h))
 
-  pub side-picked : ahead keys marks (getD tree c 0) (getD tree (c + 1 - 2 * (c % 2)) 0) ≡ false
-      → Picked keys marks tree (c / 2) (getD tree (c + 1 - 2 * (c % 2)) 0)
+  pub side-picked : ahead keys marks (getD tree c 0) (getD tree (4 * (c / 2) + 1 - c) 0) ≡ false
+      → Picked keys marks tree (c / 2) (getD tree (4 * (c / 2) + 1 - c) 0)
   side-picked h = go (ℕ-discrete (c % 2) 0)
     where
       go : Dec (c % 2 ≡ 0) → PickedAt side

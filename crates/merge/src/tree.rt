@@ -4,19 +4,21 @@ use crate::MAX_PAGES;
 ghost use mathlib.Core.Path.{_≡_};
 ghost use Prim.Native.Nat.{ℕ, _+_, _*_, _-_, _/_, _%_, _≤_, _<_};
 ghost use lib.ListN.{length, getD, replicate};
-ghost use Rattle.merge.specs.Tree.{maxPages, noLater, winner, Above, Settled, Won};
+ghost use Rattle.merge.specs.Tree.{maxPages, ahead, winner, Above, Settled, Won};
 
-// Whether a head of key `k` and mark `m` comes no later than one of key `l` and mark `o`.
-fn is_no_later(k: u64, m: u32, l: u64, o: u32) -> bool
-    ensures { λ r. ⌜ r ≡ noLater k m l o ⌝ }
+// Whether page `a`, whose key is `key`, is ahead of page `b`: its head comes no later.
+fn is_ahead(keys: &[u64; MAX_PAGES], marks: &[u32; MAX_PAGES], a: usize, key: u64, b: usize) -> bool
+    requires { ⌜ (a < maxPages) × (b < maxPages) × (key ≡ getD (now keys) a 0) ⌝ }
+    ensures { λ r. ⌜ r ≡ ahead (now (keys .entry)) (now (marks .entry)) a b ⌝ }
 {
-    if k == l {
-        return m <= o;
+    let other = keys[b];
+    if key == other {
+        return marks[a] <= marks[b];
     }
-    k < l
+    key < other
 }
 
-// Of the pages at the two nodes below node `k`, the one that is ahead: its head comes no later.
+// Of the pages at the two nodes below node `k`, the one that is ahead.
 fn winner_at(
     keys: &[u64; MAX_PAGES],
     marks: &[u32; MAX_PAGES],
@@ -29,7 +31,7 @@ fn winner_at(
 {
     let a = tree[2 * k];
     let b = tree[2 * k + 1];
-    if is_no_later(keys[a], marks[a], keys[b], marks[b]) {
+    if is_ahead(keys, marks, a, keys[a], b) {
         a
     } else {
         b
@@ -75,16 +77,8 @@ pub fn build_tree(
     tree
 }
 
-// The other of the two nodes that stand below the node above node `k`.
-fn sibling_of(k: usize) -> usize
-    requires { ⌜ (1 < k) × (k < 2 * maxPages) ⌝ }
-    ensures { λ r. ⌜ r ≡ k + 1 - 2 * (k % 2) ⌝ }
-{
-    k + 1 - 2 * (k % 2)
-}
-
-// Makes the nodes above leaf n + `j` right again, whose head has changed. The head that is ahead goes up with them, so
-// that no node waits for what was written at the one below it.
+// Makes the nodes above leaf n + `j` right again, whose head has changed. The page that is ahead goes up with them,
+// so that no node waits for what was written at the one below it; next to node k stands node 4 (k / 2) + 1 - k.
 pub fn replay(
     keys: &[u64; MAX_PAGES],
     marks: &[u32; MAX_PAGES],
@@ -98,18 +92,15 @@ pub fn replay(
 {
     let mut page = j;
     let mut key = keys[j];
-    let mut mark = marks[j];
     let mut k = n + j;
     while 1 < k {
-        let other = tree[sibling_of(k)];
-        let x = keys[other];
-        let y = marks[other];
-        if !is_no_later(key, mark, x, y) {
+        let up = k / 2;
+        let other = tree[4 * up + 1 - k];
+        if !is_ahead(keys, marks, page, key, other) {
             page = other;
-            key = x;
-            mark = y;
+            key = keys[other];
         }
-        k /= 2;
-        tree[k] = page;
+        tree[up] = page;
+        k = up;
     }
 }

@@ -1,6 +1,6 @@
 use mathlib.Core.Path.{sym, _∙_}
 use borrow.Author.Needs.{needs}
-use Rattle.merge.specs.Tree.{ahead, winner}
+use Rattle.merge.specs.Tree.{winner}
 use Rattle.merge.proofs.tree.winner_at.Statement.{statement}
 use Rattle.merge.proofs.tree.winner_at.Tie as tie
 
@@ -25,40 +25,22 @@ mul-b-2 c = search needs
 element-copy-out-b : tie.Need-element-copy-out-b
 element-copy-out-b c = search needs
 
-mul-is-no-later : tie.Need-mul-is-no-later
-mul-is-no-later c = search needs
+mul-is-ahead : tie.Need-mul-is-ahead
+mul-is-ahead c = search needs
 
-element-copy-out-is-no-later : tie.Need-element-copy-out-is-no-later
-element-copy-out-is-no-later c = search needs
+element-copy-out-is-ahead : tie.Need-element-copy-out-is-ahead
+element-copy-out-is-ahead c = search needs
 
-mul-is-no-later-2 : tie.Need-mul-is-no-later-2
-mul-is-no-later-2 c = search needs
-
-element-copy-out-is-no-later-2 : tie.Need-element-copy-out-is-no-later-2
-element-copy-out-is-no-later-2 c = search needs
-
-mul-is-no-later-3 : tie.Need-mul-is-no-later-3
-mul-is-no-later-3 c = search needs
-
-element-copy-out-is-no-later-3 : tie.Need-element-copy-out-is-no-later-3
-element-copy-out-is-no-later-3 c = search needs
-
-mul-is-no-later-4 : tie.Need-mul-is-no-later-4
-mul-is-no-later-4 c = search needs
-
-element-copy-out-is-no-later-4 : tie.Need-element-copy-out-is-no-later-4
-element-copy-out-is-no-later-4 c = search needs
-
-is-no-later-requires : tie.Need-is-no-later-requires
-is-no-later-requires c κs = search needs
+is-ahead-requires : tie.Need-is-ahead-requires
+is-ahead-requires c κs = search needs
 
 returns : tie.Need-returns
-unfolding winner ahead
-returns c = rw (sym (c .before .is-no-later .ensures) ∙ c .if1 .taken)
+unfolding winner
+returns c = rw (sym (c .before .is-ahead .ensures) ∙ c .if1 .taken)
 
 returns-2 : tie.Need-returns-2
-unfolding winner ahead
-returns-2 c = rw (sym (c .before .is-no-later .ensures) ∙ c .if1 .left)
+unfolding winner
+returns-2 c = rw (sym (c .before .is-ahead .ensures) ∙ c .if1 .left)
 
 pub winner-at-spec : {M : Type 1} → statement M
 winner-at-spec =
@@ -71,14 +53,8 @@ winner-at-spec =
     add-b
     mul-b-2
     element-copy-out-b
-    mul-is-no-later
-    element-copy-out-is-no-later
-    mul-is-no-later-2
-    element-copy-out-is-no-later-2
-    mul-is-no-later-3
-    element-copy-out-is-no-later-3
-    mul-is-no-later-4
-    element-copy-out-is-no-later-4
-    is-no-later-requires
+    mul-is-ahead
+    element-copy-out-is-ahead
+    is-ahead-requires
     returns
     returns-2)
