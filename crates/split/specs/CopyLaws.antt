@@ -1,10 +1,9 @@
 -- An entry that is copied, and one that is cleared: what their planners ask, and the steps that they make.
-use mathlib.Core.Path.{_≡_, refl, sym, ap, _∙_}
-use mathlib.Core.Bool.{Bool, true, false}
+use mathlib.Core.Path.{_≡_, sym, ap, _∙_}
+use mathlib.Core.Bool.{false}
 use mathlib.Core.List.{List}
 use mathlib.Core.Option.{some}
 use Prim.Native.Nat.{ℕ}
-use native.Mathlib.Omega.{arith}
 use Rattle.lists.specs.Lists.{any, find}
 use Rattle.lists.specs.ListsLaws.{and-right, not-yes, find-yes}
 use Rattle.page.specs.declared.Entry.{Entry}
@@ -15,7 +14,6 @@ use Rattle.model.specs.Held.{count}
 use Rattle.model.specs.Steps.{next, orFull, moves, toCopy, step}
 use Rattle.model.specs.WellFormed.{WF}
 use Rattle.model.specs.ViewLaws.{movedEntry}
-use Rattle.model.specs.HeldLaws.{found-stands, stands-none}
 use Rattle.model.specs.StepLaws.{step-wf}
 use Rattle.image.specs.declared.Meta.{Meta}
 use Rattle.image.specs.Decode.{decode}
@@ -54,18 +52,6 @@ module _ {s : List ℕ} {m : Meta} (r : Reads s m) where
 
   module _ (job : decode s .job ≡ clearing) (e : Entry)
       (first : find (moves (decode s)) (entriesAt (decode s) (oldBucket (decode s))) ≡ some e) where
-    pub clear-stands : any (is (e .pair)) (entriesAt (decode s) (oldBucket (decode s))) ≡ true
-    clear-stands = go (any (is (e .pair)) (entriesAt x (oldBucket x))) refl
-      where
-        go : (b : Bool) → any (is (e .pair)) (entriesAt x (oldBucket x)) ≡ b → b ≡ true
-        go true q = refl
-        go false q =
-            absurd (omega (
-              arith,
-              found-stands x (moves x) (oldBucket x) e first,
-              stands-none x (e .pair) (oldBucket x) q,
-            ))
-
     pub clear-next : (WF (cut (e .pair) (oldBucket (decode s)) (decode s)))
         × (count (cut (e .pair) (oldBucket (decode s)) (decode s)) ≡ m .count)
     clear-next = next-ok (cut (e .pair) (oldBucket x) x) (step-clears x job first)

@@ -1,22 +1,29 @@
 -- Whether an entry is left to move, as code tests it, and the search for one among a page's slots.
-use mathlib.Core.Path.{_≡_, sym, ap, _∙_}
+use mathlib.Core.Path.{_≡_, refl, sym, ap, _∙_, subst}
 use mathlib.Core.Logic.{_≢_}
 use mathlib.Core.Bool.{Bool, true, false, not, _&&_}
-use mathlib.Core.List.{List}
+use mathlib.Core.List.{List, [], _∷_}
 use mathlib.Core.Option.{some}
-use Prim.Native.Nat.{ℕ, _+_, _≤_, _<_}
+use Prim.Native.Nat.{ℕ, zero, suc, _+_, _≤_, _<_}
 use native.Mathlib.Omega.{arith}
 use borrow.Author.Tests.{eq-eqb, ne-eqb}
 use lib.Dec.{eqb}
-use lib.ListN.{length, take}
+use lib.ListN.{length, getD, take}
 use Rattle.lists.specs.Lists.{any}
 use Rattle.address.specs.Address.{bucketOf}
 use Rattle.endian.specs.Endian.{u16At}
+use Rattle.page.specs.declared.Pair.{Pair}
 use Rattle.page.specs.declared.Entry.{Entry}
-use Rattle.page.specs.Pair.{is}
+use Rattle.page.specs.Pair.{is, before, ascending}
+use Rattle.page.specs.PairLaws.{same-eq, before-irrefl}
+use Rattle.page.specs.SublistLaws.{each-getD}
+use Rattle.page.specs.AscendingLaws.{ascending-head, ascending-tail}
+use Rattle.page.specs.Places.{placeOf}
+use Rattle.page.specs.Rule.{orderOk}
+use Rattle.page.specs.Allowed.{Sorted}
 use Rattle.page.specs.Entries.{entryAt, entriesOf}
 use Rattle.page.specs.EntriesLaws.{length-entriesOf, getD-entriesOf}
-use Rattle.model.specs.Index.{Index, chain, entriesAt, newBucket}
+use Rattle.model.specs.Index.{Index, chain, entriesAt, bucket, newBucket}
 use Rattle.model.specs.Steps.{moves}
 use Rattle.image.specs.declared.Meta.{Meta}
 use Rattle.image.specs.Decode.{blockOf, decode}
@@ -34,7 +41,7 @@ use Rattle.view.specs.ChainLaws.{blocks-within, blocks-pages, walks-blocks, wal
 use Rattle.view.specs.HeldLaws.{isFound-findAt}
 use Rattle.split.specs.declared.Mover.{Mover}
 use Rattle.split.specs.Mover.{movable, NewChain}
-use Rattle.split.specs.Seek.{Before, Seeks, sought, nothing}
+use Rattle.split.specs.Seek.{Before, Seeks, sought, nothing, foundOn}
 use Rattle.split.specs.SeekLaws.{before-find, before-all, before-next}
 
 -- ---- the walk along the new chain
@@ -94,19 +101,49 @@ module _ {s : List ℕ} {m : Meta} (r : Reads s m) (e : Entry) where
         ∙ ap isFound (sym (g ∙ ap (λ (ks : List ℕ). findIn s ks (e .pair)) (h .blocks)
         ∙ find-read r (newBucket x) (new-made r) (e .pair)))))
 
+-- another entry of its pair is as much to move
+pub movable-same : (c : Bool) (x : Index) (e : Entry) → movable c x e ≡ true → (d : Entry) → is (e .pair) d ≡ true
+    → movable c x d ≡ true
+movable-same true x e h d q =
+    subst
+    (λ (p : Pair). eqb (bucket x p) (newBucket x) && not (any (is p) (entriesAt x (newBucket x))) ≡ true)
+    (same-eq (e .pair) (d .pair) q) h
+movable-same false x e h d q =
+    subst (λ (p : Pair). eqb (bucket x p) (newBucket x) ≡ true) (same-eq (e .pair) (d .pair) q) h
+
 -- ---- the slots of a page, from slot i on
+
+-- an entry of an ascending list stands at its pair's place
+place-at : (es : List Entry) (k : ℕ) (d : Entry) → ascending (λ (e : Entry). e .pair) es ≡ true → k < length es
+    → placeOf (getD es k d .pair) es ≡ k
+unfolding placeOf
+place-at [] k d a l = absurd (omega arith)
+place-at (e ∷ es) zero d a l = rw (before-irrefl (e .pair)) refl
+place-at (e ∷ es) (suc k) d a l =
+    let up : before (e .pair) (getD es k d .pair) ≡ true =
+    each-getD (λ f. before (e .pair) (f .pair) ≡ true) es k d (ascending-head (λ (f : Entry). f .pair) e es a)
+    (omega arith) in
+    rw up (ap suc (place-at es k d (ascending-tail (λ (f : Entry). f .pair) e es a) (omega arith)))
 
 module _ (t : Entry → Bool) (l : List ℕ) (i : ℕ) where
   module _ (more : i < u16At l 0) where
     inList : i < length (entriesOf l)
     inList = omega (arith, length-entriesOf l)
 
-    pub slot-here : Before t (entriesOf l) i → t (entryAt l i) ≡ true
-        → Seeks t (entriesOf l) (Mover.At (entryAt l i) i)
+    pub slot-here : {b n : ℕ} → Before t (entriesOf l) i → t (entryAt l i) ≡ true
+        → Seeks t (entriesOf l) (Mover.At (entryAt l i) i b n)
     slot-here z h =
         let g = getD-entriesOf l i (entryAt l i) more in
         let first = find-here t (entriesOf l) i (entryAt l i) inList (ap t g ∙ h) ∙ ap some g in
         sought {k = i} (before-find t (entriesOf l) i z ∙ first) (record { inside = inList; here = g; first = z })
+
+    -- a search of the sorted page for its pair finds it there
+    pub slot-found : Sorted l → (b : ℕ) → foundOn b (entriesOf l) (entryAt l i .pair) ≡ Found.At b i
+    unfolding orderOk
+    slot-found sorted b =
+        ap (Found.At b)
+        (ap (λ (e : Entry). placeOf (e .pair) (entriesOf l)) (sym (getD-entriesOf l i (entryAt l i) more))
+        ∙ place-at (entriesOf l) i (entryAt l i) (sorted .order) inList)
 
     pub slot-later : Before t (entriesOf l) i → t (entryAt l i) ≡ false → Before t (entriesOf l) (i + 1)
     slot-later z h =

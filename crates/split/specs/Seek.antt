@@ -6,9 +6,12 @@ use mathlib.Core.Option.{none, some}
 use Prim.Native.Nat.{ℕ, _<_}
 use lib.ListN.{length, getD, take}
 use Rattle.lists.specs.Lists.{tally, find}
+use Rattle.page.specs.declared.Pair.{Pair}
 use Rattle.page.specs.declared.Entry.{Entry}
+use Rattle.page.specs.Places.{placeOf}
 use Rattle.model.specs.Index.{Job, copying, clearing, Index, entriesAt, oldBucket}
 use Rattle.model.specs.Steps.{next, step}
+use Rattle.chain.specs.declared.Found.{Found}
 use Rattle.split.specs.declared.Mover.{Mover}
 use Rattle.split.specs.Mover.{movable}
 
@@ -24,13 +27,22 @@ pub record Stands (t : Entry → Bool) (es : List Entry) (e : Entry) (k : ℕ) :
 
 -- the first entry that passes, and its place
 pub data Seeks (t : Entry → Bool) (es : List Entry) : Mover → Type 0 where
-  sought : {e : Entry} {k : ℕ} → find t es ≡ some e → Stands t es e k → Seeks t es (Mover.At e k)
+  sought : {e : Entry} {k b n : ℕ} → find t es ≡ some e → Stands t es e k → Seeks t es (Mover.At e k b n)
   nothing : find t es ≡ none → Seeks t es Mover.Nothing
 
 -- its place, or 0
-abbrev pub placeOf : Mover → ℕ
-placeOf (Mover.At e k) = k
-placeOf Mover.Nothing = 0
+abbrev pub moverPlace : Mover → ℕ
+moverPlace (Mover.At e k b n) = k
+moverPlace Mover.Nothing = 0
+
+-- its block and slot are where f finds its pair
+pub data Located (f : Pair → Found) : Mover → Type 0 where
+  located : {e : Entry} {k b n : ℕ} → f (e .pair) ≡ Found.At b n → Located f (Mover.At e k b n)
+  nowhere : Located f Mover.Nothing
+
+-- where a pair is found that stands among the entries of block b
+abbrev pub foundOn : (b : ℕ) → List Entry → Pair → Found
+foundOn b es p = Found.At b (placeOf p es)
 
 -- the job whose steps copy; clear
 abbrev pub jobOf : (copying : Bool) → Job

@@ -10,10 +10,12 @@ use lib.ListN.{length, getD, take, drop, take-append-drop, length-append, List·
 use lib.Seq.{take-all, take-suc, take-append-le, take-append-add, getD-append-add}
 use Rattle.lists.specs.Lists.{b2n, tally, find}
 use Rattle.lists.specs.ListsLaws.{tally-append}
+use Rattle.page.specs.declared.Pair.{Pair}
 use Rattle.page.specs.declared.Entry.{Entry}
 use Rattle.frame.specs.ListsLaws.{find-zero, find-left, find-right}
+use Rattle.chain.specs.declared.Found.{Found}
 use Rattle.split.specs.declared.Mover.{Mover}
-use Rattle.split.specs.Seek.{Before, Stands, Seeks, sought, nothing}
+use Rattle.split.specs.Seek.{Before, Stands, Seeks, sought, nothing, Located, located, nowhere}
 
 module _ (t : Entry → Bool) where
   -- what is not before the place is after it
@@ -49,8 +51,8 @@ module _ (t : Entry → Bool) where
       ap (λ (n : ℕ). tally t (take n es)) e ∙ before-part bs es fs k (omega arith)
 
   -- what was found among them was found in all
-  pub sought-part : (bs es fs : List Entry) (e : Entry) (k : ℕ) → tally t bs ≡ 0 → Seeks t es (Mover.At e k)
-      → Seeks t (bs ++ (es ++ fs)) (Mover.At e (length bs + k))
+  pub sought-part : (bs es fs : List Entry) (e : Entry) (k : ℕ) {b n : ℕ} → tally t bs ≡ 0
+      → Seeks t es (Mover.At e k b n) → Seeks t (bs ++ (es ++ fs)) (Mover.At e (length bs + k) b n)
   sought-part bs es fs e k z (sought f s) =
       sought {k = length bs + k} (find-right t bs (es ++ fs) (find-zero t bs z) ∙ find-left t es fs e f)
       (record {
@@ -65,19 +67,19 @@ module _ (t : Entry → Bool) where
 -- ---- what was found
 
 module _ {t : Entry → Bool} {es : List Entry} {r : Mover} (found : Seeks t es r) where
-  pub seeks-at : {e : Entry} {k : ℕ} → r ≡ Mover.At e k → Seeks t es (Mover.At e k)
+  pub seeks-at : {e : Entry} {k b n : ℕ} → r ≡ Mover.At e k b n → Seeks t es (Mover.At e k b n)
   seeks-at h = subst (Seeks t es) h found
 
-  pub seeks-entry : {e : Entry} {k : ℕ} → r ≡ Mover.At e k → find t es ≡ some e
-  seeks-entry {e} {k} h = go (subst (Seeks t es) h found)
+  pub seeks-entry : {e : Entry} {k b n : ℕ} → r ≡ Mover.At e k b n → find t es ≡ some e
+  seeks-entry {e} {k} {b} {n} h = go (subst (Seeks t es) h found)
     where
-      go : Seeks t es (Mover.At e k) → find t es ≡ some e
+      go : Seeks t es (Mover.At e k b n) → find t es ≡ some e
       go (sought f s) = f
 
-  pub seeks-place : {e : Entry} {k : ℕ} → r ≡ Mover.At e k → Stands t es e k
-  seeks-place {e} {k} h = go (subst (Seeks t es) h found)
+  pub seeks-place : {e : Entry} {k b n : ℕ} → r ≡ Mover.At e k b n → Stands t es e k
+  seeks-place {e} {k} {b} {n} h = go (subst (Seeks t es) h found)
     where
-      go : Seeks t es (Mover.At e k) → Stands t es e k
+      go : Seeks t es (Mover.At e k b n) → Stands t es e k
       go (sought f s) = s
 
   pub seeks-none : r ≡ Mover.Nothing → find t es ≡ none
@@ -85,3 +87,18 @@ module _ {t : Entry → Bool} {es : List Entry} {r : Mover} (found : Seeks t es 
     where
       go : Seeks t es Mover.Nothing → find t es ≡ none
       go (nothing f) = f
+
+module _ {f : Pair → Found} {r : Mover} (found : Located f r) where
+  pub located-at : {e : Entry} {k b n : ℕ} → r ≡ Mover.At e k b n → f (e .pair) ≡ Found.At b n
+  located-at {e} {k} {b} {n} h = go (subst (Located f) h found)
+    where
+      go : Located f (Mover.At e k b n) → f (e .pair) ≡ Found.At b n
+      go (located q) = q
+
+  -- where another search finds the same
+  pub located-as : (g : Pair → Found) → ((p : Pair) → f p ≡ g p) → Located g r
+  located-as g same = go found
+    where
+      go : {q : Mover} → Located f q → Located g q
+      go (located {e = e} q) = located (sym (same (e .pair)) ∙ q)
+      go nowhere = nowhere

@@ -8,10 +8,15 @@ use page::Entry;
 use plan::Advance;
 use store::Change;
 
-// The first entry of the old chain that is left to copy or to clear, and its place: a place is a number of entries
-// from the chain's start.
+// The first entry of the old chain that is left to copy or to clear, its place, which is a number of entries from the
+// chain's start, and its block and slot.
 pub enum Mover {
-    At { entry: Entry, place: usize },
+    At {
+        entry: Entry,
+        place: usize,
+        block: u32,
+        slot: u32,
+    },
     Nothing,
 }
 

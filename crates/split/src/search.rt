@@ -21,10 +21,12 @@ ghost use Rattle.page.specs.Entries.{entriesOf};
 ghost use Rattle.page.specs.Allowed.{Sorted};
 ghost use Rattle.model.specs.Index.{entriesAt, oldBucket};
 ghost use Rattle.image.specs.Decode.{decode};
+ghost use Rattle.chain.specs.Search.{findIn};
 ghost use Rattle.chain.specs.Within.{entriesOn, PagesOk, Within};
 ghost use Rattle.view.specs.Reads.{Reads};
+ghost use Rattle.view.specs.Places.{findAt};
 ghost use Rattle.split.specs.Mover.{movable, Copies};
-ghost use Rattle.split.specs.Seek.{Before, Seeks, placeOf};
+ghost use Rattle.split.specs.Seek.{Before, Seeks, moverPlace, Located, foundOn};
 
 // Where the step copies, the walk along the new chain, in which copies are looked for.
 fn walk_copies(store: &[u8], m: Meta, copying: bool) -> Walk
@@ -68,9 +70,10 @@ fn is_movable(
     }
 }
 
-// The first entry of a page that a step moves; before slot `from` there is none.
+// The first entry of the page in a block that a step moves; before slot `from` there is none.
 fn first_in_page(
     page: &[u8],
+    block: u32,
     store: &[u8],
     copies: &[u32; MAX_BLOCKS + 1],
     number: usize,
@@ -82,13 +85,19 @@ fn first_in_page(
         × (Copies copying (decode (now store)) (now copies) number) ⌝ }
     requires { ⌜ Before (movable copying (decode (now store))) (entriesOf (now page)) from ⌝ }
     ensures { λ r. ⌜ Seeks (movable copying (decode (now (store .entry)))) (entriesOf (now (page .entry))) r ⌝ }
+    ensures { λ r. ⌜ Located (foundOn block (entriesOf (now (page .entry)))) r ⌝ }
 {
     let n = count_entries(page);
     let mut i = from;
     while i < n {
         let entry = get_entry(page, i);
         if is_movable(store, copies, number, m, copying, entry) {
-            return Mover::At { entry, place: i };
+            return Mover::At {
+                entry,
+                place: i,
+                block,
+                slot: i as u32,
+            };
         }
         i += 1;
     }
@@ -119,16 +128,28 @@ fn first_in_walk(
         (bind (take count (now blocks)) (entriesOn (now store))) from ⌝ }
     ensures { λ r. ⌜ Seeks (movable copying (decode (now (store .entry))))
         (bind (take count (now (blocks .entry))) (entriesOn (now (store .entry)))) r ⌝ }
-    ensures { λ r. ⌜ placeOf r < 40 * suc maxBlocks ⌝ }
+    ensures { λ r. ⌜ Located (findIn (now (store .entry)) (take count (now (blocks .entry)))) r ⌝ }
+    ensures { λ r. ⌜ moverPlace r < 40 * suc maxBlocks ⌝ }
 {
     let mut passed = 0;
     let mut i = 0;
     while i < count {
         let page = page_on(store, blocks, count, i);
-        let found = first_in_page(page, store, copies, number, m, copying, past(from, passed));
-        if let Mover::At { entry, place } = found {
+        let start = past(from, passed);
+        let found = first_in_page(page, blocks[i], store, copies, number, m, copying, start);
+        if let Mover::At {
+            entry,
+            place,
+            block,
+            slot,
+        } = found {
             let at = passed + place;
-            return Mover::At { entry, place: at };
+            return Mover::At {
+                entry,
+                place: at,
+                block,
+                slot,
+            };
         }
         passed += count_entries(page);
         i += 1;
@@ -144,7 +165,8 @@ pub fn first_mover(store: &[u8], m: Meta, copying: bool, from: usize) -> Mover
         (entriesAt (decode (now store)) (oldBucket (decode (now store)))) from ⌝ }
     ensures { λ r. ⌜ Seeks (movable copying (decode (now (store .entry))))
         (entriesAt (decode (now (store .entry))) (oldBucket (decode (now (store .entry))))) r ⌝ }
-    ensures { λ r. ⌜ placeOf r < 40 * suc maxBlocks ⌝ }
+    ensures { λ r. ⌜ Located (findAt (decode (now (store .entry))) (oldBucket (decode (now (store .entry))))) r ⌝ }
+    ensures { λ r. ⌜ moverPlace r < 40 * suc maxBlocks ⌝ }
 {
     let walk = walk_bucket(store, m, parent_of(m.max));
     let blocks = walk.blocks;

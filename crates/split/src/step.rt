@@ -6,8 +6,6 @@ use crate::job::plan_cleared;
 use crate::job::plan_copied;
 use crate::search::first_mover;
 use address::parent_of;
-use chain::Found;
-use draft::new_draft;
 use image::Meta;
 use insertion::put::plan_put;
 use model::Phase;
@@ -21,20 +19,19 @@ use plan::halt;
 use reader::job::read_job;
 use removal::plan_cut;
 use store::Change;
-use view::chains::find_in;
 ghost use mathlib.Core.Path.{_≡_};
 ghost use mathlib.Core.Bool.{true};
 ghost use lib.ListN.{length};
-ghost use Rattle.lists.specs.Lists.{any};
-ghost use Rattle.page.specs.Pair.{is};
-ghost use Rattle.model.specs.Index.{Index, idle, copying, clearing, entriesAt, oldBucket};
+ghost use Rattle.model.specs.Index.{Index, idle, copying, clearing, oldBucket};
 ghost use Rattle.model.specs.Pages.{cut};
 ghost use Rattle.model.specs.Held.{count, wanted};
 ghost use Rattle.model.specs.Steps.{step};
 ghost use Rattle.model.specs.WellFormed.{Laid, WF};
 ghost use Rattle.image.specs.Layout.{metaOf};
 ghost use Rattle.image.specs.Decode.{decode};
+ghost use Rattle.chain.specs.declared.Found.{Found};
 ghost use Rattle.view.specs.Reads.{Reads};
+ghost use Rattle.view.specs.Places.{findAt};
 ghost use Rattle.plan.specs.declared.Advance.{Advance};
 ghost use Rattle.plan.specs.Plan.{Plans, Advances};
 ghost use Rattle.split.specs.Seek.{From, Leads};
@@ -111,7 +108,13 @@ fn step_copying(store: &[u8], m: Meta, from: usize, images: &mut [u8]) -> SplitP
     ensures { λ r. ⌜ Leads (decode (now (store .entry))) (r .place) ⌝ }
 {
     let mover = first_mover(store, m, true, from);
-    let Mover::At { entry, place } = mover else {
+    let Mover::At {
+        entry,
+        place,
+        block: _,
+        slot: _,
+    } = mover
+    else {
         return advance_by(plan_copied(store, m, images), 0);
     };
     let pair = entry.pair;
@@ -122,21 +125,25 @@ fn step_copying(store: &[u8], m: Meta, from: usize, images: &mut [u8]) -> SplitP
     )
 }
 
-// Takes the pair out of the old chain, in which it stands.
-fn clear_pair(store: &[u8], m: Meta, pair: Pair, images: &mut [u8]) -> Change
+// Takes the pair out of the old chain, where it stands at `block` and `slot`.
+fn clear_pair(store: &[u8], m: Meta, pair: Pair, block: u32, slot: u32, images: &mut [u8]) -> Change
     requires { ⌜ (Reads (now store) m) × (length (now images) ≡ 4096) ⌝ }
-    requires { ⌜ any (is pair) (entriesAt (decode (now store)) (oldBucket (decode (now store)))) ≡ true ⌝ }
+    requires { ⌜ findAt (decode (now store)) (oldBucket (decode (now store))) pair ≡ Found.At block slot ⌝ }
     requires { ⌜ (WF (cut pair (oldBucket (decode (now store))) (decode (now store))))
         × (count (cut pair (oldBucket (decode (now store))) (decode (now store))) ≡ m .count) ⌝ }
     ensures { λ r. ⌜ Plans (now (store .entry)) r (now (images .exit))
         (cut pair (oldBucket (decode (now (store .entry)))) (decode (now (store .entry)))) ⌝ }
 {
-    let old = parent_of(m.max);
-    let found = find_in(store, m, old, pair);
-    let Found::At { block, slot } = found else {
-        return new_draft();
-    };
-    plan_cut(store, m, old, pair, block, slot, m.count, images)
+    plan_cut(
+        store,
+        m,
+        parent_of(m.max),
+        pair,
+        block,
+        slot,
+        m.count,
+        images,
+    )
 }
 
 // The first entry of the new bucket in the old chain is taken away; without one clearing ends. The search begins at the
@@ -149,11 +156,17 @@ fn step_clearing(store: &[u8], m: Meta, from: usize, images: &mut [u8]) -> Split
     ensures { λ r. ⌜ Leads (decode (now (store .entry))) (r .place) ⌝ }
 {
     let mover = first_mover(store, m, false, from);
-    let Mover::At { entry, place } = mover else {
+    let Mover::At {
+        entry,
+        place,
+        block,
+        slot,
+    } = mover
+    else {
         return advance_by(plan_cleared(store, m, images), 0);
     };
     let pair = entry.pair;
-    advance_by(clear_pair(store, m, pair, images), place)
+    advance_by(clear_pair(store, m, pair, block, slot, images), place)
 }
 
 // Plans one step of the pending job, or the begin of a split that is wanted. A job's search begins at the place `from`.

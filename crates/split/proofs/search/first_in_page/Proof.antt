@@ -6,18 +6,20 @@ use Rattle.page.specs.declared.Entry.{Entry}
 use Rattle.page.specs.Entries.{entryAt, entriesOf}
 use Rattle.page.specs.RuleLaws.{number-le}
 use Rattle.image.specs.Decode.{decode}
+use Rattle.chain.specs.declared.Found.{Found}
 use Rattle.split.specs.declared.Mover.{Mover}
 use Rattle.split.specs.Mover.{movable}
-use Rattle.split.specs.Seek.{Before, Seeks}
-use Rattle.split.specs.MoverLaws.{slot-here, slot-later, slot-end}
+use Rattle.split.specs.Seek.{Before, Seeks, located, nowhere, foundOn}
+use Rattle.split.specs.MoverLaws.{slot-here, slot-found, slot-later, slot-end}
 use Rattle.split.proofs.search.first_in_page.Statement.{statement}
 use Rattle.split.proofs.search.first_in_page.Tie as tie
 
 abbrev Inv-loop : tie.InvT-loop
-Inv-loop page store copies number m copying from n i₀ i = Before (movable copying (decode store)) (entriesOf page) i
+Inv-loop page block store copies number m copying from n i₀ i =
+    Before (movable copying (decode store)) (entriesOf page) i
 
 abbrev μ-loop : tie.MeasureT-loop
-μ-loop page store copies number m copying from n i₀ i = n - i
+μ-loop page block store copies number m copying from n i₀ i = n - i
 
 count-entries-requires : tie.Need-count-entries-requires Inv-loop μ-loop
 count-entries-requires c κs = omega (arith, c .before .before .pre .0 .0 .whole)
@@ -48,16 +50,29 @@ tested c =
     let a = c .before .before .before .before .before .before .before .args in
     c .is-movable .ensures ∙ ap (movable (a .copying) (decode (a .store .now))) (c .before .get-entry .ensures)
 
+cast-t14 : tie.Need-cast-t14 Inv-loop μ-loop
+cast-t14 c =
+    let l = c .before .before .before in
+    let s = l .before .before .before .before .before in
+    omega (arith, inside l, number-le (s .args .page .now) (s .pre .0 .0 .number))
+
 returns : tie.Need-returns Inv-loop μ-loop
 returns c =
     let v = c .before in
     let l = v .before .before .before in
-    let a = l .before .before .before .before .args in
+    let s = l .before .before .before .before in
+    let a = s .args in
+    let es = entriesOf (a .page .now) in
     let t = movable (a .copying) (decode (a .store .now)) in
-    subst (λ (e : Entry). Seeks t (entriesOf (a .page .now)) (Mover.At e (l .loop .i)))
-    (sym (v .before .get-entry .ensures))
-    (slot-here t (a .page .now) (l .loop .i) (inside (v .before .before)) (l .loop .inv)
-    (sym (tested v) ∙ c .if1 .taken))
+    let more = inside (v .before .before) in
+    let k = l .loop .i in
+    let read = sym (v .before .get-entry .ensures) in (
+      subst (λ (e : Entry). Seeks t es (Mover.At e k (a .block) k)) read
+          (slot-here t (a .page .now) k more (l .loop .inv) (sym (tested v) ∙ c .if1 .taken)),
+      located
+          (subst (λ (e : Entry). foundOn (a .block) es (e .pair) ≡ Found.At (a .block) k) read
+          (slot-found t (a .page .now) k more (s .pre .0 .0) (a .block))),
+    )
 
 add-i : tie.Need-add-i Inv-loop μ-loop
 add-i c = omega arith
@@ -76,9 +91,11 @@ loop-again c =
 returns-2 : tie.Need-returns-2 Inv-loop μ-loop
 returns-2 c =
     let l = c .before in
-    let a = l .before .before .before .before .args in
-    slot-end (movable (a .copying) (decode (a .store .now))) (a .page .now) (l .loop .i) (l .loop .inv)
-    (omega (arith, c .loop-test .left, l .before .count-entries .ensures))
+    let a = l .before .before .before .before .args in (
+      slot-end (movable (a .copying) (decode (a .store .now))) (a .page .now) (l .loop .i) (l .loop .inv)
+          (omega (arith, c .loop-test .left, l .before .count-entries .ensures)),
+      nowhere,
+    )
 
 pub first-in-page-spec : {M : Type 1} → statement M
 first-in-page-spec =
@@ -90,6 +107,7 @@ first-in-page-spec =
     loop-holds
     get-entry-requires
     is-movable-requires
+    cast-t14
     returns
     add-i
     loop-less

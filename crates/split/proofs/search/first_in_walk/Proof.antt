@@ -3,15 +3,18 @@ use Prim.Native.Nat.{suc, _+_, _-_, _*_, _≤_, _<_}
 use native.Mathlib.Omega.{arith}
 use borrow.Author.Needs.{needs}
 use lib.ListN.{length}
+use Rattle.lists.specs.ListsLaws.{find-yes}
 use Rattle.address.specs.Limits.{maxBlocks}
 use Rattle.page.specs.Entries.{entriesOf}
 use Rattle.page.specs.EntriesLaws.{length-entriesOf}
 use Rattle.page.specs.RuleLaws.{number-le}
 use Rattle.image.specs.Decode.{decode}
 use Rattle.split.specs.Mover.{movable}
-use Rattle.split.specs.Seek.{Before}
-use Rattle.split.specs.SeekLaws.{seeks-place}
-use Rattle.split.proofs.Searching.{Behind, behind-start, page-start, page-found, page-later, walk-end}
+use Rattle.split.specs.Seek.{Before, nowhere}
+use Rattle.split.specs.SeekLaws.{seeks-entry, seeks-place}
+use Rattle.split.specs.MoverLaws.{movable-same}
+use Rattle.split.proofs.Searching.{Behind, behind-start, page-start, page-found, page-located, page-later}
+use Rattle.split.proofs.Searching.{walk-end}
 use Rattle.split.proofs.search.first_in_walk.Statement.{statement}
 use Rattle.split.proofs.search.first_in_walk.Tie as tie
 
@@ -31,15 +34,21 @@ page-on-requires c κs = (c .before .before .before .pre .0 .0, c .loop-test .ta
 past-requires : tie.Need-past-requires Inv-loop μ-loop
 past-requires c κs = search needs
 
+mul-first-in-page : tie.Need-mul-first-in-page Inv-loop μ-loop
+mul-first-in-page c = omega (arith, c .before .before .before .before .before .pre .0 .0 .few)
+
+element-copy-out-first-in-page : tie.Need-element-copy-out-first-in-page Inv-loop μ-loop
+element-copy-out-first-in-page c = omega (arith, c .before .before .before .before .before .pre .0 .0 .few)
+
 first-in-page-requires : tie.Need-first-in-page-requires Inv-loop μ-loop
 first-in-page-requires c κs =
-    let p = c .before in
+    let p = c .before .before in
     let l = p .before .before in
     let s = l .before .before in
     let h = p .page-on .ensures in (
       (h .sorted (s .pre .0 .1), s .pre .0 .2, s .pre .0 .3),
       subst (Before (movable (s .args .copying) (decode (s .args .store .now))) (entriesOf (p .page-on .result .now)))
-          (sym (c .past .ensures))
+          (sym (c .before .past .ensures))
           (page-start (s .pre .0 .0) (l .loop .inv) (p .before .loop-test .taken) h (s .args .from) (s .pre .1)),
     )
 
@@ -55,13 +64,13 @@ few c =
 
 -- the place is one of a walk's slots
 near : (c : tie.After-known-told Inv-loop μ-loop)
-    → c .before .before .before .before .before .before .before .loop .passed + c .before .found .given .0 .1 .0
-    < 40 * suc maxBlocks
+    → let l = c .before .before .before .before .before .before .before .before in
+    l .loop .passed + c .before .found .given .0 .1 .0 < 40 * suc maxBlocks
 near c =
     let v = c .before in
-    let p = v .before .before .before .before in
+    let p = v .before .before .before .before .before in
     let l = p .before .before in
-    let place = seeks-place (v .before .before .first-in-page .ensures) (v .found .given .1) .inside in
+    let place = seeks-place (v .before .before .first-in-page .ensures .0) (v .found .given .1) .inside in
     omega (arith, few p, place, l .loop .inv .few, l .before .before .pre .0 .0 .few, p .before .loop-test .taken)
 
 add-at : tie.Need-add-at Inv-loop μ-loop
@@ -70,27 +79,37 @@ add-at c = omega (arith, near c)
 returns : tie.Need-returns Inv-loop μ-loop
 returns c =
     let v = c .before in
-    let p = v .before .before .before .before in
-    let l = p .before .before in (
-      page-found (l .before .before .pre .0 .0) (l .loop .inv) (p .before .loop-test .taken) (p .page-on .ensures)
-          (v .before .before .first-in-page .ensures) (v .found .given .1),
-      near c,
+    let p = v .before .before .before .before .before in
+    let l = p .before .before in
+    let s = l .before .before in
+    let ok = s .pre .0 .0 in
+    let more = p .before .loop-test .taken in
+    let e = v .before .before .first-in-page .ensures in
+    let t = movable (s .args .copying) (decode (s .args .store .now)) in
+    let yes = find-yes t (entriesOf (p .page-on .result .now)) _ (seeks-entry (e .0) (v .found .given .1)) .0 in (
+      page-found ok (l .loop .inv) more (p .page-on .ensures) (e .0) (v .found .given .1),
+      (
+        page-located ok (l .loop .inv) more (p .page-on .ensures) (e .0) (e .1) (v .found .given .1)
+            (movable-same (s .args .copying) (decode (s .args .store .now)) _ yes),
+        near c,
+      ),
     )
 
 enum-told : tie.Need-enum-told Inv-loop μ-loop
 enum-told c = search needs
 
 count-entries-requires : tie.Need-count-entries-requires Inv-loop μ-loop
-count-entries-requires c κs = c .before .before .before .before .page-on .ensures .whole
+count-entries-requires c κs = c .before .before .before .before .before .page-on .ensures .whole
 
 -- the number of a page's entries
 number : (c : tie.After-count-entries Inv-loop μ-loop)
-    → c .count-entries .result ≡ length (entriesOf (c .before .before .before .before .before .page-on .result .now))
+    → let p = c .before .before .before .before .before .before in
+    c .count-entries .result ≡ length (entriesOf (p .page-on .result .now))
 number c = c .count-entries .ensures ∙ sym (length-entriesOf _)
 
 add-passed : tie.Need-add-passed Inv-loop μ-loop
 add-passed c =
-    let p = c .before .before .before .before .before in
+    let p = c .before .before .before .before .before .before in
     let l = p .before .before in
     omega (arith, few p, number c, l .loop .inv .few, l .before .before .pre .0 .0 .few, p .before .loop-test .taken)
 
@@ -103,16 +122,16 @@ loop-less c = omega arith
 loop-again : tie.Need-loop-again Inv-loop μ-loop
 loop-again c =
     let t = c .before in
-    let p = t .before .before .before .before in
+    let p = t .before .before .before .before .before in
     let l = p .before .before in
     page-later (l .before .before .pre .0 .0) (l .loop .inv) (p .before .loop-test .taken) (p .page-on .ensures)
-    (t .before .before .first-in-page .ensures) (t .enum-told .given .1) (c .count-entries .result) (number c)
+    (t .before .before .first-in-page .ensures .0) (t .enum-told .given .1) (c .count-entries .result) (number c)
     (omega (arith, number c, few p))
 
 returns-2 : tie.Need-returns-2 Inv-loop μ-loop
 returns-2 c =
     let l = c .before in
-    (walk-end (l .before .before .pre .0 .0) (l .loop .inv) (c .loop-test .left), omega arith)
+    (walk-end (l .before .before .pre .0 .0) (l .loop .inv) (c .loop-test .left), (nowhere, omega arith))
 
 pub first-in-walk-spec : {M : Type 1} → statement M
 first-in-walk-spec =
@@ -123,6 +142,8 @@ first-in-walk-spec =
     loop-holds
     page-on-requires
     past-requires
+    mul-first-in-page
+    element-copy-out-first-in-page
     first-in-page-requires
     enum-known-found
     add-at

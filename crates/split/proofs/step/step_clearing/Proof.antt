@@ -4,10 +4,10 @@ use borrow.Author.Needs.{needs}
 use Rattle.image.specs.Decode.{decode}
 use Rattle.plan.specs.Plan.{advanced}
 use Rattle.split.specs.Seek.{Leads}
-use Rattle.split.specs.SeekLaws.{seeks-entry, seeks-place, seeks-none}
+use Rattle.split.specs.SeekLaws.{seeks-entry, seeks-place, seeks-none, located-at}
 use Rattle.split.specs.FromLaws.{leads-start, clear-leads}
 use Rattle.split.specs.StepLaws.{step-clears, advances-as}
-use Rattle.split.specs.CopyLaws.{clear-stands, clear-next}
+use Rattle.split.specs.CopyLaws.{clear-next}
 use Rattle.split.proofs.step.step_clearing.Statement.{statement}
 use Rattle.split.proofs.step.step_clearing.Tie as tie
 
@@ -51,8 +51,9 @@ clear-pair-requires c κs =
     let s = v .before .before .before .before .before in
     let r = s .pre .0 .0 in
     let e = v .mover .given .0 .0 in
-    let first = seeks-entry (v .before .before .first-mover .ensures .0) (v .mover .given .1) in
-    (s .pre .0, (clear-stands r (s .pre .1 .0) e first, clear-next r (s .pre .1 .0) e first))
+    let found = v .before .before .first-mover .ensures in
+    let first = seeks-entry (found .0) (v .mover .given .1) in
+    (s .pre .0, (located-at (found .1 .0) (v .mover .given .1), clear-next r (s .pre .1 .0) e first))
 
 advance-by-requires-2 : tie.Need-advance-by-requires-2
 advance-by-requires-2 c κs = search needs

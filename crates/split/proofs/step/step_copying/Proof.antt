@@ -4,7 +4,7 @@ use native.Mathlib.Omega.{arith}
 use borrow.Author.Needs.{needs}
 use Rattle.image.specs.Decode.{decode}
 use Rattle.plan.specs.Plan.{advanced}
-use Rattle.split.specs.Seek.{placeOf, Leads}
+use Rattle.split.specs.Seek.{moverPlace, Leads}
 use Rattle.split.specs.SeekLaws.{seeks-entry, seeks-place, seeks-none}
 use Rattle.split.specs.FromLaws.{leads-start, copy-leads}
 use Rattle.split.specs.StepLaws.{step-copies, places-advances, advances-as}
@@ -61,7 +61,7 @@ or-full-requires c κs = search needs
 add-with-place : tie.Need-add-with-place
 add-with-place c =
     let v = c .before .before .before .before .before .before .before in
-    omega (arith, v .before .before .first-mover .ensures .1, ap placeOf (v .mover .given .1))
+    omega (arith, v .before .before .first-mover .ensures .1 .1, ap moverPlace (v .mover .given .1))
 
 with-place-requires : tie.Need-with-place-requires
 with-place-requires c κs = search needs
