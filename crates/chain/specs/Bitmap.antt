@@ -1,4 +1,4 @@
--- The lowest 0 bit of a bitmap block, and whether the bits from one on are all 1, with the bits as rule 6 reads them. In
+-- The lowest 0 bit of a bitmap block, and whether the bits from one on are all 1; bits as rule 6 reads them. In
 -- a sound store the 0 bits are the free ones.
 use mathlib.Core.Bool.{Bool}
 use mathlib.Core.List.{List}

@@ -35,9 +35,9 @@ one-page {s} {bs} {n} ok pages few = go (decLt 0 n)
         ∙ append-nil (entriesOn s (getD bs 0 0)))
         ∙ ascending-distinct (entriesOn s (getD bs 0 0)) (block-sorted ok 0 l pages .order)
 
-module _ {s ks : List ℕ} {n : ℕ} {keys marks tree keys′ marks′ tree′ : List ℕ} (m : Merging s ks n keys marks tree)
+module _ {s ks : List ℕ} {n : ℕ} {keys tails tree keys′ tails′ tree′ : List ℕ} (m : Merging s ks n keys tails tree)
     (some : 1 ≤ n) (more : getD keys (getD tree 1 0) 0 < noKey)
-    (moved : Moved s ks n tree marks keys′ marks′ tree′) where
+    (moved : Moved s ks n tree tails keys′ tails′ tree′) where
   abbrev e : Entry
   e = moved .entry
 
@@ -45,20 +45,20 @@ module _ {s ks : List ℕ} {n : ℕ} {keys marks tree keys′ marks′ tree′ :
   key = getD keys (getD tree 1 0) 0
 
   abbrev offset : ℕ
-  offset = getD marks (getD tree 1 0) 0 / 64
+  offset = getD tails (getD tree 1 0) 0 / 64
 
-  again : nextIs keys′ marks′ tree′ key offset ≡ any (is (e .pair)) (joined (leftOf s ks marks′) 0 n)
+  again : nextIs keys′ tails′ tree′ key offset ≡ any (is (e .pair)) (joined (leftOf s ks tails′) 0 n)
   again =
       let first = moved .taken .here in
       next-any (moved .merging) some (e .pair) (next-fits m some e _ first) key offset (next-key m some e _ first)
       (next-offset m some e _ first) more
       (λ i h.
-      taken-each (leftOf s ks marks) (leftOf s ks marks′) (moved .taken) (λ y. before (y .pair) (e .pair) ≡ false) i
+      taken-each (leftOf s ks tails) (leftOf s ks tails′) (moved .taken) (λ y. before (y .pair) (e .pair) ≡ false) i
       (next-least m some e _ first i h))
 
-  pub turn-distinct : distinct (joined (leftOf s ks marks) 0 n)
-      ≡ not (nextIs keys′ marks′ tree′ (getD keys (getD tree 1 0) 0) (getD marks (getD tree 1 0) 0 / 64))
-      && distinct (joined (leftOf s ks marks′) 0 n)
+  pub turn-distinct : distinct (joined (leftOf s ks tails) 0 n)
+      ≡ not (nextIs keys′ tails′ tree′ (getD keys (getD tree 1 0) 0) (getD tails (getD tree 1 0) 0 / 64))
+      && distinct (joined (leftOf s ks tails′) 0 n)
   turn-distinct =
-      taken-distinct (leftOf s ks marks) (leftOf s ks marks′) n (moved .taken) (merging-upto m some)
-      ∙ ap (λ (b : Bool). not b && distinct (joined (leftOf s ks marks′) 0 n)) (sym again)
+      taken-distinct (leftOf s ks tails) (leftOf s ks tails′) n (moved .taken) (merging-upto m some)
+      ∙ ap (λ (b : Bool). not b && distinct (joined (leftOf s ks tails′) 0 n)) (sym again)

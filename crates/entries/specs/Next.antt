@@ -23,15 +23,15 @@ abbrev pub headBefore : Pair → List Entry → Bool
 headBefore p [] = false
 headBefore p (e ∷ es) = before (e .pair) p
 
-module _ (keys marks tree : List ℕ) (key offset : ℕ) where
+module _ (keys tails tree : List ℕ) (key offset : ℕ) where
   -- the next entry has the pair
   abbrev pub nextIs : Bool
-  nextIs = eqb (getD keys (getD tree 1 0) 0) key && eqb (getD marks (getD tree 1 0) 0 / 64) offset
+  nextIs = eqb (getD keys (getD tree 1 0) 0) key && eqb (getD tails (getD tree 1 0) 0 / 64) offset
 
   -- the next entry stands before the pair
   abbrev pub nextBefore : Bool
   nextBefore =
-      cond (eqb (getD keys (getD tree 1 0) 0) key) (ltb (getD marks (getD tree 1 0) 0 / 64) offset)
+      cond (eqb (getD keys (getD tree 1 0) 0) key) (ltb (getD tails (getD tree 1 0) 0 / 64) offset)
       (ltb (getD keys (getD tree 1 0) 0) key)
 
 -- no entry of the first n lists stands before the pair
@@ -43,7 +43,7 @@ abbrev pub Kept : (f g : ℕ → List Entry) (n : ℕ) → Pair → Type 0
 Kept f g n p = (x : Pair) → before x p ≡ false → any (is x) (joined f 0 n) ≡ any (is x) (joined g 0 n)
 
 -- all entries that stand before p are taken
-pub record Passed (s ks : List ℕ) (n : ℕ) (p : Pair) (marks keys′ marks′ tree′ : List ℕ) : Type 0 where
-  pub kept : Kept (leftOf s ks marks) (leftOf s ks marks′) n p
-  pub none : NotBefore (leftOf s ks marks′) n p
-  pub merging : Merging s ks n keys′ marks′ tree′
+pub record Passed (s ks : List ℕ) (n : ℕ) (p : Pair) (tails keys′ tails′ tree′ : List ℕ) : Type 0 where
+  pub kept : Kept (leftOf s ks tails) (leftOf s ks tails′) n p
+  pub none : NotBefore (leftOf s ks tails′) n p
+  pub merging : Merging s ks n keys′ tails′ tree′

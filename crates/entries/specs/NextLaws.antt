@@ -17,15 +17,15 @@ use Rattle.merge.specs.MergingLaws.{merging-up, merging-upto, merging-best, nex
 use Rattle.entries.specs.Next.{headIs, headBefore, nextIs, nextBefore, NotBefore}
 use Rattle.entries.specs.TakenLaws.{first-least, first-any, first-not-before}
 
-module _ {s ks : List ℕ} {n : ℕ} {keys marks tree : List ℕ} (m : Merging s ks n keys marks tree) (some : 1 ≤ n) where
+module _ {s ks : List ℕ} {n : ℕ} {keys tails tree : List ℕ} (m : Merging s ks n keys tails tree) (some : 1 ≤ n) where
   abbrev j : ℕ
   j = getD tree 1 0
 
   abbrev left : ℕ → List Entry
-  left = leftOf s ks marks
+  left = leftOf s ks tails
 
-  module _ (e : Entry) (es : List Entry) (first : leftOf s ks marks (getD tree 1 0) ≡ e ∷ es) where
-    pub next-least : NotBefore (leftOf s ks marks) n (e .pair)
+  module _ (e : Entry) (es : List Entry) (first : leftOf s ks tails (getD tree 1 0) ≡ e ∷ es) where
+    pub next-least : NotBefore (leftOf s ks tails) n (e .pair)
     next-least = first-least left n (merging-best m some) (merging-up m) e es first
 
   module _ (p : Pair) (fits : PairFits p) (key offset : ℕ) (has-key : key ≡ pairKey p) (has-offset : offset ≡ p .offset)
@@ -33,18 +33,19 @@ module _ {s ks : List ℕ} {n : ℕ} {keys marks tree : List ℕ} (m : Merging s
     empty : left j ≡ [] → getD keys j 0 ≡ noKey
     empty z = m .heads .each j (merging-upto m some) .key ∙ ap keyOf z
 
-    next-head : nextIs keys marks tree key offset ≡ headIs p (left j)
+    next-head : nextIs keys tails tree key offset ≡ headIs p (left j)
     next-head = go (left j) refl
       where
-        go : (xs : List Entry) → left j ≡ xs → nextIs keys marks tree key offset ≡ headIs p xs
+        go : (xs : List Entry) → left j ≡ xs → nextIs keys tails tree key offset ≡ headIs p xs
         go [] z = rw (ne-eqb (getD keys j 0) key (λ q. omega (arith, q, below, empty z)))
         go (e ∷ es) z =
-            rw (next-key m some e es z, next-offset m some e es z, has-key, has-offset) (same-key (e .pair) p (next-fits m some e es z) fits)
+            rw (next-key m some e es z, next-offset m some e es z, has-key, has-offset) (same-key (e .pair) p
+            (next-fits m some e es z) fits)
 
-    next-before : nextBefore keys marks tree key offset ≡ headBefore p (left j)
+    next-before : nextBefore keys tails tree key offset ≡ headBefore p (left j)
     next-before = go (left j) refl
       where
-        go : (xs : List Entry) → left j ≡ xs → nextBefore keys marks tree key offset ≡ headBefore p xs
+        go : (xs : List Entry) → left j ≡ xs → nextBefore keys tails tree key offset ≡ headBefore p xs
         go [] z =
             rw (ne-eqb (getD keys j 0) key (λ q. omega (arith, q, below, empty z)))
             (le-ltb (getD keys j 0) key (omega (arith, below, empty z)))
@@ -53,15 +54,15 @@ module _ {s ks : List ℕ} {n : ℕ} {keys marks tree : List ℕ} (m : Merging s
             (before-key (e .pair) p (next-fits m some e es z) fits)
 
     -- where no entry left stands before p, p stands there exactly if the next entry has it
-    pub next-any : NotBefore (leftOf s ks marks) n p
-        → nextIs keys marks tree key offset ≡ any (is p) (joined (leftOf s ks marks) 0 n)
+    pub next-any : NotBefore (leftOf s ks tails) n p
+        → nextIs keys tails tree key offset ≡ any (is p) (joined (leftOf s ks tails) 0 n)
     next-any low = next-head ∙ first-any left n (merging-best m some) (merging-up m) p low
 
     -- where the next does not stand before p, none does
-    pub next-none : nextBefore keys marks tree key offset ≡ false → NotBefore (leftOf s ks marks) n p
+    pub next-none : nextBefore keys tails tree key offset ≡ false → NotBefore (leftOf s ks tails) n p
     next-none h =
         first-not-before left n (merging-best m some) (merging-up m) p (sym next-before ∙ h)
 
-    pub next-passed : nextBefore keys marks tree key offset ≡ true → (e : Entry) (es : List Entry)
-        → leftOf s ks marks (getD tree 1 0) ≡ e ∷ es → before (e .pair) p ≡ true
+    pub next-passed : nextBefore keys tails tree key offset ≡ true → (e : Entry) (es : List Entry)
+        → leftOf s ks tails (getD tree 1 0) ≡ e ∷ es → before (e .pair) p ≡ true
     next-passed h e es z = sym (next-before ∙ ap (headBefore p) z) ∙ h

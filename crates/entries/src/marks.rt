@@ -4,21 +4,17 @@ use crate::next::is_next_before;
 use crate::next::start_all;
 use merge::MAX_PAGES;
 use merge::heads::NO_KEY;
-use merge::heads::no_keys;
-use merge::heads::no_marks;
+use merge::heads::is_head_moved;
 use merge::heads::take_first;
-use page::slots::get_entry;
-use store::block_at;
+use merge::heads::zero_keys;
+use merge::heads::zero_tails;
 ghost use mathlib.Core.Path.{_≡_};
 ghost use Prim.Native.Nat.{_%_, _≤_, _<_};
 ghost use lib.ListN.{getD};
 ghost use Rattle.lists.specs.Lists.{all};
-ghost use Rattle.lists.specs.Block.{block};
-ghost use Rattle.page.specs.Entries.{entryAt};
 ghost use Rattle.merge.specs.Merge.{joined};
-ghost use Rattle.merge.specs.Heads.{noKey, pageAt, Pages, Merging};
+ghost use Rattle.merge.specs.Heads.{noKey, pairFrom, firstAt, pageAt, Pages, Merging};
 ghost use Rattle.entries.specs.Tests.{markedBy};
-ghost use Rattle.merge.specs.Heads.{pairFrom};
 ghost use Rattle.entries.specs.Next.{Passed};
 
 // Takes all entries that stand before the pair.
@@ -26,19 +22,19 @@ fn pass_before(
     store: &[u8],
     pages: &[u32; MAX_PAGES],
     keys: &mut [u64; MAX_PAGES],
-    marks: &mut [u32; MAX_PAGES],
+    tails: &mut [u32; MAX_PAGES],
     tree: &mut [usize; 2 * MAX_PAGES],
     n: usize,
     key: u64,
     offset: u32,
 )
-    requires { ⌜ (Merging (now store) (now pages) n (now keys) (now marks) (now tree)) × (1 ≤ n) ⌝ }
+    requires { ⌜ (Merging (now store) (now pages) n (now keys) (now tails) (now tree)) × (1 ≤ n) ⌝ }
     requires { ⌜ (key < noKey) × (offset < 65536) ⌝ }
-    ensures { λ _. ⌜ Passed (now (store .entry)) (now (pages .entry)) n (pairFrom key offset) (now (marks .entry))
-        (now (keys .exit)) (now (marks .exit)) (now (tree .exit)) ⌝ }
+    ensures { λ _. ⌜ Passed (now (store .entry)) (now (pages .entry)) n (pairFrom key offset) (now (tails .entry))
+        (now (keys .exit)) (now (tails .exit)) (now (tree .exit)) ⌝ }
 {
-    while is_next_before(keys, marks, tree, key, offset) {
-        take_first(store, pages, keys, marks, tree, n);
+    while is_next_before(keys, tails, tree, key, offset) {
+        take_first(store, pages, keys, tails, tree, n);
     }
 }
 
@@ -46,19 +42,18 @@ fn pass_before(
 fn is_next_moved(
     store: &[u8],
     pages: &[u32; MAX_PAGES],
-    marks: &[u32; MAX_PAGES],
+    tails: &[u32; MAX_PAGES],
     tree: &[usize; 2 * MAX_PAGES],
     n: usize,
 ) -> bool
     requires { ⌜ (Pages (now store) (now pages) n) × (getD (now tree) 1 0 < n) ⌝ }
-    requires { ⌜ getD (now marks) (getD (now tree) 1 0) 0 % 64 < 40 ⌝ }
-    ensures { λ r. ⌜ r ≡ entryAt
-        (block (now (store .entry)) (getD (now (pages .entry)) (getD (now (tree .entry)) 1 0) 0))
-        (getD (now (marks .entry)) (getD (now (tree .entry)) 1 0) 0 % 64) .moved ⌝ }
+    requires { ⌜ getD (now tails) (getD (now tree) 1 0) 0 % 64 < 40 ⌝ }
+    ensures { λ r. ⌜ r ≡ firstAt (now (store .entry))
+        (getD (now (pages .entry)) (getD (now (tree .entry)) 1 0) 0)
+        (getD (now (tails .entry)) (getD (now (tree .entry)) 1 0) 0) .moved ⌝ }
 {
     let j = tree[1];
-    let slot = (marks[j] % 64) as usize;
-    get_entry(block_at(store, pages[j] as usize), slot).moved
+    is_head_moved(store, pages[j], tails[j])
 }
 
 // Whether each entry of the `n` pages `new` is marked moved exactly if the `k` pages `old` have its pair.
@@ -74,23 +69,23 @@ pub fn all_marked(
     ensures { λ r. ⌜ r ≡ all (markedBy (joined (pageAt (now (store .entry)) (now (old .entry))) 0 k))
         (joined (pageAt (now (store .entry)) (now (new .entry))) 0 n) ⌝ }
 {
-    let mut new_keys = no_keys();
-    let mut new_marks = no_marks();
-    let mut new_tree = start_all(store, new, &mut new_keys, &mut new_marks, n);
-    let mut keys = no_keys();
-    let mut marks = no_marks();
-    let mut tree = start_all(store, old, &mut keys, &mut marks, k);
+    let mut new_keys = zero_keys();
+    let mut new_tails = zero_tails();
+    let mut new_tree = start_all(store, new, &mut new_keys, &mut new_tails, n);
+    let mut keys = zero_keys();
+    let mut tails = zero_tails();
+    let mut tree = start_all(store, old, &mut keys, &mut tails, k);
     loop {
         let j = new_tree[1];
         let key = new_keys[j];
         if key == NO_KEY {
             return true;
         }
-        let offset = new_marks[j] / 64;
-        let moved = is_next_moved(store, new, &new_marks, &new_tree, n);
-        pass_before(store, old, &mut keys, &mut marks, &mut tree, k, key, offset);
-        take_first(store, new, &mut new_keys, &mut new_marks, &mut new_tree, n);
-        if moved != is_next(&keys, &marks, &tree, key, offset) {
+        let offset = new_tails[j] / 64;
+        let moved = is_next_moved(store, new, &new_tails, &new_tree, n);
+        pass_before(store, old, &mut keys, &mut tails, &mut tree, k, key, offset);
+        take_first(store, new, &mut new_keys, &mut new_tails, &mut new_tree, n);
+        if moved != is_next(&keys, &tails, &tree, key, offset) {
             return false;
         }
     }

@@ -16,20 +16,20 @@ pub fn start_all(
     store: &[u8],
     pages: &[u32; MAX_PAGES],
     keys: &mut [u64; MAX_PAGES],
-    marks: &mut [u32; MAX_PAGES],
+    tails: &mut [u32; MAX_PAGES],
     n: usize,
 ) -> [usize; 2 * MAX_PAGES]
     requires { ⌜ Pages (now store) (now pages) n ⌝ }
-    requires { ⌜ (length (now keys) ≡ maxPages) × (length (now marks) ≡ maxPages) ⌝ }
-    ensures { λ r. ⌜ (Merging (now (store .entry)) (now (pages .entry)) n (now (keys .exit)) (now (marks .exit)) r)
-        × (joined (leftOf (now (store .entry)) (now (pages .entry)) (now (marks .exit))) 0 n
+    requires { ⌜ (length (now keys) ≡ maxPages) × (length (now tails) ≡ maxPages) ⌝ }
+    ensures { λ r. ⌜ (Merging (now (store .entry)) (now (pages .entry)) n (now (keys .exit)) (now (tails .exit)) r)
+        × (joined (leftOf (now (store .entry)) (now (pages .entry)) (now (tails .exit))) 0 n
         ≡ joined (pageAt (now (store .entry)) (now (pages .entry))) 0 n) ⌝ }
 {
     start_merge(
         store,
         pages,
         keys,
-        marks,
+        tails,
         n,
         Pair {
             hash: 0,
@@ -42,33 +42,33 @@ pub fn start_all(
 // Whether the next entry has the pair.
 pub fn is_next(
     keys: &[u64; MAX_PAGES],
-    marks: &[u32; MAX_PAGES],
+    tails: &[u32; MAX_PAGES],
     tree: &[usize; 2 * MAX_PAGES],
     key: u64,
     offset: u32,
 ) -> bool
     requires { ⌜ getD (now tree) 1 0 < maxPages ⌝ }
-    ensures { λ r. ⌜ r ≡ nextIs (now (keys .entry)) (now (marks .entry)) (now (tree .entry)) key offset ⌝ }
+    ensures { λ r. ⌜ r ≡ nextIs (now (keys .entry)) (now (tails .entry)) (now (tree .entry)) key offset ⌝ }
 {
     let j = tree[1];
-    keys[j] == key && marks[j] / 64 == offset
+    keys[j] == key && tails[j] / 64 == offset
 }
 
 // Whether the next entry stands before the pair.
 pub fn is_next_before(
     keys: &[u64; MAX_PAGES],
-    marks: &[u32; MAX_PAGES],
+    tails: &[u32; MAX_PAGES],
     tree: &[usize; 2 * MAX_PAGES],
     key: u64,
     offset: u32,
 ) -> bool
     requires { ⌜ getD (now tree) 1 0 < maxPages ⌝ }
-    ensures { λ r. ⌜ r ≡ nextBefore (now (keys .entry)) (now (marks .entry)) (now (tree .entry)) key offset ⌝ }
+    ensures { λ r. ⌜ r ≡ nextBefore (now (keys .entry)) (now (tails .entry)) (now (tree .entry)) key offset ⌝ }
 {
     let j = tree[1];
     let next = keys[j];
     if next == key {
-        return marks[j] / 64 < offset;
+        return tails[j] / 64 < offset;
     }
     next < key
 }

@@ -6,9 +6,9 @@ use chain::links::page_on;
 use image::Meta;
 use merge::MAX_PAGES;
 use merge::heads::NO_KEY;
-use merge::heads::no_keys;
-use merge::heads::no_marks;
 use merge::heads::take_first;
+use merge::heads::zero_keys;
+use merge::heads::zero_tails;
 use merge::walks::join_walks;
 use page::rule::check_page;
 use reader::buckets::walk_bucket;
@@ -44,18 +44,18 @@ fn all_distinct(store: &[u8], pages: &[u32; MAX_PAGES], n: usize) -> bool
     requires { ⌜ (Pages (now store) (now pages) n) × (1 ≤ n) ⌝ }
     ensures { λ r. ⌜ r ≡ distinct (joined (pageAt (now (store .entry)) (now (pages .entry))) 0 n) ⌝ }
 {
-    let mut keys = no_keys();
-    let mut marks = no_marks();
-    let mut tree = start_all(store, pages, &mut keys, &mut marks, n);
+    let mut keys = zero_keys();
+    let mut tails = zero_tails();
+    let mut tree = start_all(store, pages, &mut keys, &mut tails, n);
     loop {
         let j = tree[1];
         let key = keys[j];
         if key == NO_KEY {
             return true;
         }
-        let offset = marks[j] / 64;
-        take_first(store, pages, &mut keys, &mut marks, &mut tree, n);
-        if is_next(&keys, &marks, &tree, key, offset) {
+        let offset = tails[j] / 64;
+        take_first(store, pages, &mut keys, &mut tails, &mut tree, n);
+        if is_next(&keys, &tails, &tree, key, offset) {
             return false;
         }
     }

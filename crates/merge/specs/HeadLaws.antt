@@ -23,7 +23,7 @@ use Rattle.page.specs.Allowed.{Allowed}
 use Rattle.merge.specs.Tree.{maxPages, noLater}
 use Rattle.merge.specs.Merge.{leads}
 use Rattle.merge.specs.KeyLaws.{key-below, before-key}
-use Rattle.merge.specs.Heads.{noKey, pairKey, pairFrom, keyOf, markOf, pageAt, leftOf, Head, Heads, CursorsAt}
+use Rattle.merge.specs.Heads.{noKey, pairKey, pairFrom, keyOf, tailOf, pageAt, leftOf, Head, Heads, CursorsAt}
 
 -- ---- heads of lists that pages may have
 
@@ -38,12 +38,12 @@ key-done [] ok h = refl
 key-done (e ∷ es) ok h = absurd (omega (arith, h, head-below e es ok))
 
 pub head-leads : (xs ys : List Entry) (c d : ℕ) → c < 64 → d < 64 → Allowed xs → Allowed ys
-    → noLater (keyOf xs) (markOf c xs) (keyOf ys) (markOf d ys) ≡ true → leads xs ys ≡ true
+    → noLater (keyOf xs) (tailOf c xs) (keyOf ys) (tailOf d ys) ≡ true → leads xs ys ≡ true
 head-leads xs [] c d a b ok ok′ h = refl
 head-leads [] (y ∷ ys) c d a b ok ok′ h =
     let l = head-below y ys ok′ in
     no-way h
-    (ap (λ (t : Bool). cond t (leb c (markOf d (y ∷ ys))) (ltb noKey (keyOf (y ∷ ys))))
+    (ap (λ (t : Bool). cond t (leb c (tailOf d (y ∷ ys))) (ltb noKey (keyOf (y ∷ ys))))
     (ne-eqb noKey (keyOf (y ∷ ys)) (λ e. omega (arith, e, l)))
     ∙ le-ltb noKey (keyOf (y ∷ ys)) (omega (arith, l)))
 head-leads (x ∷ xs) (y ∷ ys) c d a b ok ok′ h =
@@ -66,13 +66,13 @@ head-leads (x ∷ xs) (y ∷ ys) c d a b ok ok′ h =
     go (more l) =
         no-way h (rw (ne-eqb (pairKey p) (pairKey q) (omega arith)) (le-ltb (pairKey p) (pairKey q) (omega arith)))
 
--- the first entry's pair, by its key and mark
+-- the first entry's pair, by its key and tail
 pub head-pair : (e : Entry) (es : List Entry) (c k m : ℕ) → c < 64 → Allowed (e ∷ es) → k ≡ keyOf (e ∷ es)
-    → m ≡ markOf c (e ∷ es) → e .pair ≡ pairFrom k (m / 64)
-head-pair e es c k m few ok key mark =
+    → m ≡ tailOf c (e ∷ es) → e .pair ≡ pairFrom k (m / 64)
+head-pair e es c k m few ok key tail =
     let h : e .pair .hash ≡ k / 4294967296 = omega (arith, key, ok .fit .0 .block) in
     let b : e .pair .block ≡ k % 4294967296 = omega (arith, key, ok .fit .0 .block) in
-    let o : e .pair .offset ≡ m / 64 = omega (arith, mark, few) in
+    let o : e .pair .offset ≡ m / 64 = omega (arith, tail, few) in
     λ i. record { hash = h i; block = b i; offset = o i }
 
 -- ---- heads of pages
@@ -88,79 +88,84 @@ module _ (l : List ℕ) (k : ℕ) where
 
 -- ---- a head is put
 
-module _ (s ks keys marks : List ℕ) (i c : ℕ) (in-keys : i < length keys) (in-marks : i < length marks) (few : c ≤ 40) where
+module _ (s ks keys tails : List ℕ) (i c : ℕ) (in-keys : i < length keys) (in-tails : i < length tails)
+    (few : c ≤ 40) where
   abbrev left : List Entry
   left = drop c (pageAt s ks i)
 
   abbrev keys′ : List ℕ
   keys′ = set keys i (keyOf (drop c (pageAt s ks i)))
 
-  abbrev marks′ : List ℕ
-  marks′ = set marks i (markOf c (drop c (pageAt s ks i)))
+  abbrev tails′ : List ℕ
+  tails′ = set tails i (tailOf c (drop c (pageAt s ks i)))
 
-  mark-cursor : (es : List Entry) → markOf c es % 64 ≡ c
-  mark-cursor [] = omega (arith, few)
-  mark-cursor (e ∷ es) = omega (arith, few)
+  tail-cursor : (es : List Entry) → tailOf c es % 64 ≡ c
+  tail-cursor [] = omega (arith, few)
+  tail-cursor (e ∷ es) = omega (arith, few)
 
-  pub put-cursor : getD (set marks i (markOf c (drop c (pageAt s ks i)))) i 0 % 64 ≡ c
-  put-cursor = ap (λ (m : ℕ). m % 64) (getD-set-same marks i (markOf c left) 0 in-marks) ∙ mark-cursor left
+  pub put-cursor : getD (set tails i (tailOf c (drop c (pageAt s ks i)))) i 0 % 64 ≡ c
+  put-cursor = ap (λ (m : ℕ). m % 64) (getD-set-same tails i (tailOf c left) 0 in-tails) ∙ tail-cursor left
 
-  pub put-left : leftOf s ks (set marks i (markOf c (drop c (pageAt s ks i)))) i ≡ drop c (pageAt s ks i)
+  pub put-left : leftOf s ks (set tails i (tailOf c (drop c (pageAt s ks i)))) i ≡ drop c (pageAt s ks i)
   put-left = ap (λ (k : ℕ). drop k (pageAt s ks i)) put-cursor
 
-  pub put-head : Head s ks (set keys i (keyOf (drop c (pageAt s ks i)))) (set marks i (markOf c (drop c (pageAt s ks i)))) i
+  pub put-head : Head s ks (set keys i (keyOf (drop c (pageAt s ks i)))) (set tails i (tailOf c (drop c
+      (pageAt s ks i)))) i
   put-head =
       record {
         key = getD-set-same keys i (keyOf left) 0 in-keys ∙ sym (ap keyOf put-left);
-        mark =
-            getD-set-same marks i (markOf c left) 0 in-marks
-            ∙ sym (ap₂ markOf put-cursor put-left);
+        tail =
+            getD-set-same tails i (tailOf c left) 0 in-tails
+            ∙ sym (ap₂ tailOf put-cursor put-left);
         few = omega (arith, put-cursor, few);
       }
 
   module _ (k : ℕ) (ne : k ≢ i) where
-    same-mark : getD marks′ k 0 ≡ getD marks k 0
-    same-mark = getD-set-other marks i k (markOf c left) 0 ne
+    same-tail : getD tails′ k 0 ≡ getD tails k 0
+    same-tail = getD-set-other tails i k (tailOf c left) 0 ne
 
-    pub other-cursor : getD (set marks i (markOf c (drop c (pageAt s ks i)))) k 0 % 64 ≡ getD marks k 0 % 64
-    other-cursor = ap (λ (m : ℕ). m % 64) same-mark
+    pub other-cursor : getD (set tails i (tailOf c (drop c (pageAt s ks i)))) k 0 % 64 ≡ getD tails k 0 % 64
+    other-cursor = ap (λ (m : ℕ). m % 64) same-tail
 
-    pub other-left : leftOf s ks (set marks i (markOf c (drop c (pageAt s ks i)))) k ≡ leftOf s ks marks k
+    pub other-left : leftOf s ks (set tails i (tailOf c (drop c (pageAt s ks i)))) k ≡ leftOf s ks tails k
     other-left = ap (λ (m : ℕ). drop m (pageAt s ks k)) other-cursor
 
-    pub other-head : Head s ks keys marks k
-        → Head s ks (set keys i (keyOf (drop c (pageAt s ks i)))) (set marks i (markOf c (drop c (pageAt s ks i)))) k
+    pub other-head : Head s ks keys tails k
+        → Head s ks (set keys i (keyOf (drop c (pageAt s ks i)))) (set tails i (tailOf c (drop c (pageAt s ks i)))) k
     other-head h =
         record {
           key = getD-set-other keys i k (keyOf left) 0 ne ∙ h .key ∙ sym (ap keyOf other-left);
-          mark = same-mark ∙ h .mark ∙ sym (ap₂ markOf other-cursor other-left);
+          tail = same-tail ∙ h .tail ∙ sym (ap₂ tailOf other-cursor other-left);
           few = omega (arith, other-cursor, h .few);
         }
 
   -- the head of each page but page i stays
-  pub heads-put : (n : ℕ) → length keys ≡ maxPages → length marks ≡ maxPages
-      → ((k : ℕ) → k < n → k ≢ i → Head s ks keys marks k)
-      → Heads s ks n (set keys i (keyOf (drop c (pageAt s ks i)))) (set marks i (markOf c (drop c (pageAt s ks i))))
+  pub heads-put : (n : ℕ) → length keys ≡ maxPages → length tails ≡ maxPages
+      → ((k : ℕ) → k < n → k ≢ i → Head s ks keys tails k)
+      → Heads s ks n (set keys i (keyOf (drop c (pageAt s ks i)))) (set tails i (tailOf c (drop c (pageAt s ks i))))
   heads-put n sizes sizes′ others =
       record {
         keys-size = length-set keys i (keyOf left) ∙ sizes;
-        marks-size = length-set marks i (markOf c left) ∙ sizes′;
+        tails-size = length-set tails i (tailOf c left) ∙ sizes′;
         each = λ k h. go k h (ℕ-discrete k i);
       }
     where
-      go : (k : ℕ) → k < n → Dec (k ≡ i) → Head s ks keys′ marks′ k
-      go k h (yes e) = subst (Head s ks keys′ marks′) (sym e) put-head
+      go : (k : ℕ) → k < n → Dec (k ≡ i) → Head s ks keys′ tails′ k
+      go k h (yes e) = subst (Head s ks keys′ tails′) (sym e) put-head
       go k h (no e) = other-head k e (others k h e)
 
   -- of the first i pages, and then of page i, the heads are put
-  pub heads-next : Heads s ks i keys marks
-      → Heads s ks (i + 1) (set keys i (keyOf (drop c (pageAt s ks i)))) (set marks i (markOf c (drop c (pageAt s ks i))))
-  heads-next h = heads-put (i + 1) (h .keys-size) (h .marks-size) (λ k l ne. h .each k (omega (arith, l, ne)))
+  pub heads-next : Heads s ks i keys tails
+      → Heads s ks (i + 1) (set keys i (keyOf (drop c (pageAt s ks i)))) (set tails i (tailOf c (drop c
+      (pageAt s ks i))))
+  heads-next h = heads-put (i + 1) (h .keys-size) (h .tails-size) (λ k l ne. h .each k (omega (arith, l, ne)))
 
-  pub from-next : (from : Pair) → c ≡ placeOf from (pageAt s ks i) → CursorsAt s ks from i marks
-      → CursorsAt s ks from (i + 1) (set marks i (markOf c (drop c (pageAt s ks i))))
+  pub from-next : (from : Pair) → c ≡ placeOf from (pageAt s ks i) → CursorsAt s ks from i tails
+      → CursorsAt s ks from (i + 1) (set tails i (tailOf c (drop c (pageAt s ks i))))
   from-next from e h k l = go (ℕ-discrete k i)
     where
-      go : Dec (k ≡ i) → getD marks′ k 0 % 64 ≡ placeOf from (pageAt s ks k)
-      go (yes q) = ap (λ (x : ℕ). getD marks′ x 0 % 64) q ∙ put-cursor ∙ e ∙ ap (λ (x : ℕ). placeOf from (pageAt s ks x)) (sym q)
+      go : Dec (k ≡ i) → getD tails′ k 0 % 64 ≡ placeOf from (pageAt s ks k)
+      go (yes q) =
+          ap (λ (x : ℕ). getD tails′ x 0 % 64) q ∙ put-cursor ∙ e ∙ ap (λ (x : ℕ). placeOf from (pageAt s ks x))
+          (sym q)
       go (no q) = other-cursor k q ∙ h k (omega (arith, l, q))

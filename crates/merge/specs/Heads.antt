@@ -1,5 +1,5 @@
 -- The heads of the pages of a merge: the first entry that is left of each, as two numbers in whose order entries
--- stand. The mark of a page also tells its cursor, the slot of that entry.
+-- stand. The tail of a page also tells its cursor, the slot of that entry.
 use mathlib.Core.Path.{_≡_}
 use mathlib.Core.List.{List, [], _∷_}
 use Prim.Native.Nat.{ℕ, _+_, _*_, _/_, _%_, _≤_, _<_}
@@ -7,7 +7,7 @@ use lib.ListN.{length, getD, drop}
 use Rattle.lists.specs.Block.{blocks, block}
 use Rattle.page.specs.declared.Pair.{Pair}
 use Rattle.page.specs.declared.Entry.{Entry}
-use Rattle.page.specs.Entries.{entriesOf}
+use Rattle.page.specs.Entries.{entryAt, entriesOf}
 use Rattle.page.specs.Places.{placeOf}
 use Rattle.page.specs.Allowed.{Sorted, Allowed}
 use Rattle.merge.specs.Tree.{maxPages, Won}
@@ -31,9 +31,13 @@ keyOf [] = noKey
 keyOf (e ∷ es) = pairKey (e .pair)
 
 -- its offset and the cursor
-abbrev pub markOf : (cursor : ℕ) → List Entry → ℕ
-markOf c [] = c
-markOf c (e ∷ es) = e .pair .offset * 64 + c
+abbrev pub tailOf : (cursor : ℕ) → List Entry → ℕ
+tailOf c [] = c
+tailOf c (e ∷ es) = e .pair .offset * 64 + c
+
+-- the first entry that is left of the page in block b, by the tail, that tells its slot
+abbrev pub firstAt : (s : List ℕ) (b tail : ℕ) → Entry
+firstAt s b tail = entryAt (block s b) (tail % 64)
 
 module _ (s ks : List ℕ) where
   -- the entries of page i
@@ -47,33 +51,33 @@ module _ (s ks : List ℕ) where
     pub sorted : (i : ℕ) → i < n → Sorted (block s (getD ks i 0))
     pub allowed : (i : ℕ) → i < n → Allowed (pageAt i)
 
-  -- what is left of page i, by the marks
-  abbrev pub leftOf : (marks : List ℕ) → ℕ → List Entry
-  leftOf marks i = drop (getD marks i 0 % 64) (pageAt i)
+  -- what is left of page i, by the tails
+  abbrev pub leftOf : (tails : List ℕ) → ℕ → List Entry
+  leftOf tails i = drop (getD tails i 0 % 64) (pageAt i)
 
-  -- key and mark tell the head of page i
-  pub record Head (keys marks : List ℕ) (i : ℕ) : Type 0 where
-    pub key : getD keys i 0 ≡ keyOf (leftOf marks i)
-    pub mark : getD marks i 0 ≡ markOf (getD marks i 0 % 64) (leftOf marks i)
-    pub few : getD marks i 0 % 64 ≤ 40
+  -- key and tail tell the head of page i
+  pub record Head (keys tails : List ℕ) (i : ℕ) : Type 0 where
+    pub key : getD keys i 0 ≡ keyOf (leftOf tails i)
+    pub tail : getD tails i 0 ≡ tailOf (getD tails i 0 % 64) (leftOf tails i)
+    pub few : getD tails i 0 % 64 ≤ 40
 
-  pub record Heads (n : ℕ) (keys marks : List ℕ) : Type 0 where
+  pub record Heads (n : ℕ) (keys tails : List ℕ) : Type 0 where
     pub keys-size : length keys ≡ maxPages
-    pub marks-size : length marks ≡ maxPages
-    pub each : (i : ℕ) → i < n → Head keys marks i
+    pub tails-size : length tails ≡ maxPages
+    pub each : (i : ℕ) → i < n → Head keys tails i
 
   -- a merge under way
-  pub record Merging (n : ℕ) (keys marks tree : List ℕ) : Type 0 where
+  pub record Merging (n : ℕ) (keys tails tree : List ℕ) : Type 0 where
     pub pages : Pages n
-    pub heads : Heads n keys marks
-    pub won : Won keys marks n tree
+    pub heads : Heads n keys tails
+    pub won : Won keys tails n tree
 
   -- every cursor stands at the sorted place of a pair
-  abbrev pub CursorsAt : (from : Pair) (n : ℕ) (marks : List ℕ) → Type 0
-  CursorsAt from n marks = (i : ℕ) → i < n → getD marks i 0 % 64 ≡ placeOf from (pageAt i)
+  abbrev pub CursorsAt : (from : Pair) (n : ℕ) (tails : List ℕ) → Type 0
+  CursorsAt from n tails = (i : ℕ) → i < n → getD tails i 0 % 64 ≡ placeOf from (pageAt i)
 
 -- the first entry that is left of the page at node 1 is taken
-pub record Moved (s ks : List ℕ) (n : ℕ) (tree marks keys′ marks′ tree′ : List ℕ) : Type 0 where
+pub record Moved (s ks : List ℕ) (n : ℕ) (tree tails keys′ tails′ tree′ : List ℕ) : Type 0 where
   pub entry : Entry
-  pub taken : Taken (leftOf s ks marks) (leftOf s ks marks′) (getD tree 1 0) entry
-  pub merging : Merging s ks n keys′ marks′ tree′
+  pub taken : Taken (leftOf s ks tails) (leftOf s ks tails′) (getD tree 1 0) entry
+  pub merging : Merging s ks n keys′ tails′ tree′

@@ -13,7 +13,7 @@ use Rattle.page.specs.declared.Entry.{Entry}
 use Rattle.page.specs.Pair.{before, pairOf, ascending}
 use Rattle.page.specs.PairLaws.{no-way, before-trans, before-conn}
 use Rattle.page.specs.SublistLaws.{each-map}
-use Rattle.page.specs.AscendingLaws.{ascending-head, ascending-tail}
+use Rattle.page.specs.AscendingLaws.{ascending-head}
 use Rattle.merge.specs.Merge.{leads, joined, Best, Taken}
 
 -- ---- not before
@@ -29,7 +29,8 @@ before-then p q r h k = go (before q r) refl
 -- ---- lists joined by number
 
 module _ (f : ℕ → List Entry) where
-  pub joined-each : (P : Entry → Type 0) (i n : ℕ) → ((k : ℕ) → i ≤ k → k < i + n → Each P (f k)) → Each P (joined f i n)
+  pub joined-each : (P : Entry → Type 0) (i n : ℕ) → ((k : ℕ) → i ≤ k → k < i + n → Each P (f k)) → Each P
+      (joined f i n)
   joined-each P i zero h = tt
   joined-each P i (suc n) h =
       each-append P (f i) (joined f (suc i) n) (h i (omega arith) (omega arith))
@@ -94,15 +95,6 @@ module _ (f : ℕ → List Entry) where
               r .1
           go (no q) = subst (Each P) (taken .other i q) h
 
-      pub taken-up : (i : ℕ) → ascending pairOf (f i) ≡ true → ascending pairOf (g i) ≡ true
-      taken-up i h = go (ℕ-discrete i j)
-        where
-          go : Dec (i ≡ j) → ascending pairOf (g i) ≡ true
-          go (yes q) =
-              let r : f i ≡ e ∷ g i = ap f q ∙ taken .here ∙ ap (λ (x : ℕ). e ∷ g x) (sym q) in
-              ascending-tail pairOf e (g i) (ap (ascending pairOf) (sym r) ∙ h)
-          go (no q) = ap (ascending pairOf) (sym (taken .other i q)) ∙ h
-
 -- ---- the list that leads
 
 leads-empty : (ys : List Entry) → leads [] ys ≡ true → ys ≡ []
@@ -114,8 +106,11 @@ leads-each : (x : Entry) (xs ys : List Entry) → leads (x ∷ xs) ys ≡ true �
     → Each (λ y. before (y .pair) (x .pair) ≡ false) ys
 leads-each x xs [] h a = tt
 leads-each x xs (y ∷ ys) h a =
-    let first : before (y .pair) (x .pair) ≡ false = not-yes _ h in
-    (first, each-map (λ z. before (y .pair) (z .pair) ≡ true) (λ z. before (z .pair) (x .pair) ≡ false) (later first) ys (ascending-head pairOf y ys a))
+    let first : before (y .pair) (x .pair) ≡ false = not-yes _ h in (
+      first,
+      each-map (λ z. before (y .pair) (z .pair) ≡ true) (λ z. before (z .pair) (x .pair) ≡ false)
+          (later first) ys (ascending-head pairOf y ys a),
+    )
   where
     later : before (y .pair) (x .pair) ≡ false → (z : Entry) → before (y .pair) (z .pair) ≡ true
         → before (z .pair) (x .pair) ≡ false

@@ -22,25 +22,26 @@ use Rattle.merge.specs.Tree.{ahead, Above, Settled, Won}
 use Rattle.merge.specs.ReplayLaws.{won-upto, won-first, settled-moved}
 use Rattle.merge.specs.Merge.{leads, joined, Best}
 use Rattle.merge.specs.MergeLaws.{best-end}
-use Rattle.merge.specs.Heads.{noKey, pairKey, pairFrom, keyOf, markOf, pageAt, leftOf, Merging, Moved}
-use Rattle.merge.specs.HeadLaws.{key-done, head-leads, head-pair, left-done, left-more, put-left, other-left, heads-put}
+use Rattle.merge.specs.Heads.{noKey, pairKey, pairFrom, keyOf, tailOf, pageAt, leftOf, Merging, Moved}
+use Rattle.merge.specs.HeadLaws.{key-done, head-leads, head-pair, left-done}
+use Rattle.merge.specs.HeadLaws.{left-more, put-left, other-left, heads-put}
 
-module _ {s ks : List ℕ} {n : ℕ} {keys marks tree : List ℕ} (m : Merging s ks n keys marks tree) where
-  pub left-allowed : (i : ℕ) → i < n → Allowed (leftOf s ks marks i)
-  left-allowed i h = allowed-sublist (sublist-drop (getD marks i 0 % 64) (pageAt s ks i)) (m .pages .allowed i h)
+module _ {s ks : List ℕ} {n : ℕ} {keys tails tree : List ℕ} (m : Merging s ks n keys tails tree) where
+  pub left-allowed : (i : ℕ) → i < n → Allowed (leftOf s ks tails i)
+  left-allowed i h = allowed-sublist (sublist-drop (getD tails i 0 % 64) (pageAt s ks i)) (m .pages .allowed i h)
 
-  pub merging-up : (i : ℕ) → i < n → ascending pairOf (leftOf s ks marks i) ≡ true
+  pub merging-up : (i : ℕ) → i < n → ascending pairOf (leftOf s ks tails i) ≡ true
   merging-up i h = left-allowed i h .order
 
-  ahead-leads : (i j : ℕ) → i < n → j < n → ahead keys marks i j ≡ true
-      → leads (leftOf s ks marks i) (leftOf s ks marks j) ≡ true
+  ahead-leads : (i j : ℕ) → i < n → j < n → ahead keys tails i j ≡ true
+      → leads (leftOf s ks tails i) (leftOf s ks tails j) ≡ true
   unfolding ahead
   ahead-leads i j h l t =
       let a = m .heads .each i h in
       let b = m .heads .each j l in
-      head-leads (leftOf s ks marks i) (leftOf s ks marks j) (getD marks i 0 % 64) (getD marks j 0 % 64)
+      head-leads (leftOf s ks tails i) (leftOf s ks tails j) (getD tails i 0 % 64) (getD tails j 0 % 64)
       (omega (arith, a .few)) (omega (arith, b .few)) (left-allowed i h) (left-allowed j l)
-      (rw (← a .key, ← b .key, ← a .mark, ← b .mark) t)
+      (rw (← a .key, ← b .key, ← a .tail, ← b .tail) t)
 
   module _ (some : 1 ≤ n) where
     abbrev j : ℕ
@@ -49,46 +50,46 @@ module _ {s ks : List ℕ} {n : ℕ} {keys marks tree : List ℕ} (m : Merging s
     pub merging-upto : getD tree 1 0 < n
     merging-upto = won-upto (m .won) some
 
-    pub merging-best : Best (leftOf s ks marks) n (getD tree 1 0)
+    pub merging-best : Best (leftOf s ks tails) n (getD tree 1 0)
     merging-best =
         record {
           upto = merging-upto;
           first = λ i h. ahead-leads j i merging-upto h (won-first (m .won) i h);
         }
 
-    pub merging-none : getD keys (getD tree 1 0) 0 ≡ noKey → leftOf s ks marks (getD tree 1 0) ≡ []
+    pub merging-none : getD keys (getD tree 1 0) 0 ≡ noKey → leftOf s ks tails (getD tree 1 0) ≡ []
     merging-none e =
-        key-done (leftOf s ks marks j) (left-allowed j merging-upto) (sym (m .heads .each j merging-upto .key) ∙ e)
+        key-done (leftOf s ks tails j) (left-allowed j merging-upto) (sym (m .heads .each j merging-upto .key) ∙ e)
 
     -- nothing is left
-    pub merging-done : getD keys (getD tree 1 0) 0 ≡ noKey → joined (leftOf s ks marks) 0 n ≡ []
-    merging-done e = best-end (leftOf s ks marks) n merging-best (merging-none e)
+    pub merging-done : getD keys (getD tree 1 0) 0 ≡ noKey → joined (leftOf s ks tails) 0 n ≡ []
+    merging-done e = best-end (leftOf s ks tails) n merging-best (merging-none e)
 
     -- ---- its first entry
 
-    module _ (e : Entry) (es : List Entry) (first : leftOf s ks marks (getD tree 1 0) ≡ e ∷ es) where
+    module _ (e : Entry) (es : List Entry) (first : leftOf s ks tails (getD tree 1 0) ≡ e ∷ es) where
       pub next-key : getD keys (getD tree 1 0) 0 ≡ pairKey (e .pair)
       next-key = m .heads .each j merging-upto .key ∙ ap keyOf first
 
-      pub next-offset : getD marks (getD tree 1 0) 0 / 64 ≡ e .pair .offset
+      pub next-offset : getD tails (getD tree 1 0) 0 / 64 ≡ e .pair .offset
       next-offset =
-          omega (arith, m .heads .each j merging-upto .mark, ap (markOf (getD marks j 0 % 64)) first)
+          omega (arith, m .heads .each j merging-upto .tail, ap (tailOf (getD tails j 0 % 64)) first)
 
-      pub next-pair : pairFrom (getD keys (getD tree 1 0) 0) (getD marks (getD tree 1 0) 0 / 64) ≡ e .pair
+      pub next-pair : pairFrom (getD keys (getD tree 1 0) 0) (getD tails (getD tree 1 0) 0 / 64) ≡ e .pair
       next-pair =
           let h = m .heads .each j merging-upto in
-          let c = getD marks j 0 % 64 in
-          sym (head-pair e es c (getD keys j 0) (getD marks j 0) (omega arith)
-          (rw first at (left-allowed j merging-upto)) next-key (h .mark ∙ ap (markOf c) first))
+          let c = getD tails j 0 % 64 in
+          sym (head-pair e es c (getD keys j 0) (getD tails j 0) (omega arith)
+          (rw first at (left-allowed j merging-upto)) next-key (h .tail ∙ ap (tailOf c) first))
 
       pub next-fits : PairFits (e .pair)
       next-fits = (rw first at (left-allowed j merging-upto)) .fit .0
 
     -- where it is not the key of nothing it is below it
     pub next-below : getD keys (getD tree 1 0) 0 ≢ noKey → getD keys (getD tree 1 0) 0 < noKey
-    next-below ne = go (leftOf s ks marks j) refl
+    next-below ne = go (leftOf s ks tails j) refl
       where
-        go : (xs : List Entry) → leftOf s ks marks j ≡ xs → getD keys j 0 < noKey
+        go : (xs : List Entry) → leftOf s ks tails j ≡ xs → getD keys j 0 < noKey
         go [] z = absurd (ne (m .heads .each j merging-upto .key ∙ ap keyOf z))
         go (e ∷ es) z =
             let f = next-fits e es z in omega (arith, ne, next-key e es z, f .hash, f .block)
@@ -96,7 +97,7 @@ module _ {s ks : List ℕ} {n : ℕ} {keys marks tree : List ℕ} (m : Merging s
     -- its first entry is taken
     module _ (more : getD keys (getD tree 1 0) 0 < noKey) where
       abbrev c : ℕ
-      c = getD marks j 0 % 64
+      c = getD tails j 0 % 64
 
       abbrev page : List ℕ
       page = block s (getD ks j 0)
@@ -107,40 +108,40 @@ module _ {s ks : List ℕ} {n : ℕ} {keys marks tree : List ℕ} (m : Merging s
           go : Dec (c < u16At page 0) → c < u16At page 0
           go (yes l) = l
           go (no l) =
-              let z : leftOf s ks marks j ≡ [] = left-done page c (omega (arith, l)) in
+              let z : leftOf s ks tails j ≡ [] = left-done page c (omega (arith, l)) in
               absurd (omega (arith, more, m .heads .each j merging-upto .key, ap keyOf z))
 
-      pub next-few : getD marks (getD tree 1 0) 0 % 64 + 1 ≤ 40
+      pub next-few : getD tails (getD tree 1 0) 0 % 64 + 1 ≤ 40
       next-few = omega (arith, below, number-le page (m .pages .sorted j merging-upto .number))
 
-      pub first-left : leftOf s ks marks (getD tree 1 0)
-          ≡ entryAt (block s (getD ks (getD tree 1 0) 0)) (getD marks (getD tree 1 0) 0 % 64)
-          ∷ drop (getD marks (getD tree 1 0) 0 % 64 + 1) (pageAt s ks (getD tree 1 0))
+      pub first-left : leftOf s ks tails (getD tree 1 0)
+          ≡ entryAt (block s (getD ks (getD tree 1 0) 0)) (getD tails (getD tree 1 0) 0 % 64)
+          ∷ drop (getD tails (getD tree 1 0) 0 % 64 + 1) (pageAt s ks (getD tree 1 0))
       first-left =
           left-more page c below
           ∙ ap (λ (k : ℕ). entryAt page c ∷ drop k (pageAt s ks j)) (sym (add-one c))
 
-      module _ (keys′ marks′ : List ℕ)
+      module _ (keys′ tails′ : List ℕ)
           (put-keys : keys′ ≡ set keys (getD tree 1 0)
-          (keyOf (drop (getD marks (getD tree 1 0) 0 % 64 + 1) (pageAt s ks (getD tree 1 0)))))
-          (put-marks : marks′ ≡ set marks (getD tree 1 0) (markOf (getD marks (getD tree 1 0) 0 % 64 + 1)
-          (drop (getD marks (getD tree 1 0) 0 % 64 + 1) (pageAt s ks (getD tree 1 0))))) where
+          (keyOf (drop (getD tails (getD tree 1 0) 0 % 64 + 1) (pageAt s ks (getD tree 1 0)))))
+          (put-tails : tails′ ≡ set tails (getD tree 1 0) (tailOf (getD tails (getD tree 1 0) 0 % 64 + 1)
+          (drop (getD tails (getD tree 1 0) 0 % 64 + 1) (pageAt s ks (getD tree 1 0))))) where
         abbrev left : List Entry
         left = drop (c + 1) (pageAt s ks j)
 
         in-keys : j < length keys
         in-keys = omega (arith, merging-upto, m .pages .few, m .heads .keys-size)
 
-        in-marks : j < length marks
-        in-marks = omega (arith, merging-upto, m .pages .few, m .heads .marks-size)
+        in-tails : j < length tails
+        in-tails = omega (arith, merging-upto, m .pages .few, m .heads .tails-size)
 
-        pub taken-settled : Settled keys′ marks′ n tree (Above ((n + getD tree 1 0) / 2))
+        pub taken-settled : Settled keys′ tails′ n tree (Above ((n + getD tree 1 0) / 2))
         taken-settled =
-            settled-moved (m .won) keys′ marks′ j
+            settled-moved (m .won) keys′ tails′ j
             (λ i ne. ap (λ (l : List ℕ). getD l i 0) put-keys ∙ getD-set-other keys j i (keyOf left) 0 ne)
-            (λ i ne. ap (λ (l : List ℕ). getD l i 0) put-marks ∙ getD-set-other marks j i (markOf (c + 1) left) 0 ne)
+            (λ i ne. ap (λ (l : List ℕ). getD l i 0) put-tails ∙ getD-set-other tails j i (tailOf (c + 1) left) 0 ne)
 
-        pub taken-moved : (tree′ : List ℕ) → Won keys′ marks′ n tree′ → Moved s ks n tree marks keys′ marks′ tree′
+        pub taken-moved : (tree′ : List ℕ) → Won keys′ tails′ n tree′ → Moved s ks n tree tails keys′ tails′ tree′
         taken-moved tree′ won =
             record {
               entry = entryAt page c;
@@ -149,19 +150,19 @@ module _ {s ks : List ℕ} {n : ℕ} {keys marks tree : List ℕ} (m : Merging s
                     here =
                         first-left
                         ∙ ap (λ (es : List Entry). entryAt page c ∷ es)
-                        (sym (ap (λ (l : List ℕ). leftOf s ks l j) put-marks
-                        ∙ put-left s ks keys marks j (c + 1) in-keys in-marks next-few));
+                        (sym (ap (λ (l : List ℕ). leftOf s ks l j) put-tails
+                        ∙ put-left s ks keys tails j (c + 1) in-keys in-tails next-few));
                     other = λ i ne.
-                        sym (ap (λ (l : List ℕ). leftOf s ks l i) put-marks
-                        ∙ other-left s ks keys marks j (c + 1) in-keys in-marks next-few i ne);
+                        sym (ap (λ (l : List ℕ). leftOf s ks l i) put-tails
+                        ∙ other-left s ks keys tails j (c + 1) in-keys in-tails next-few i ne);
                   };
               merging =
                   record {
                     pages = m .pages;
                     heads =
-                        rw (put-keys, put-marks)
-                        (heads-put s ks keys marks j (c + 1) in-keys in-marks next-few n (m .heads .keys-size)
-                        (m .heads .marks-size) (λ k h ne. m .heads .each k h));
+                        rw (put-keys, put-tails)
+                        (heads-put s ks keys tails j (c + 1) in-keys in-tails next-few n (m .heads .keys-size)
+                        (m .heads .tails-size) (λ k h ne. m .heads .each k h));
                     won = won;
                   };
             }

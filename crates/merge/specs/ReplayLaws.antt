@@ -3,12 +3,12 @@ use mathlib.Core.Path.{_≡_, refl, sym, ap₂, subst, _∙_}
 use mathlib.Core.Logic.{_≢_}
 use mathlib.Core.Bool.{Bool, true, false}
 use mathlib.Core.List.{List}
-use Prim.Native.Nat.{ℕ, zero, suc, _+_, _*_, _-_, _/_, _%_, _≤_, _<_}
+use Prim.Native.Nat.{ℕ, zero, suc, _+_, _*_, _-_, _/_, _≤_, _<_}
 use native.Mathlib.Omega.{arith}
 use native.Mathlib.Decide.{ℕ-discrete}
 use lib.ListN.{length, getD, set}
 use lib.Seq.{getD-set-same}
-use Rattle.merge.specs.Tree.{maxPages, Above, Nowhere, noLater, ahead, winner, Tops, Settled, Won}
+use Rattle.merge.specs.Tree.{maxPages, Above, Nowhere, ahead, winner, Tops, Settled, Won}
 use Rattle.merge.specs.TreeLaws.{ahead-refl, ahead-trans, above-up, above-half, not-above, above-none}
 use Rattle.merge.specs.TreeLaws.{Picked, winner-picked, here-picked, side-picked, settled-more, settled-put}
 
@@ -16,10 +16,10 @@ use Rattle.merge.specs.TreeLaws.{Picked, winner-picked, here-picked, sid
 abbrev pub Under : (k c : ℕ) → Type 0
 Under k c = c < k
 
-module _ (keys marks : List ℕ) (n : ℕ) (tree : List ℕ) where
+module _ (keys tails : List ℕ) (n : ℕ) (tree : List ℕ) where
   -- what the step at node k reads is in range
   pub pages-below : (Open : ℕ → Type 0) (k : ℕ) → 1 ≤ k → k < n → n ≤ maxPages → (Open (2 * k) → ⊥)
-      → (Open (2 * k + 1) → ⊥) → Settled keys marks n tree Open
+      → (Open (2 * k + 1) → ⊥) → Settled keys tails n tree Open
       → (k < maxPages) × (getD tree (2 * k) 0 < maxPages) × (getD tree (2 * k + 1) 0 < maxPages)
   pages-below Open k l u m o p s =
       let a = s .few (2 * k) (omega arith) (omega arith) o in
@@ -29,7 +29,7 @@ module _ (keys marks : List ℕ) (n : ℕ) (tree : List ℕ) where
   -- ---- building: the nodes under k are open
 
   pub leaves-settled : length tree ≡ 2 * maxPages → ((i : ℕ) → i < n → getD tree (n + i) 0 ≡ i)
-      → Settled keys marks n tree (Under n)
+      → Settled keys tails n tree (Under n)
   leaves-settled size leaf =
       record {
         size = size;
@@ -44,39 +44,39 @@ module _ (keys marks : List ℕ) (n : ℕ) (tree : List ℕ) where
           let e : n + (c - n) ≡ c = omega arith in
           omega (arith, rw e at (leaf (c - n) (omega arith)))
 
-  pub built-next : (k : ℕ) → 1 < k → k ≤ n → n ≤ maxPages → Settled keys marks n tree (Under k)
-      → Settled keys marks n (set tree (k - 1) (winner keys marks tree (k - 1))) (Under (k - 1))
+  pub built-next : (k : ℕ) → 1 < k → k ≤ n → n ≤ maxPages → Settled keys tails n tree (Under k)
+      → Settled keys tails n (set tree (k - 1) (winner keys tails tree (k - 1))) (Under (k - 1))
   built-next k l u m s =
-      settled-put keys marks n tree (Under k) (Under (k - 1)) (k - 1) s m (omega arith) (omega arith)
+      settled-put keys tails n tree (Under k) (Under (k - 1)) (k - 1) s m (omega arith) (omega arith)
       (λ o. omega arith) (λ o. omega arith) (λ c o ne p. omega arith) (λ c b o. omega arith)
-      (winner keys marks tree (k - 1)) (winner-picked keys marks tree (k - 1))
+      (winner keys tails tree (k - 1)) (winner-picked keys tails tree (k - 1))
 
-  pub built-won : (k : ℕ) → k ≤ 1 → Settled keys marks n tree (Under k) → Won keys marks n tree
-  built-won k l s = settled-more keys marks n tree (Under k) Nowhere (λ c b o p. omega arith) s
+  pub built-won : (k : ℕ) → k ≤ 1 → Settled keys tails n tree (Under k) → Won keys tails n tree
+  built-won k l s = settled-more keys tails n tree (Under k) Nowhere (λ c b o p. omega arith) s
 
   -- ---- replaying: the nodes above k are open, and k
 
-  replayed-next : (k : ℕ) → 1 ≤ k → k < n → n ≤ maxPages → Settled keys marks n tree (Above k)
-      → (w : ℕ) → Picked keys marks tree k w → Settled keys marks n (set tree k w) (Above (k / 2))
+  replayed-next : (k : ℕ) → 1 ≤ k → k < n → n ≤ maxPages → Settled keys tails n tree (Above k)
+      → (w : ℕ) → Picked keys tails tree k w → Settled keys tails n (set tree k w) (Above (k / 2))
   replayed-next k l u m s =
-      settled-put keys marks n tree (Above k) (Above (k / 2)) k s m l u
+      settled-put keys tails n tree (Above k) (Above (k / 2)) k s m l u
       (not-above k (2 * k) (omega arith)) (not-above k (2 * k + 1) (omega arith))
       (λ c o ne a. o (above-half k c ne a)) (λ c b o e. o (0, sym e))
 
-  pub replayed-won : (k : ℕ) → k ≤ 0 → Settled keys marks n tree (Above k) → Won keys marks n tree
+  pub replayed-won : (k : ℕ) → k ≤ 0 → Settled keys tails n tree (Above k) → Won keys tails n tree
   replayed-won k l s =
       let e : k ≡ 0 = omega arith in
-      settled-more keys marks n tree (Above k) Nowhere (λ c b o a. above-none c b (rw e at a)) s
+      settled-more keys tails n tree (Above k) Nowhere (λ c b o a. above-none c b (rw e at a)) s
 
 -- page p, of key x, goes up from node k: the nodes above it are open
-pub record Rising (keys marks : List ℕ) (n : ℕ) (tree : List ℕ) (k p x : ℕ) : Type 0 where
+pub record Rising (keys tails : List ℕ) (n : ℕ) (tree : List ℕ) (k p x : ℕ) : Type 0 where
   pub node : (1 ≤ k) × (k < 2 * n)
   pub page : p ≡ getD tree k 0
   pub key : x ≡ getD keys p 0
-  pub rest : Settled keys marks n tree (Above (k / 2))
+  pub rest : Settled keys tails n tree (Above (k / 2))
 
-module _ {keys marks : List ℕ} {n : ℕ} {tree : List ℕ} {k p x : ℕ} (few : n ≤ maxPages)
-    (r : Rising keys marks n tree k p x) where
+module _ {keys tails : List ℕ} {n : ℕ} {tree : List ℕ} {k p x : ℕ} (few : n ≤ maxPages)
+    (r : Rising keys tails n tree k p x) where
   -- the sibling of node k is right, so that its page is in range
   pub sibling-few : 1 < k → getD tree (4 * (k / 2) + 1 - k) 0 < n
   sibling-few l =
@@ -92,37 +92,40 @@ module _ {keys marks : List ℕ} {n : ℕ} {tree : List ℕ} {k p x : ℕ} (few 
       )
 
   -- the page that is ahead goes up to the node above node k
-  rise : (w : ℕ) → 1 < k → Picked keys marks tree (k / 2) w
-      → Rising keys marks n (set tree (k / 2) w) (k / 2) w (getD keys w 0)
+  rise : (w : ℕ) → 1 < k → Picked keys tails tree (k / 2) w
+      → Rising keys tails n (set tree (k / 2) w) (k / 2) w (getD keys w 0)
   rise w l picked =
       record {
         node = (omega (arith, l), omega (arith, l, r .node .1));
         page = sym (getD-set-same tree (k / 2) w 0 (omega (arith, r .rest .size, r .node .1, few)));
         key = refl;
         rest =
-            replayed-next keys marks n tree (k / 2) (omega (arith, l)) (omega (arith, r .node .1)) few (r .rest) w picked;
+            replayed-next keys tails n tree (k / 2) (omega (arith, l)) (omega (arith, r .node .1)) few
+            (r .rest) w picked;
       }
 
   module _ (l : 1 < k) (q : ℕ) (e : q ≡ getD tree (4 * (k / 2) + 1 - k) 0) where
-    test : (t : Bool) → ahead keys marks p q ≡ t
-        → ahead keys marks (getD tree k 0) (getD tree (4 * (k / 2) + 1 - k) 0) ≡ t
-    test t h = ap₂ (λ (a b : ℕ). ahead keys marks a b) (sym (r .page)) (sym e) ∙ h
+    test : (t : Bool) → ahead keys tails p q ≡ t
+        → ahead keys tails (getD tree k 0) (getD tree (4 * (k / 2) + 1 - k) 0) ≡ t
+    test t h = ap₂ (λ (a b : ℕ). ahead keys tails a b) (sym (r .page)) (sym e) ∙ h
 
-    pub rise-here : ahead keys marks p q ≡ true → Rising keys marks n (set tree (k / 2) p) (k / 2) p x
+    pub rise-here : ahead keys tails p q ≡ true → Rising keys tails n (set tree (k / 2) p) (k / 2) p x
     rise-here h =
-        subst (Rising keys marks n (set tree (k / 2) p) (k / 2) p) (sym (r .key))
-        (rise p l (subst (Picked keys marks tree (k / 2)) (sym (r .page)) (here-picked keys marks tree k (test true h))))
+        subst (Rising keys tails n (set tree (k / 2) p) (k / 2) p) (sym (r .key))
+        (rise p l (subst (Picked keys tails tree (k / 2)) (sym (r .page)) (here-picked keys tails tree k
+        (test true h))))
 
-    pub rise-side : ahead keys marks p q ≡ false
-        → Rising keys marks n (set tree (k / 2) q) (k / 2) q (getD keys q 0)
-    rise-side h = rise q l (subst (Picked keys marks tree (k / 2)) (sym e) (side-picked keys marks tree k (test false h)))
+    pub rise-side : ahead keys tails p q ≡ false
+        → Rising keys tails n (set tree (k / 2) q) (k / 2) q (getD keys q 0)
+    rise-side h =
+        rise q l (subst (Picked keys tails tree (k / 2)) (sym e) (side-picked keys tails tree k (test false h)))
 
-  pub risen : k ≤ 1 → Won keys marks n tree
-  risen l = replayed-won keys marks n tree (k / 2) (omega (arith, l)) (r .rest)
+  pub risen : k ≤ 1 → Won keys tails n tree
+  risen l = replayed-won keys tails n tree (k / 2) (omega (arith, l)) (r .rest)
 
 -- ---- a finished tree
 
-module _ {keys marks : List ℕ} {n : ℕ} {tree : List ℕ} (s : Won keys marks n tree) where
+module _ {keys tails : List ℕ} {n : ℕ} {tree : List ℕ} (s : Won keys tails n tree) where
   -- no node is open
   shut : ⊥ → ⊥
   shut o = o
@@ -132,16 +135,16 @@ module _ {keys marks : List ℕ} {n : ℕ} {tree : List ℕ} (s : Won keys marks
 
   -- the page at node 1 is ahead of the page at node c
   abbrev First : ℕ → Type 0
-  First c = ahead keys marks (getD tree 1 0) (getD tree c 0) ≡ true
+  First c = ahead keys tails (getD tree 1 0) (getD tree c 0) ≡ true
 
   first-below : (c : ℕ) → 2 ≤ c → c < 2 * n → First (c / 2) → First c
   first-below c l u f = go (ℕ-discrete c (2 * (c / 2)))
     where
-      b : Tops keys marks tree (c / 2)
+      b : Tops keys tails tree (c / 2)
       b = s .tops (c / 2) (omega arith) (omega arith) shut
 
-      step : (a : ℕ) → ahead keys marks (getD tree (c / 2) 0) a ≡ true → ahead keys marks (getD tree 1 0) a ≡ true
-      step a = ahead-trans keys marks (getD tree 1 0) (getD tree (c / 2) 0) a f
+      step : (a : ℕ) → ahead keys tails (getD tree (c / 2) 0) a ≡ true → ahead keys tails (getD tree 1 0) a ≡ true
+      step a = ahead-trans keys tails (getD tree 1 0) (getD tree (c / 2) 0) a f
 
       go : Dec (c ≡ 2 * (c / 2)) → First c
       go (yes e) = subst First (sym e) (step (getD tree (2 * (c / 2)) 0) (b .first))
@@ -156,16 +159,16 @@ module _ {keys marks : List ℕ} {n : ℕ} {tree : List ℕ} (s : Won keys marks
       go (ℕ-discrete c 1) (λ h. first-node m (c / 2) (omega arith) (omega arith) (omega arith))
     where
       go : Dec (c ≡ 1) → (2 ≤ c → First (c / 2)) → First c
-      go (yes e) f = rw e (ahead-refl keys marks (getD tree 1 0))
+      go (yes e) f = rw e (ahead-refl keys tails (getD tree 1 0))
       go (no ne) f = first-below c (omega arith) u (f (omega arith))
 
-  pub won-first : (i : ℕ) → i < n → ahead keys marks (getD tree 1 0) i ≡ true
+  pub won-first : (i : ℕ) → i < n → ahead keys tails (getD tree 1 0) i ≡ true
   won-first i l = rw (s .leaf i l) at (first-node (n + i) (n + i) (omega arith) (omega arith) (omega arith))
 
   -- the head of page j changes: the nodes above its leaf are open
-  module _ (keys' marks' : List ℕ) (j : ℕ) (k : (i : ℕ) → i ≢ j → getD keys' i 0 ≡ getD keys i 0)
-      (m : (i : ℕ) → i ≢ j → getD marks' i 0 ≡ getD marks i 0) where
-    ahead-kept : (a b : ℕ) → a ≢ j → b ≢ j → ahead keys marks a b ≡ true → ahead keys' marks' a b ≡ true
+  module _ (keys' tails' : List ℕ) (j : ℕ) (k : (i : ℕ) → i ≢ j → getD keys' i 0 ≡ getD keys i 0)
+      (m : (i : ℕ) → i ≢ j → getD tails' i 0 ≡ getD tails i 0) where
+    ahead-kept : (a b : ℕ) → a ≢ j → b ≢ j → ahead keys tails a b ≡ true → ahead keys' tails' a b ≡ true
     unfolding ahead
     ahead-kept a b p q h = rw (k a p, k b q, m a p, m b q) h
 
@@ -178,7 +181,7 @@ module _ {keys marks : List ℕ} {n : ℕ} {tree : List ℕ} (s : Won keys marks
     half : (b c : ℕ) → b / 2 ≡ c → Above (n + j) b → Above (n + j) c
     half b c e a = subst (Above (n + j)) e (above-up (n + j) b a)
 
-    pub settled-moved : Settled keys' marks' n tree (Above ((n + j) / 2))
+    pub settled-moved : Settled keys' tails' n tree (Above ((n + j) / 2))
     settled-moved =
         record {
           size = s .size;

@@ -1,4 +1,4 @@
--- The winner tree over n pages, each with a head of two numbers, its key and its mark. Page i is leaf n + i, the nodes
+-- The winner tree over n pages, each with a head of two numbers, its key and its tail. Page i is leaf n + i, the nodes
 -- below node k are 2 k and 2 k + 1.
 use mathlib.Core.Path.{_≡_}
 use mathlib.Core.Bool.{Bool, true, cond}
@@ -24,14 +24,14 @@ Above k c = (d : ℕ) × (halves d k ≡ c)
 abbrev pub Nowhere : ℕ → Type 0
 Nowhere c = ⊥
 
--- a head of key k and mark m comes no later than one of key l and mark o
+-- a head of key k and tail m comes no later than one of key l and tail o
 abbrev pub noLater : (k m l o : ℕ) → Bool
 noLater k m l o = cond (eqb k l) (leb m o) (ltb k l)
 
-module _ (keys marks : List ℕ) where
+module _ (keys tails : List ℕ) where
   -- the head of page a comes no later than that of page b
   unfoldable pub ahead : (a b : ℕ) → Bool
-  ahead a b = noLater (getD keys a 0) (getD marks a 0) (getD keys b 0) (getD marks b 0)
+  ahead a b = noLater (getD keys a 0) (getD tails a 0) (getD keys b 0) (getD tails b 0)
 
   -- of the pages at the two nodes below node k, the one that is ahead
   unfoldable pub winner : (tree : List ℕ) → (k : ℕ) → ℕ

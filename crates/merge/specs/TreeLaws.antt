@@ -13,47 +13,47 @@ use lib.Seq.{getD-set-same, getD-set-other}
 use Rattle.lists.specs.TestLaws.{cond-put}
 use Rattle.merge.specs.Tree.{maxPages, halves, Above, ahead, winner, Tops, Settled}
 
--- ---- the order of the heads: by their keys, and of equal keys by their marks
+-- ---- the order of the heads: by their keys, and of equal keys by their tails
 
-module _ (keys marks : List ℕ) where
+module _ (keys tails : List ℕ) where
   abbrev key : ℕ → ℕ
   key a = getD keys a 0
 
-  abbrev mark : ℕ → ℕ
-  mark a = getD marks a 0
+  abbrev tail : ℕ → ℕ
+  tail a = getD tails a 0
 
-  ahead-put : (a b : ℕ) → key a ≤ key b → (key a ≡ key b → mark a ≤ mark b) → ahead keys marks a b ≡ true
+  ahead-put : (a b : ℕ) → key a ≤ key b → (key a ≡ key b → tail a ≤ tail b) → ahead keys tails a b ≡ true
   unfolding ahead
   ahead-put a b l f =
-      cond-put (eqb (key a) (key b)) (leb (mark a) (mark b)) (ltb (key a) (key b))
-      (λ e. le-leb (mark a) (mark b) (f (eqb-true (key a) (key b) e)))
+      cond-put (eqb (key a) (key b)) (leb (tail a) (tail b)) (ltb (key a) (key b))
+      (λ e. le-leb (tail a) (tail b) (f (eqb-true (key a) (key b) e)))
       (λ e. lt-ltb (key a) (key b) (omega (arith, eqb-false (key a) (key b) e)))
 
-  ahead-yes : (a b : ℕ) → ahead keys marks a b ≡ true → (key a ≤ key b) × (key a ≡ key b → mark a ≤ mark b)
+  ahead-yes : (a b : ℕ) → ahead keys tails a b ≡ true → (key a ≤ key b) × (key a ≡ key b → tail a ≤ tail b)
   unfolding ahead
   ahead-yes a b = go (eqb (key a) (key b)) refl
     where
-      go : (t : Bool) → eqb (key a) (key b) ≡ t → cond t (leb (mark a) (mark b)) (ltb (key a) (key b)) ≡ true
-          → (key a ≤ key b) × (key a ≡ key b → mark a ≤ mark b)
-      go true e h = (omega (arith, eqb-true (key a) (key b) e), λ q. leb-true (mark a) (mark b) h)
+      go : (t : Bool) → eqb (key a) (key b) ≡ t → cond t (leb (tail a) (tail b)) (ltb (key a) (key b)) ≡ true
+          → (key a ≤ key b) × (key a ≡ key b → tail a ≤ tail b)
+      go true e h = (omega (arith, eqb-true (key a) (key b) e), λ q. leb-true (tail a) (tail b) h)
       go false e h = (omega (arith, ltb-true (key a) (key b) h), λ q. absurd (eqb-false (key a) (key b) e q))
 
-  pub ahead-refl : (a : ℕ) → ahead keys marks a a ≡ true
+  pub ahead-refl : (a : ℕ) → ahead keys tails a a ≡ true
   ahead-refl a = ahead-put a a (omega arith) (λ e. omega arith)
 
-  pub ahead-other : (a b : ℕ) → ahead keys marks a b ≡ false → ahead keys marks b a ≡ true
+  pub ahead-other : (a b : ℕ) → ahead keys tails a b ≡ false → ahead keys tails b a ≡ true
   unfolding ahead
   ahead-other a b = go (eqb (key a) (key b)) refl
     where
-      go : (t : Bool) → eqb (key a) (key b) ≡ t → cond t (leb (mark a) (mark b)) (ltb (key a) (key b)) ≡ false
-          → ahead keys marks b a ≡ true
+      go : (t : Bool) → eqb (key a) (key b) ≡ t → cond t (leb (tail a) (tail b)) (ltb (key a) (key b)) ≡ false
+          → ahead keys tails b a ≡ true
       go true e h =
-          ahead-put b a (omega (arith, eqb-true (key a) (key b) e)) (λ q. omega (arith, leb-false (mark a) (mark b) h))
+          ahead-put b a (omega (arith, eqb-true (key a) (key b) e)) (λ q. omega (arith, leb-false (tail a) (tail b) h))
       go false e h =
           ahead-put b a (ltb-false (key a) (key b) h) (λ q. absurd (eqb-false (key a) (key b) e (sym q)))
 
-  pub ahead-trans : (a b c : ℕ) → ahead keys marks a b ≡ true → ahead keys marks b c ≡ true
-      → ahead keys marks a c ≡ true
+  pub ahead-trans : (a b c : ℕ) → ahead keys tails a b ≡ true → ahead keys tails b c ≡ true
+      → ahead keys tails a c ≡ true
   ahead-trans a b c h k =
       let p = ahead-yes a b h in
       let q = ahead-yes b c k in
@@ -92,41 +92,41 @@ above-none c l (d, e) = omega (arith, halves-zero d)
 -- ---- the page that wins at a node
 
 -- page w is one of the two at the nodes below node k, and is ahead of both
-pub data Picked (keys marks tree : List ℕ) (k : ℕ) : ℕ → Type 0 where
-  lefts : ahead keys marks (getD tree (2 * k) 0) (getD tree (2 * k + 1) 0) ≡ true
-      → Picked keys marks tree k (getD tree (2 * k) 0)
-  rights : ahead keys marks (getD tree (2 * k + 1) 0) (getD tree (2 * k) 0) ≡ true
-      → Picked keys marks tree k (getD tree (2 * k + 1) 0)
+pub data Picked (keys tails tree : List ℕ) (k : ℕ) : ℕ → Type 0 where
+  lefts : ahead keys tails (getD tree (2 * k) 0) (getD tree (2 * k + 1) 0) ≡ true
+      → Picked keys tails tree k (getD tree (2 * k) 0)
+  rights : ahead keys tails (getD tree (2 * k + 1) 0) (getD tree (2 * k) 0) ≡ true
+      → Picked keys tails tree k (getD tree (2 * k + 1) 0)
 
-module _ (keys marks tree : List ℕ) (k : ℕ) where
+module _ (keys tails tree : List ℕ) (k : ℕ) where
   abbrev left : ℕ
   left = getD tree (2 * k) 0
 
   abbrev right : ℕ
   right = getD tree (2 * k + 1) 0
 
-  picked-one : (P : ℕ → Type 0) → P left → P right → {w : ℕ} → Picked keys marks tree k w → P w
+  picked-one : (P : ℕ → Type 0) → P left → P right → {w : ℕ} → Picked keys tails tree k w → P w
   picked-one P l r (lefts h) = l
   picked-one P l r (rights h) = r
 
-  picked-first : {w : ℕ} → Picked keys marks tree k w → ahead keys marks w left ≡ true
-  picked-first (lefts h) = ahead-refl keys marks left
+  picked-first : {w : ℕ} → Picked keys tails tree k w → ahead keys tails w left ≡ true
+  picked-first (lefts h) = ahead-refl keys tails left
   picked-first (rights h) = h
 
-  picked-second : {w : ℕ} → Picked keys marks tree k w → ahead keys marks w right ≡ true
+  picked-second : {w : ℕ} → Picked keys tails tree k w → ahead keys tails w right ≡ true
   picked-second (lefts h) = h
-  picked-second (rights h) = ahead-refl keys marks right
+  picked-second (rights h) = ahead-refl keys tails right
 
-  pub winner-picked : Picked keys marks tree k (winner keys marks tree k)
+  pub winner-picked : Picked keys tails tree k (winner keys tails tree k)
   unfolding winner
-  winner-picked = go (ahead keys marks left right) refl
+  winner-picked = go (ahead keys tails left right) refl
     where
-      go : (t : Bool) → ahead keys marks left right ≡ t → Picked keys marks tree k (cond t left right)
+      go : (t : Bool) → ahead keys tails left right ≡ t → Picked keys tails tree k (cond t left right)
       go true e = lefts e
-      go false e = rights (ahead-other keys marks left right e)
+      go false e = rights (ahead-other keys tails left right e)
 
 -- of the pages at node c and at its sibling, both below node c / 2
-module _ (keys marks tree : List ℕ) (c : ℕ) where
+module _ (keys tails tree : List ℕ) (c : ℕ) where
   abbrev up : ℕ
   up = c / 2
 
@@ -141,9 +141,9 @@ module _ (keys marks tree : List ℕ) (c : ℕ) where
     right-is : 2 * up + 1 ≡ side
     right-is = omega (arith, even)
 
-    even-test : (t : Bool) → ahead keys marks (getD tree c 0) (getD tree side 0) ≡ t
-        → ahead keys marks (getD tree (2 * up) 0) (getD tree (2 * up + 1) 0) ≡ t
-    even-test t h = ap₂ (λ (x y : ℕ). ahead keys marks (getD tree x 0) (getD tree y 0)) left-is right-is ∙ h
+    even-test : (t : Bool) → ahead keys tails (getD tree c 0) (getD tree side 0) ≡ t
+        → ahead keys tails (getD tree (2 * up) 0) (getD tree (2 * up + 1) 0) ≡ t
+    even-test t h = ap₂ (λ (x y : ℕ). ahead keys tails (getD tree x 0) (getD tree y 0)) left-is right-is ∙ h
 
   module _ (odd : c % 2 ≢ 0) where
     left-side : 2 * up ≡ side
@@ -152,37 +152,37 @@ module _ (keys marks tree : List ℕ) (c : ℕ) where
     right-here : 2 * up + 1 ≡ c
     right-here = omega (arith, odd)
 
-    odd-test : (t : Bool) → ahead keys marks (getD tree c 0) (getD tree side 0) ≡ t
-        → ahead keys marks (getD tree (2 * up + 1) 0) (getD tree (2 * up) 0) ≡ t
-    odd-test t h = ap₂ (λ (x y : ℕ). ahead keys marks (getD tree x 0) (getD tree y 0)) right-here left-side ∙ h
+    odd-test : (t : Bool) → ahead keys tails (getD tree c 0) (getD tree side 0) ≡ t
+        → ahead keys tails (getD tree (2 * up + 1) 0) (getD tree (2 * up) 0) ≡ t
+    odd-test t h = ap₂ (λ (x y : ℕ). ahead keys tails (getD tree x 0) (getD tree y 0)) right-here left-side ∙ h
 
   abbrev PickedAt : ℕ → Type 0
-  PickedAt x = Picked keys marks tree up (getD tree x 0)
+  PickedAt x = Picked keys tails tree up (getD tree x 0)
 
-  pub here-picked : ahead keys marks (getD tree c 0) (getD tree (4 * (c / 2) + 1 - c) 0) ≡ true
-      → Picked keys marks tree (c / 2) (getD tree c 0)
+  pub here-picked : ahead keys tails (getD tree c 0) (getD tree (4 * (c / 2) + 1 - c) 0) ≡ true
+      → Picked keys tails tree (c / 2) (getD tree c 0)
   here-picked h = go (ℕ-discrete (c % 2) 0)
     where
       go : Dec (c % 2 ≡ 0) → PickedAt c
       go (yes e) = subst PickedAt (left-is e) (lefts (even-test e true h))
       go (no e) = subst PickedAt (right-here e) (rights (odd-test e true h))
 
-  pub side-picked : ahead keys marks (getD tree c 0) (getD tree (4 * (c / 2) + 1 - c) 0) ≡ false
-      → Picked keys marks tree (c / 2) (getD tree (4 * (c / 2) + 1 - c) 0)
+  pub side-picked : ahead keys tails (getD tree c 0) (getD tree (4 * (c / 2) + 1 - c) 0) ≡ false
+      → Picked keys tails tree (c / 2) (getD tree (4 * (c / 2) + 1 - c) 0)
   side-picked h = go (ℕ-discrete (c % 2) 0)
     where
       go : Dec (c % 2 ≡ 0) → PickedAt side
       go (yes e) =
-          subst PickedAt (right-is e) (rights (ahead-other keys marks _ _ (even-test e false h)))
+          subst PickedAt (right-is e) (rights (ahead-other keys tails _ _ (even-test e false h)))
       go (no e) =
-          subst PickedAt (left-side e) (lefts (ahead-other keys marks _ _ (odd-test e false h)))
+          subst PickedAt (left-side e) (lefts (ahead-other keys tails _ _ (odd-test e false h)))
 
 -- ---- node k put right, where both nodes below it are right and the one above it is open
 
-module _ (keys marks : List ℕ) (n : ℕ) (tree : List ℕ) where
+module _ (keys tails : List ℕ) (n : ℕ) (tree : List ℕ) where
   -- an open node that turns out right need not stay open
   pub settled-more : (Open Open' : ℕ → Type 0) → ((c : ℕ) → 1 ≤ c → (Open' c → ⊥) → Open c → ⊥)
-      → Settled keys marks n tree Open → Settled keys marks n tree Open'
+      → Settled keys tails n tree Open → Settled keys tails n tree Open'
   settled-more Open Open' f s =
       record {
         size = s .size;
@@ -192,10 +192,10 @@ module _ (keys marks : List ℕ) (n : ℕ) (tree : List ℕ) where
         tops = λ c l u o. s .tops c l u (f c l o);
       }
 
-  module _ (Open Open' : ℕ → Type 0) (k : ℕ) (s : Settled keys marks n tree Open) (most : n ≤ maxPages) (one : 1 ≤ k)
+  module _ (Open Open' : ℕ → Type 0) (k : ℕ) (s : Settled keys tails n tree Open) (most : n ≤ maxPages) (one : 1 ≤ k)
       (inner : k < n) (first : Open (2 * k) → ⊥) (second : Open (2 * k + 1) → ⊥)
       (kept : (c : ℕ) → (Open' c → ⊥) → c ≢ k → Open c → ⊥)
-      (up : (c : ℕ) → 1 ≤ c → (Open' c → ⊥) → c ≢ k / 2) (w : ℕ) (picked : Picked keys marks tree k w) where
+      (up : (c : ℕ) → 1 ≤ c → (Open' c → ⊥) → c ≢ k / 2) (w : ℕ) (picked : Picked keys tails tree k w) where
     abbrev next : List ℕ
     next = set tree k w
 
@@ -211,18 +211,18 @@ module _ (keys marks : List ℕ) (n : ℕ) (tree : List ℕ) where
     each P l r c h = go (ℕ-discrete c k)
       where
         go : Dec (c ≡ k) → P c (getD next c 0)
-        go (yes e) = rw (e, at-k) (picked-one keys marks tree k (P k) l r picked)
+        go (yes e) = rw (e, at-k) (picked-one keys tails tree k (P k) l r picked)
         go (no ne) = rw (other c ne) (h ne)
 
     rise : (c : ℕ) → 1 ≤ c → c < 2 * n → (Open c → ⊥) → c / 2 ≡ k → Above (n + getD tree c 0) k
     rise c l u o e = subst (Above (n + getD tree c 0)) e (above-up (n + getD tree c 0) c (s .below c l u o))
 
-    lead : (c : ℕ) → 1 ≤ c → c < n → (Open' c → ⊥) → Dec (c ≡ k) → Tops keys marks next c
+    lead : (c : ℕ) → 1 ≤ c → c < n → (Open' c → ⊥) → Dec (c ≡ k) → Tops keys tails next c
     lead c l u o (yes e) =
         rw e
         (record {
-          first = rw (at-k, other (2 * k) (omega arith)) (picked-first keys marks tree k picked);
-          second = rw (at-k, other (2 * k + 1) (omega arith)) (picked-second keys marks tree k picked);
+          first = rw (at-k, other (2 * k) (omega arith)) (picked-first keys tails tree k picked);
+          second = rw (at-k, other (2 * k + 1) (omega arith)) (picked-second keys tails tree k picked);
         })
     lead c l u o (no ne) =
         let b = s .tops c l u (kept c o ne) in
@@ -232,7 +232,7 @@ module _ (keys marks : List ℕ) (n : ℕ) (tree : List ℕ) where
           second = rw (other c ne, other (2 * c + 1) (λ e. p (omega arith))) (b .second);
         }
 
-    pub settled-put : Settled keys marks n (set tree k w) Open'
+    pub settled-put : Settled keys tails n (set tree k w) Open'
     settled-put =
         record {
           size = length-set tree k w ∙ s .size;

@@ -25,7 +25,8 @@ use Rattle.merge.specs.Heads.{pageAt, Pages, leftOf, CursorsAt}
 use Rattle.merge.specs.Walks.{Joined}
 
 -- the entries of a walk, page by page
-walk-joined : (s bs ks : List ℕ) (n : ℕ) → Within s bs n → (at : ℕ) → ((i : ℕ) → i < n → getD ks (at + i) 0 ≡ getD bs i 0)
+walk-joined : (s bs ks : List ℕ) (n : ℕ) → Within s bs n → (at : ℕ) → ((i : ℕ) → i < n → getD ks
+    (at + i) 0 ≡ getD bs i 0)
     → (i m : ℕ) → i + m ≡ n → joined (pageAt s ks) (at + i) m ≡ bind (drop i (take n bs)) (entriesOn s)
 walk-joined s bs ks n w at h i zero e =
     sym (ap (λ (js : List ℕ). bind js (entriesOn s)) (walk-done w i (omega (arith, e))))
@@ -37,8 +38,10 @@ walk-joined s bs ks n w at h i (suc m) e =
     ∙ ap (λ (j : ℕ). bind (drop j (take n bs)) (entriesOn s)) (sym (add-one i)))
     ∙ sym (ap (λ (js : List ℕ). bind js (entriesOn s)) (walk-turn w i more))
 
-module _ {s first : List ℕ} {n : ℕ} {second : List ℕ} {k : ℕ} {ks : List ℕ} (bytes : Bytes s) (j : Joined first n second k ks)
-    (w : Within s first n) (fine : PagesOk s (take n first)) (v : Within s second k) (fine′ : PagesOk s (take k second)) where
+module _ {s first : List ℕ} {n : ℕ} {second : List ℕ} {k : ℕ} {ks : List ℕ} (bytes : Bytes s)
+    (j : Joined first n second k ks)
+    (w : Within s first n) (fine : PagesOk s (take n first)) (v : Within s second k) (fine′ : PagesOk s
+    (take k second)) where
   -- block b is one that passes the page rule
   record Page (b : ℕ) : Type 0 where
     inside : b < blocks s
@@ -90,8 +93,9 @@ zero-place (e ∷ es) =
     ap (λ (b : Bool). cond b (suc (placeOf (record { hash = 0; block = 0; offset = 0 }) es)) 0)
     (before-hash (e .pair) 0 ∙ le-ltb (e .pair .hash) 0 (omega arith))
 
-pub from-all : (s ks : List ℕ) (n : ℕ) (marks : List ℕ) → CursorsAt s ks (record { hash = 0; block = 0; offset = 0 }) n marks
-    → joined (leftOf s ks marks) 0 n ≡ joined (pageAt s ks) 0 n
-from-all s ks n marks f =
-    joined-same (leftOf s ks marks) (pageAt s ks) 0 n
+pub from-all : (s ks : List ℕ) (n : ℕ) (tails : List ℕ) → CursorsAt s ks
+    (record { hash = 0; block = 0; offset = 0 }) n tails
+    → joined (leftOf s ks tails) 0 n ≡ joined (pageAt s ks) 0 n
+from-all s ks n tails f =
+    joined-same (leftOf s ks tails) (pageAt s ks) 0 n
     (λ i l h. ap (λ (c : ℕ). drop c (pageAt s ks i)) (f i (omega (arith, h)) ∙ zero-place (pageAt s ks i)))

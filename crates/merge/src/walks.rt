@@ -8,7 +8,7 @@ ghost use Rattle.address.specs.Limits.{maxBlocks};
 ghost use Rattle.merge.specs.Tree.{maxPages};
 ghost use Rattle.merge.specs.Walks.{Copied, Joined};
 
-fn no_pages() -> [u32; MAX_PAGES]
+fn zero_pages() -> [u32; MAX_PAGES]
     ensures { λ r. ⌜ r ≡ replicate maxPages 0 ⌝ }
 {
     [0u32; MAX_PAGES]
@@ -36,7 +36,7 @@ pub fn join_walks(
     requires { ⌜ (n ≤ suc maxBlocks) × (k ≤ suc maxBlocks) ⌝ }
     ensures { λ r. ⌜ Joined (now (first .entry)) n (now (second .entry)) k r ⌝ }
 {
-    let mut pages = no_pages();
+    let mut pages = zero_pages();
     copy_walk(&mut pages, first, 0, n);
     copy_walk(&mut pages, second, n, k);
     pages

@@ -1,6 +1,6 @@
 -- Loops that test one element after the other: each turn takes one element off what is left to test.
 use mathlib.Core.Path.{_≡_, refl, sym, ap, ap₂, _∙_}
-use mathlib.Core.Bool.{Bool, true, false, _&&_, _||_}
+use mathlib.Core.Bool.{Bool, true, false, _&&_}
 use mathlib.Core.List.{List, [], _∷_, _++_}
 use Prim.Native.Nat.{ℕ, zero, suc, _+_, _-_, _≤_, _<_}
 use native.Mathlib.Numerals.{add-one}
@@ -17,13 +17,6 @@ passed t x y e h = sym (e ∙ ap (λ (b : Bool). b && y) h)
 
 pub failed : (t x y : Bool) → x ≡ t && y → t ≡ false → x ≡ false
 failed t x y e h = e ∙ ap (λ (b : Bool). b && y) h
-
--- and so in a search
-pub missed : (t x y : Bool) → x ≡ t || y → t ≡ false → y ≡ x
-missed t x y e h = sym (e ∙ ap (λ (b : Bool). b || y) h)
-
-pub found : (t x y : Bool) → x ≡ t || y → t ≡ true → x ≡ true
-found t x y e h = e ∙ ap (λ (b : Bool). b || y) h
 
 -- ---- the entries of a page from slot i on
 

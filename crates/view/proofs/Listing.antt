@@ -20,9 +20,9 @@ use Rattle.model.specs.Calls.{placeBytes}
 use Rattle.chain.specs.Pairs.{counts, isMatch}
 use Rattle.merge.specs.Merge.{joined, Best, Taken}
 use Rattle.merge.specs.MergeLaws.{taken-tally}
-use Rattle.merge.specs.Heads.{pairFrom, noKey, leftOf, Merging, Moved}
+use Rattle.merge.specs.Heads.{firstAt, pairFrom, noKey, leftOf, Merging, Moved}
 use Rattle.merge.specs.MergingLaws.{merging-up, merging-upto, merging-best, merging-none, first-left}
-use Rattle.view.specs.Left.{pairsLeft, freshAt, NoLower, firstAt, Told}
+use Rattle.view.specs.Left.{pairsLeft, freshAt, NoLower, Told}
 use Rattle.view.specs.ToldLaws.{merging-told}
 use Rattle.view.specs.LeftLaws.{left-none, left-past, turn-above, turn-once, turn-skip, turn-first}
 use Rattle.view.specs.Lookup.{written, Listable}
@@ -140,24 +140,24 @@ module _ (n k h : ℕ) (fresh : Bool) (f g : ℕ → List Entry) {j : ℕ} {e : 
 -- ---- a merge under way
 
 -- the entries that are left
-abbrev pub entriesLeft : (s ks marks : List ℕ) (n : ℕ) → ℕ
-entriesLeft s ks marks n = tally (λ e. true) (joined (leftOf s ks marks) 0 n)
+abbrev pub entriesLeft : (s ks tails : List ℕ) (n : ℕ) → ℕ
+entriesLeft s ks tails n = tally (λ e. true) (joined (leftOf s ks tails) 0 n)
 
-module _ {s ks keys marks tree : List ℕ} {n k h : ℕ} {fresh : Bool} (m : Merging s ks (n + k) keys marks tree)
-    (some : 1 ≤ n + k) {whole out : List ℕ} {at : ℕ} (l : Listed (leftOf s ks marks) n k h fresh whole out at) where
+module _ {s ks keys tails tree : List ℕ} {n k h : ℕ} {fresh : Bool} (m : Merging s ks (n + k) keys tails tree)
+    (some : 1 ≤ n + k) {whole out : List ℕ} {at : ℕ} (l : Listed (leftOf s ks tails) n k h fresh whole out at) where
   abbrev j : ℕ
   j = getD tree 1 0
 
   pub list-none : getD keys (getD tree 1 0) 0 ≡ noKey → out ≡ whole
   list-none z =
-      list-done (leftOf s ks marks) n k h fresh whole out at l
-      (left-none n k h fresh (leftOf s ks marks) (merging-best m some) (merging-none m some z))
+      list-done (leftOf s ks tails) n k h fresh whole out at l
+      (left-none n k h fresh (leftOf s ks tails) (merging-best m some) (merging-none m some z))
 
   module _ (more : getD keys (getD tree 1 0) 0 < noKey) where
     abbrev e : Entry
-    e = firstAt s (getD ks j 0) (getD marks j 0)
+    e = firstAt s (getD ks j 0) (getD tails j 0)
 
-    told : Told s (getD ks j 0) (getD keys j 0) (getD marks j 0)
+    told : Told s (getD ks j 0) (getD keys j 0) (getD tails j 0)
     told = merging-told m some more
 
     code : e .pair .hash ≡ getD keys j 0 / 4294967296
@@ -165,23 +165,23 @@ module _ {s ks keys marks tree : List ℕ} {n k h : ℕ} {fresh : Bool} (m : Mer
 
     pub list-past : getD keys (getD tree 1 0) 0 / 4294967296 ≢ h → out ≡ whole
     list-past ne =
-        list-done (leftOf s ks marks) n k h fresh whole out at l
-        (left-past n k h fresh (leftOf s ks marks) (merging-best m some) (merging-up m) e _ (first-left m some more)
+        list-done (leftOf s ks tails) n k h fresh whole out at l
+        (left-past n k h fresh (leftOf s ks tails) (merging-best m some) (merging-up m) e _ (first-left m some more)
         (l .above) (λ q. ne (sym code ∙ q)))
 
-    module _ (here : getD keys (getD tree 1 0) 0 / 4294967296 ≡ h) {keys′ marks′ tree′ : List ℕ}
-        (v : Moved s ks (n + k) tree marks keys′ marks′ tree′) where
+    module _ (here : getD keys (getD tree 1 0) 0 / 4294967296 ≡ h) {keys′ tails′ tree′ : List ℕ}
+        (v : Moved s ks (n + k) tree tails keys′ tails′ tree′) where
       is-first : v .entry ≡ e
       is-first = let q = sym (v .taken .here) ∙ first-left m some more in cc
 
-      taken : Taken (leftOf s ks marks) (leftOf s ks marks′) j e
+      taken : Taken (leftOf s ks tails) (leftOf s ks tails′) j e
       taken = rw is-first at (v .taken)
 
-      pub list-less : entriesLeft s ks marks′ (n + k) < entriesLeft s ks marks (n + k)
+      pub list-less : entriesLeft s ks tails′ (n + k) < entriesLeft s ks tails (n + k)
       list-less =
           omega (
             arith,
-            taken-tally (leftOf s ks marks) (leftOf s ks marks′) taken (λ e. true) 0 (n + k) (omega arith)
+            taken-tally (leftOf s ks tails) (leftOf s ks tails′) taken (λ e. true) 0 (n + k) (omega arith)
                 (omega (arith, merging-upto m some)),
           )
 
@@ -189,19 +189,19 @@ module _ {s ks keys marks tree : List ℕ} {n k h : ℕ} {fresh : Bool} (m : Mer
         told-counts : counts b e ≡ counts (freshAt fresh n j) e
         told-counts = ap (λ (d : Bool). counts d e) own
 
-        pub list-room : counts b (firstAt s (getD ks (getD tree 1 0) 0) (getD marks (getD tree 1 0) 0)) ≡ true
+        pub list-room : counts b (firstAt s (getD ks (getD tree 1 0) 0) (getD tails (getD tree 1 0) 0)) ≡ true
             → at + 6 ≤ length out
         list-room q =
-            turn-room n k h fresh (leftOf s ks marks) (leftOf s ks marks′) (merging-best m some) (merging-up m) taken
+            turn-room n k h fresh (leftOf s ks tails) (leftOf s ks tails′) (merging-best m some) (merging-up m) taken
             (code ∙ here) l (sym told-counts ∙ q)
 
         pub list-turn : (out′ : List ℕ) (at′ : ℕ)
-            → out′ ≡ cond (counts b (firstAt s (getD ks (getD tree 1 0) 0) (getD marks (getD tree 1 0) 0)))
-            (sets out at (placeBytes (pairFrom (getD keys (getD tree 1 0) 0) (getD marks (getD tree 1 0) 0 / 64)))) out
-            → at′ ≡ cond (counts b (firstAt s (getD ks (getD tree 1 0) 0) (getD marks (getD tree 1 0) 0))) (at + 6) at
-            → Listed (leftOf s ks marks′) n k h fresh whole out′ at′
+            → out′ ≡ cond (counts b (firstAt s (getD ks (getD tree 1 0) 0) (getD tails (getD tree 1 0) 0)))
+            (sets out at (placeBytes (pairFrom (getD keys (getD tree 1 0) 0) (getD tails (getD tree 1 0) 0 / 64)))) out
+            → at′ ≡ cond (counts b (firstAt s (getD ks (getD tree 1 0) 0) (getD tails (getD tree 1 0) 0))) (at + 6) at
+            → Listed (leftOf s ks tails′) n k h fresh whole out′ at′
         list-turn out′ at′ o a =
-            turn-listed n k h fresh (leftOf s ks marks) (leftOf s ks marks′) (merging-best m some) (merging-up m) taken
+            turn-listed n k h fresh (leftOf s ks tails) (leftOf s ks tails′) (merging-best m some) (merging-up m) taken
             (code ∙ here) l out′ at′
             (o ∙ ap₂ (λ (d : Bool) (p : Pair). cond d (sets out at (placeBytes p)) out) told-counts (told .pair))
             (a ∙ ap (λ (d : Bool). cond d (at + 6) at) told-counts)

@@ -89,21 +89,21 @@ module _ (h : ℕ) (fresh : Bool) where
 
 -- ---- the start
 
-module _ (s ks marks : List ℕ) (n k h : ℕ) (fresh : Bool) (pages : Pages s ks (n + k))
-    (from : CursorsAt s ks (lowest h) (n + k) marks) where
-  start-left : (i : ℕ) → i < n + k → leftOf s ks marks i ≡ drop (placeOf (lowest h) (pageAt s ks i)) (pageAt s ks i)
+module _ (s ks tails : List ℕ) (n k h : ℕ) (fresh : Bool) (pages : Pages s ks (n + k))
+    (from : CursorsAt s ks (lowest h) (n + k) tails) where
+  start-left : (i : ℕ) → i < n + k → leftOf s ks tails i ≡ drop (placeOf (lowest h) (pageAt s ks i)) (pageAt s ks i)
   start-left i l = ap (λ (c : ℕ). drop c (pageAt s ks i)) (from i l)
 
-  pub start-pairs : pairsLeft (leftOf s ks marks) n k h fresh ≡ pairsLeft (pageAt s ks) n k h fresh
+  pub start-pairs : pairsLeft (leftOf s ks tails) n k h fresh ≡ pairsLeft (pageAt s ks) n k h fresh
   start-pairs =
       ap₂ (λ (x y : List Pair). x ++ y)
-      (pairs-joined h fresh (leftOf s ks marks) (pageAt s ks) 0 n (λ j l u. one fresh j (omega arith)))
-      (pairs-joined h false (leftOf s ks marks) (pageAt s ks) n k (λ j l u. one false j (omega arith)))
+      (pairs-joined h fresh (leftOf s ks tails) (pageAt s ks) 0 n (λ j l u. one fresh j (omega arith)))
+      (pairs-joined h false (leftOf s ks tails) (pageAt s ks) n k (λ j l u. one false j (omega arith)))
     where
-      one : (b : Bool) (j : ℕ) → j < n + k → pairsIn h b (leftOf s ks marks j) ≡ pairsIn h b (pageAt s ks j)
+      one : (b : Bool) (j : ℕ) → j < n + k → pairsIn h b (leftOf s ks tails j) ≡ pairsIn h b (pageAt s ks j)
       one b j l = ap (pairsIn h b) (start-left j l) ∙ pairs-from h b (pageAt s ks j)
 
-  pub start-above : NoLower (leftOf s ks marks) (n + k) h
+  pub start-above : NoLower (leftOf s ks tails) (n + k) h
   start-above i l =
       rw (start-left i l)
       (each-map (λ e. before (e .pair) (lowest h) ≡ false) (λ e. h ≤ e .pair .hash)

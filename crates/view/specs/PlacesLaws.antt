@@ -6,7 +6,7 @@ use mathlib.Core.Option.{none, some}
 use Prim.Native.Nat.{ℕ, suc, pred, _≤_}
 use native.Mathlib.Omega.{arith}
 use lib.ListN.{length, getD, length-map}
-use Rattle.lists.specs.Lists.{any, find}
+use Rattle.lists.specs.Lists.{any}
 use Rattle.page.specs.declared.Pair.{Pair}
 use Rattle.page.specs.declared.Entry.{Entry}
 use Rattle.page.specs.Pair.{is}
@@ -20,7 +20,7 @@ use Rattle.frame.specs.Frame.{blockOfBit, chainBlocks, pageBlock, pageEntries, 
 use Rattle.frame.specs.Frame.{onPage, pairPlace}
 use Rattle.chain.specs.declared.Found.{Found}
 use Rattle.chain.specs.declared.Room.{Room}
-use Rattle.chain.specs.Walk.{walk, lastOf}
+use Rattle.chain.specs.Walk.{lastOf}
 use Rattle.chain.specs.WalkLaws.{walk-trail}
 use Rattle.chain.specs.Search.{pairOn, roomOn, foundAs, findIn, roomAs, roomIn}
 use Rattle.chain.specs.Within.{entriesOn}

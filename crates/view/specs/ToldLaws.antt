@@ -1,4 +1,4 @@
--- What the key and the mark of a page tell of the first entry that is left of it.
+-- What the key and the tail of a page tell of the first entry that is left of it.
 use mathlib.Core.List.{List}
 use Prim.Native.Nat.{ℕ, _≤_, _<_}
 use native.Mathlib.Omega.{arith}
@@ -7,11 +7,11 @@ use Rattle.merge.specs.Heads.{noKey, Merging}
 use Rattle.merge.specs.MergingLaws.{merging-upto, first-left, next-few, next-pair, next-offset, next-fits}
 use Rattle.view.specs.Left.{Told}
 
--- the key and the mark of the page at node 1 tell its first entry
-module _ {s ks : List ℕ} {m : ℕ} {keys marks tree : List ℕ} (merging : Merging s ks m keys marks tree)
+-- the key and the tail of the page at node 1 tell its first entry
+module _ {s ks : List ℕ} {m : ℕ} {keys tails tree : List ℕ} (merging : Merging s ks m keys tails tree)
     (some : 1 ≤ m) where
   pub merging-told : getD keys (getD tree 1 0) 0 < noKey
-      → Told s (getD ks (getD tree 1 0) 0) (getD keys (getD tree 1 0) 0) (getD marks (getD tree 1 0) 0)
+      → Told s (getD ks (getD tree 1 0) 0) (getD keys (getD tree 1 0) 0) (getD tails (getD tree 1 0) 0)
   merging-told more =
       let first = first-left merging some more in
       record {

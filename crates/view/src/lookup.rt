@@ -8,16 +8,16 @@ use endian::put_u32;
 use image::Meta;
 use merge::MAX_PAGES;
 use merge::heads::NO_KEY;
-use merge::heads::no_keys;
-use merge::heads::no_marks;
+use merge::heads::head_pair;
+use merge::heads::is_head_moved;
 use merge::heads::start_merge;
 use merge::heads::take_first;
+use merge::heads::zero_keys;
+use merge::heads::zero_tails;
 use merge::walks::join_walks;
 use model::LookupAnswer;
 use model::Refusal;
 use page::Pair;
-use page::slots::get_entry;
-use store::block_at;
 ghost use mathlib.Core.Path.{_≡_};
 ghost use mathlib.Core.Bool.{true, cond};
 ghost use Prim.Native.Nat.{_+_, _%_, _/_, _≤_, _<_};
@@ -30,9 +30,9 @@ ghost use Rattle.image.specs.Decode.{decode};
 ghost use Rattle.chain.specs.Within.{PagesOk, Within};
 ghost use Rattle.chain.specs.Pairs.{counts};
 ghost use Rattle.chain.specs.Along.{pairsAlong};
-ghost use Rattle.merge.specs.Heads.{pairFrom, leftOf, Merging};
+ghost use Rattle.merge.specs.Heads.{pairFrom, firstAt, leftOf, Merging};
 ghost use Rattle.view.specs.Reads.{Reads};
-ghost use Rattle.view.specs.Left.{pairsLeft, freshAt, NoLower, firstAt, Told};
+ghost use Rattle.view.specs.Left.{pairsLeft, freshAt, NoLower, Told};
 ghost use Rattle.view.specs.Lookup.{written, Listable};
 
 // Writes a reading's place, six bytes.
@@ -44,18 +44,6 @@ fn put_place(output: &mut [u8], at: usize, p: Pair)
     put_u16(output, at + 4, p.offset);
 }
 
-// The pair that a head stands for.
-fn head_pair(key: u64, mark: u32) -> Pair
-    requires { ⌜ mark / 64 < 65536 ⌝ }
-    ensures { λ r. ⌜ r ≡ pairFrom key (mark / 64) ⌝ }
-{
-    Pair {
-        hash: (key / 4294967296) as u32,
-        block: (key % 4294967296) as u32,
-        offset: (mark / 64) as u16,
-    }
-}
-
 // Whether only the unmoved entries of page `j` count: where `fresh`, those of the first `n`, the own ones.
 fn is_fresh(fresh: bool, n: usize, j: usize) -> bool
     ensures { λ r. ⌜ r ≡ freshAt fresh n j ⌝ }
@@ -64,16 +52,14 @@ fn is_fresh(fresh: bool, n: usize, j: usize) -> bool
 }
 
 // Whether the head of a page counts. The page is read only where a moved one does not.
-fn is_counted(store: &[u8], block: u32, mark: u32, fresh: bool) -> bool
-    requires { ⌜ (block < blocks (now store)) × (mark % 64 < 40) ⌝ }
-    ensures { λ r. ⌜ r ≡ counts fresh (firstAt (now (store .entry)) block mark) ⌝ }
+fn is_counted(store: &[u8], block: u32, tail: u32, fresh: bool) -> bool
+    requires { ⌜ (block < blocks (now store)) × (tail % 64 < 40) ⌝ }
+    ensures { λ r. ⌜ r ≡ counts fresh (firstAt (now (store .entry)) block tail) ⌝ }
 {
     if !fresh {
         return true;
     }
-    let page = block_at(store, block as usize);
-    let e = get_entry(page, (mark % 64) as usize);
-    !e.moved
+    !is_head_moved(store, block, tail)
 }
 
 // Writes the place of the head of a page, if it counts, and gives the place in the output of what comes next.
@@ -82,20 +68,20 @@ fn put_match(
     output: &mut [u8],
     block: u32,
     key: u64,
-    mark: u32,
+    tail: u32,
     fresh: bool,
     at: usize,
 ) -> usize
-    requires { ⌜ Told (now store) block key mark ⌝ }
-    requires { ⌜ (counts fresh (firstAt (now store) block mark) ≡ true → at + 6 ≤ length (now output)) ⌝ }
-    ensures { λ r. ⌜ (now (output .exit) ≡ cond (counts fresh (firstAt (now (store .entry)) block mark))
-        (sets (now (output .entry)) at (placeBytes (pairFrom key (mark / 64)))) (now (output .entry)))
-        × (r ≡ cond (counts fresh (firstAt (now (store .entry)) block mark)) (at + 6) at) ⌝ }
+    requires { ⌜ Told (now store) block key tail ⌝ }
+    requires { ⌜ (counts fresh (firstAt (now store) block tail) ≡ true → at + 6 ≤ length (now output)) ⌝ }
+    ensures { λ r. ⌜ (now (output .exit) ≡ cond (counts fresh (firstAt (now (store .entry)) block tail))
+        (sets (now (output .entry)) at (placeBytes (pairFrom key (tail / 64)))) (now (output .entry)))
+        × (r ≡ cond (counts fresh (firstAt (now (store .entry)) block tail)) (at + 6) at) ⌝ }
 {
-    if !is_counted(store, block, mark, fresh) {
+    if !is_counted(store, block, tail, fresh) {
         return at;
     }
-    put_place(output, at, head_pair(key, mark));
+    put_place(output, at, head_pair(key, tail));
     at + 6
 }
 
@@ -104,7 +90,7 @@ fn put_left(
     store: &[u8],
     pages: &[u32; MAX_PAGES],
     keys: &mut [u64; MAX_PAGES],
-    marks: &mut [u32; MAX_PAGES],
+    tails: &mut [u32; MAX_PAGES],
     tree: &mut [usize; 2 * MAX_PAGES],
     output: &mut [u8],
     n: usize,
@@ -112,11 +98,11 @@ fn put_left(
     hash: u32,
     fresh: bool,
 )
-    requires { ⌜ (Merging (now store) (now pages) (n + k) (now keys) (now marks) (now tree)) × (1 ≤ n + k) ⌝ }
-    requires { ⌜ (NoLower (leftOf (now store) (now pages) (now marks)) (n + k) hash)
-        × (Listable (pairsLeft (leftOf (now store) (now pages) (now marks)) n k hash fresh) (now output)) ⌝ }
+    requires { ⌜ (Merging (now store) (now pages) (n + k) (now keys) (now tails) (now tree)) × (1 ≤ n + k) ⌝ }
+    requires { ⌜ (NoLower (leftOf (now store) (now pages) (now tails)) (n + k) hash)
+        × (Listable (pairsLeft (leftOf (now store) (now pages) (now tails)) n k hash fresh) (now output)) ⌝ }
     ensures { λ _. ⌜ now (output .exit) ≡ written (sorted (pairsLeft
-        (leftOf (now (store .entry)) (now (pages .entry)) (now (marks .entry))) n k hash fresh))
+        (leftOf (now (store .entry)) (now (pages .entry)) (now (tails .entry))) n k hash fresh))
         (now (output .entry)) ⌝ }
 {
     let mut at = 0;
@@ -129,17 +115,10 @@ fn put_left(
         if key / 4294967296 != hash as u64 {
             return;
         }
-        let mark = marks[j];
-        take_first(store, pages, keys, marks, tree, n + k);
-        at = put_match(
-            store,
-            output,
-            pages[j],
-            key,
-            mark,
-            is_fresh(fresh, n, j),
-            at,
-        );
+        let tail = tails[j];
+        take_first(store, pages, keys, tails, tree, n + k);
+        let only = is_fresh(fresh, n, j);
+        at = put_match(store, output, pages[j], key, tail, only, at);
     }
 }
 
@@ -162,19 +141,19 @@ fn put_matches(
         (take k (now (old .entry))) hash fresh)) (now (output .entry)) ⌝ }
 {
     let pages = join_walks(own, n, old, k);
-    let mut keys = no_keys();
-    let mut marks = no_marks();
+    let mut keys = zero_keys();
+    let mut tails = zero_tails();
     let from = Pair {
         hash,
         block: 0,
         offset: 0,
     };
-    let mut tree = start_merge(store, &pages, &mut keys, &mut marks, n + k, from);
+    let mut tree = start_merge(store, &pages, &mut keys, &mut tails, n + k, from);
     put_left(
         store,
         &pages,
         &mut keys,
-        &mut marks,
+        &mut tails,
         &mut tree,
         output,
         n,

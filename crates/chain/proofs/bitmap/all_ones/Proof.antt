@@ -45,7 +45,8 @@ returns c =
     let i = b .before .before .before in
     let l = i .before in
     let map = l .before .before .args .map .now in
-    sym (l .loop .inv .1 ∙ ones-broken map (l .loop .n) (i .loop-test .taken) (sym (b .bit-of .ensures) ∙ c .if2 .taken))
+    sym (l .loop .inv .1 ∙ ones-broken map (l .loop .n) (i .loop-test .taken) (sym (b .bit-of .ensures)
+    ∙ c .if2 .taken))
 
 add-n-2 : tie.Need-add-n-2 Inv-loop μ-loop
 add-n-2 c = omega arith

@@ -20,25 +20,25 @@ use Rattle.entries.proofs.marks.all_marked.Statement.{statement}
 use Rattle.entries.proofs.marks.all_marked.Tie as tie
 
 -- what is left of the copies is marked by what is left of the originals
-pub record Marking (s cs os : List ℕ) (n k : ℕ) (keys marks tree keys′ marks′ tree′ : List ℕ) : Type 0 where
-  pub news : Merging s cs n keys marks tree
-  pub olds : Merging s os k keys′ marks′ tree′
-  pub answer : all (markedBy (joined (leftOf s os marks′) 0 k)) (joined (leftOf s cs marks) 0 n)
+pub record Marking (s cs os : List ℕ) (n k : ℕ) (keys tails tree keys′ tails′ tree′ : List ℕ) : Type 0 where
+  pub news : Merging s cs n keys tails tree
+  pub olds : Merging s os k keys′ tails′ tree′
+  pub answer : all (markedBy (joined (leftOf s os tails′) 0 k)) (joined (leftOf s cs tails) 0 n)
       ≡ all (markedBy (joined (pageAt s os) 0 k)) (joined (pageAt s cs) 0 n)
 
 abbrev Inv-loop : tie.InvT-loop
-Inv-loop s cs os n k keys₀ marks₀ tree₀ keys′₀ marks′₀ tree′₀ keys marks tree keys′ marks′ tree′ =
-    Marking s cs os n k keys marks tree keys′ marks′ tree′
+Inv-loop s cs os n k keys₀ tails₀ tree₀ keys′₀ tails′₀ tree′₀ keys tails tree keys′ tails′ tree′ =
+    Marking s cs os n k keys tails tree keys′ tails′ tree′
 
 abbrev μ-loop : tie.MeasureT-loop
-μ-loop s cs os n k keys₀ marks₀ tree₀ keys′₀ marks′₀ tree′₀ keys marks tree keys′ marks′ tree′ =
-    tally (λ x. true) (joined (leftOf s cs marks) 0 n)
+μ-loop s cs os n k keys₀ tails₀ tree₀ keys′₀ tails′₀ tree′₀ keys tails tree keys′ tails′ tree′ =
+    tally (λ x. true) (joined (leftOf s cs tails) 0 n)
 
-no-keys-requires : tie.Need-no-keys-requires Inv-loop μ-loop
-no-keys-requires c κs = tt
+zero-keys-requires : tie.Need-zero-keys-requires Inv-loop μ-loop
+zero-keys-requires c κs = tt
 
-no-marks-requires : tie.Need-no-marks-requires Inv-loop μ-loop
-no-marks-requires c κs = tt
+zero-tails-requires : tie.Need-zero-tails-requires Inv-loop μ-loop
+zero-tails-requires c κs = tt
 
 start-all-requires : tie.Need-start-all-requires Inv-loop μ-loop
 start-all-requires c κs =
@@ -46,16 +46,16 @@ start-all-requires c κs =
     let k = m .before in (
       k .before .before .pre .0 .0,
       (
-        ap length (k .no-keys .ensures) ∙ length-replicate {A = ℕ} maxPages 0,
-        ap length (m .no-marks .ensures) ∙ length-replicate {A = ℕ} maxPages 0,
+        ap length (k .zero-keys .ensures) ∙ length-replicate {A = ℕ} maxPages 0,
+        ap length (m .zero-tails .ensures) ∙ length-replicate {A = ℕ} maxPages 0,
       ),
     )
 
-no-keys-requires-2 : tie.Need-no-keys-requires-2 Inv-loop μ-loop
-no-keys-requires-2 c κs = tt
+zero-keys-requires-2 : tie.Need-zero-keys-requires-2 Inv-loop μ-loop
+zero-keys-requires-2 c κs = tt
 
-no-marks-requires-2 : tie.Need-no-marks-requires-2 Inv-loop μ-loop
-no-marks-requires-2 c κs = tt
+zero-tails-requires-2 : tie.Need-zero-tails-requires-2 Inv-loop μ-loop
+zero-tails-requires-2 c κs = tt
 
 start-all-requires-2 : tie.Need-start-all-requires-2 Inv-loop μ-loop
 start-all-requires-2 c κs =
@@ -63,8 +63,8 @@ start-all-requires-2 c κs =
     let k = m .before in (
       k .before .before .before .before .before .before .before .pre .1 .0,
       (
-        ap length (k .no-keys2 .ensures) ∙ length-replicate {A = ℕ} maxPages 0,
-        ap length (m .no-marks2 .ensures) ∙ length-replicate {A = ℕ} maxPages 0,
+        ap length (k .zero-keys2 .ensures) ∙ length-replicate {A = ℕ} maxPages 0,
+        ap length (m .zero-tails2 .ensures) ∙ length-replicate {A = ℕ} maxPages 0,
       ),
     )
 
@@ -104,7 +104,7 @@ returns c =
     let i = l .loop .inv in
     sym
     (sym (i .answer)
-    ∙ ap (all (markedBy (joined (leftOf (a .store .now) (a .old .now) (l .loop .marks)) 0 (a .k))))
+    ∙ ap (all (markedBy (joined (leftOf (a .store .now) (a .old .now) (l .loop .tails)) 0 (a .k))))
     (merging-done (i .news) (some l) (c .if1 .taken)))
 
 mul-offset : tie.Need-mul-offset Inv-loop μ-loop
@@ -188,7 +188,7 @@ loop-less c =
     let t = c .before .before .before .before .before in
     let l = t .before .before .before .before .before .before .before .before .before .before .before .before in
     let a = entry (l .before) .args in
-    taken-less (leftOf (a .store .now) (a .new .now) (l .loop .new-marks))
+    taken-less (leftOf (a .store .now) (a .new .now) (l .loop .new-tails))
     (leftOf (a .store .now) (a .new .now) (t .take-first .last .1 .1 .1 .0)) (a .n) (t .take-first .ensures .taken)
     (merging-upto (l .loop .inv .news) (some l))
 
@@ -209,11 +209,11 @@ all-marked-spec =
     (tie.spec
     Inv-loop
     μ-loop
-    no-keys-requires
-    no-marks-requires
+    zero-keys-requires
+    zero-tails-requires
     start-all-requires
-    no-keys-requires-2
-    no-marks-requires-2
+    zero-keys-requires-2
+    zero-tails-requires-2
     start-all-requires-2
     loop-holds
     array-read-j

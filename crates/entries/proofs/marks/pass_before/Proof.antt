@@ -13,13 +13,13 @@ use Rattle.entries.proofs.marks.pass_before.Statement.{statement}
 use Rattle.entries.proofs.marks.pass_before.Tie as tie
 
 abbrev Inv-loop : tie.InvT-loop
-Inv-loop store pages keys₀ marks₀ tree₀ n key offset keys marks tree =
-    (Merging store pages n keys marks tree)
-    × Kept (leftOf store pages marks₀) (leftOf store pages marks) n (pairFrom key offset)
+Inv-loop store pages keys₀ tails₀ tree₀ n key offset keys tails tree =
+    (Merging store pages n keys tails tree)
+    × Kept (leftOf store pages tails₀) (leftOf store pages tails) n (pairFrom key offset)
 
 abbrev μ-loop : tie.MeasureT-loop
-μ-loop store pages keys₀ marks₀ tree₀ n key offset keys marks tree =
-    tally (λ x. true) (joined (leftOf store pages marks) 0 n)
+μ-loop store pages keys₀ tails₀ tree₀ n key offset keys tails tree =
+    tally (λ x. true) (joined (leftOf store pages tails) 0 n)
 
 loop-holds : tie.Need-loop-holds Inv-loop μ-loop
 loop-holds c = (c .before .pre .0 .0, λ x h. refl)
@@ -47,7 +47,7 @@ loop-less c =
     let l = c .before .before .before .before .before .before .before .before .before in
     let s = l .before .before in
     let a = s .args in
-    taken-less (leftOf (a .store .now) (a .pages .now) (l .loop .marks))
+    taken-less (leftOf (a .store .now) (a .pages .now) (l .loop .tails))
     (leftOf (a .store .now) (a .pages .now) (c .take-first .last .1 .1 .1 .0)) (a .n) (c .take-first .ensures .taken)
     (merging-upto (l .loop .inv .0) (s .pre .0 .1))
 
@@ -58,7 +58,7 @@ loop-again c =
     let l = b .before .before .before .before in
     let s = l .before .before in
     let a = s .args in
-    let turn : Kept (leftOf (a .store .now) (a .pages .now) (l .loop .marks))
+    let turn : Kept (leftOf (a .store .now) (a .pages .now) (l .loop .tails))
     (leftOf (a .store .now) (a .pages .now) (c .take-first .last .1 .1 .1 .0)) (a .n) (pairFrom (a .key) (a .offset)) =
     pass-turn (l .loop .inv .0) (s .pre .0 .1) (a .key) (a .offset) (s .pre .1 .0) (s .pre .1 .1)
     (sym (b .is-next-before .ensures) ∙ t .if1 .taken) (c .take-first .last .1 .1 .0) (c .take-first .last .1 .1 .1 .0)

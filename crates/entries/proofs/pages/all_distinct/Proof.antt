@@ -17,18 +17,18 @@ use Rattle.entries.proofs.pages.all_distinct.Statement.{statement}
 use Rattle.entries.proofs.pages.all_distinct.Tie as tie
 
 abbrev Inv-loop : tie.InvT-loop
-Inv-loop store pages n keys₀ marks₀ tree₀ keys marks tree =
-    (Merging store pages n keys marks tree)
-    × (distinct (joined (leftOf store pages marks) 0 n) ≡ distinct (joined (pageAt store pages) 0 n))
+Inv-loop store pages n keys₀ tails₀ tree₀ keys tails tree =
+    (Merging store pages n keys tails tree)
+    × (distinct (joined (leftOf store pages tails) 0 n) ≡ distinct (joined (pageAt store pages) 0 n))
 
 abbrev μ-loop : tie.MeasureT-loop
-μ-loop store pages n keys₀ marks₀ tree₀ keys marks tree = tally (λ x. true) (joined (leftOf store pages marks) 0 n)
+μ-loop store pages n keys₀ tails₀ tree₀ keys tails tree = tally (λ x. true) (joined (leftOf store pages tails) 0 n)
 
-no-keys-requires : tie.Need-no-keys-requires Inv-loop μ-loop
-no-keys-requires c κs = tt
+zero-keys-requires : tie.Need-zero-keys-requires Inv-loop μ-loop
+zero-keys-requires c κs = tt
 
-no-marks-requires : tie.Need-no-marks-requires Inv-loop μ-loop
-no-marks-requires c κs = tt
+zero-tails-requires : tie.Need-zero-tails-requires Inv-loop μ-loop
+zero-tails-requires c κs = tt
 
 start-all-requires : tie.Need-start-all-requires Inv-loop μ-loop
 start-all-requires c κs =
@@ -36,8 +36,8 @@ start-all-requires c κs =
     let k = m .before in (
       k .before .before .pre .0,
       (
-        ap length (k .no-keys .ensures) ∙ length-replicate {A = ℕ} maxPages 0,
-        ap length (m .no-marks .ensures) ∙ length-replicate {A = ℕ} maxPages 0,
+        ap length (k .zero-keys .ensures) ∙ length-replicate {A = ℕ} maxPages 0,
+        ap length (m .zero-tails .ensures) ∙ length-replicate {A = ℕ} maxPages 0,
       ),
     )
 
@@ -121,7 +121,7 @@ loop-less c =
     let t = c .before .before .before .before .before in
     let l = t .before .before .before .before .before in
     let a = entry l .args in
-    taken-less (leftOf (a .store .now) (a .pages .now) (l .loop .marks))
+    taken-less (leftOf (a .store .now) (a .pages .now) (l .loop .tails))
     (leftOf (a .store .now) (a .pages .now) (t .take-first .last .1 .1 .1 .0)) (a .n) (t .take-first .ensures .taken)
     (merging-upto (l .loop .inv .0) (entry l .pre .1))
 
@@ -136,8 +136,8 @@ all-distinct-spec =
     (tie.spec
     Inv-loop
     μ-loop
-    no-keys-requires
-    no-marks-requires
+    zero-keys-requires
+    zero-tails-requires
     start-all-requires
     loop-holds
     array-read-j

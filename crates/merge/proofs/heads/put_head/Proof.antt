@@ -4,7 +4,7 @@ use Prim.Native.Nat.{ℕ}
 use borrow.Author.Needs.{needs}
 use lib.ListN.{set, drop}
 use Rattle.page.specs.Entries.{entriesOf}
-use Rattle.merge.specs.Heads.{keyOf, markOf}
+use Rattle.merge.specs.Heads.{keyOf, tailOf}
 use Rattle.merge.proofs.heads.put_head.Statement.{statement}
 use Rattle.merge.proofs.heads.put_head.Tie as tie
 
@@ -20,14 +20,14 @@ mul-keys c = search needs
 element-write-keys : tie.Need-element-write-keys
 element-write-keys c = search needs
 
-mark-at-requires : tie.Need-mark-at-requires
-mark-at-requires c κs = search needs
+tail-at-requires : tie.Need-tail-at-requires
+tail-at-requires c κs = search needs
 
-mul-marks : tie.Need-mul-marks
-mul-marks c = search needs
+mul-tails : tie.Need-mul-tails
+mul-tails c = search needs
 
-element-write-marks : tie.Need-element-write-marks
-element-write-marks c = search needs
+element-write-tails : tie.Need-element-write-tails
+element-write-tails c = search needs
 
 returns : tie.Need-returns
 returns c =
@@ -38,8 +38,8 @@ returns c =
     let here = g .page-at .ensures .0 in (
       ap (set (a .keys .now) (a .i))
           (k .key-at .ensures ∙ ap (λ (l : List ℕ). keyOf (drop (a .slot) (entriesOf l))) here),
-      ap (set (a .marks .now) (a .i))
-          (c .mark-at .ensures ∙ ap (λ (l : List ℕ). markOf (a .slot) (drop (a .slot) (entriesOf l))) here),
+      ap (set (a .tails .now) (a .i))
+          (c .tail-at .ensures ∙ ap (λ (l : List ℕ). tailOf (a .slot) (drop (a .slot) (entriesOf l))) here),
     )
 
 pub put-head-spec : {M : Type 1} → statement M
@@ -50,7 +50,7 @@ put-head-spec =
     key-at-requires
     mul-keys
     element-write-keys
-    mark-at-requires
-    mul-marks
-    element-write-marks
+    tail-at-requires
+    mul-tails
+    element-write-tails
     returns)

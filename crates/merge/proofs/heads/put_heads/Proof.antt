@@ -12,16 +12,16 @@ use Rattle.merge.proofs.heads.put_heads.Statement.{statement}
 use Rattle.merge.proofs.heads.put_heads.Tie as tie
 
 abbrev Inv-loop : tie.InvT-loop
-Inv-loop store pages keys₀ marks₀ n from i₀ keys marks i =
-    (Heads store pages i keys marks) × (CursorsAt store pages from i marks) × (i ≤ n)
+Inv-loop store pages keys₀ tails₀ n from i₀ keys tails i =
+    (Heads store pages i keys tails) × (CursorsAt store pages from i tails) × (i ≤ n)
 
 abbrev μ-loop : tie.MeasureT-loop
-μ-loop store pages keys₀ marks₀ n from i₀ keys marks i = n - i
+μ-loop store pages keys₀ tails₀ n from i₀ keys tails i = n - i
 
 loop-holds : tie.Need-loop-holds Inv-loop μ-loop
 loop-holds c =
     let s = c .before in (
-      record { keys-size = s .pre .1 .0; marks-size = s .pre .1 .1; each = λ i h. absurd (omega (arith, h)) },
+      record { keys-size = s .pre .1 .0; tails-size = s .pre .1 .1; each = λ i h. absurd (omega (arith, h)) },
       λ i h. absurd (omega (arith, h)),
       omega arith,
     )
@@ -47,7 +47,13 @@ slot-few c =
     let s = c .before .before .before .before .before in
     let i = c .before .before .before .loop .i in
     let es = pageAt (s .args .store .now) (s .args .pages .now) i in
-    omega (arith, slot-is c, place-le (s .args .from) es, s .pre .0 .allowed i (c .before .before .loop-test .taken) .few)
+    omega (
+      arith,
+      slot-is c,
+      place-le (s .args .from) es,
+      s .pre .0 .allowed i
+          (c .before .before .loop-test .taken) .few,
+    )
 
 put-head-requires : tie.Need-put-head-requires Inv-loop μ-loop
 put-head-requires c κs =
@@ -69,12 +75,14 @@ loop-again c =
     let inv = l .loop .inv in
     let e = c .put-head .ensures in
     let few = s .pre .0 .few in
-    let in-keys : i < length (l .loop .keys) = omega (arith, few, f .before .before .loop-test .taken, inv .0 .keys-size) in
-    let in-marks : i < length (l .loop .marks) = omega (arith, few, f .before .before .loop-test .taken, inv .0 .marks-size) in
-    let put = heads-next (s .args .store .now) (s .args .pages .now) (l .loop .keys) (l .loop .marks) i
-    (f .find-place .result) in-keys in-marks (slot-few f) (inv .0) in
-    let from = from-next (s .args .store .now) (s .args .pages .now) (l .loop .keys) (l .loop .marks) i
-    (f .find-place .result) in-keys in-marks (slot-few f) (s .args .from) (slot-is f) (inv .1) in
+    let in-keys : i < length (l .loop .keys) =
+    omega (arith, few, f .before .before .loop-test .taken, inv .0 .keys-size) in
+    let in-tails : i < length (l .loop .tails) =
+    omega (arith, few, f .before .before .loop-test .taken, inv .0 .tails-size) in
+    let put = heads-next (s .args .store .now) (s .args .pages .now) (l .loop .keys) (l .loop .tails) i
+    (f .find-place .result) in-keys in-tails (slot-few f) (inv .0) in
+    let from = from-next (s .args .store .now) (s .args .pages .now) (l .loop .keys) (l .loop .tails) i
+    (f .find-place .result) in-keys in-tails (slot-few f) (s .args .from) (slot-is f) (inv .1) in
     (rw (e .0, e .1) put, rw (e .1) from, omega (arith, f .before .before .loop-test .taken))
 
 returns : tie.Need-returns Inv-loop μ-loop
@@ -82,9 +90,9 @@ returns c =
     let l = c .before in
     let s = l .before .before in
     let end : l .loop .i ≡ s .args .n = omega (arith, l .loop .inv .2, c .loop-test .left) in (
-      subst (λ (i : ℕ). Heads (s .args .store .now) (s .args .pages .now) i (l .loop .keys) (l .loop .marks)) end
+      subst (λ (i : ℕ). Heads (s .args .store .now) (s .args .pages .now) i (l .loop .keys) (l .loop .tails)) end
           (l .loop .inv .0),
-      subst (λ (i : ℕ). CursorsAt (s .args .store .now) (s .args .pages .now) (s .args .from) i (l .loop .marks)) end
+      subst (λ (i : ℕ). CursorsAt (s .args .store .now) (s .args .pages .now) (s .args .from) i (l .loop .tails)) end
           (l .loop .inv .1),
     )
 

@@ -1,4 +1,3 @@
-use native.Mathlib.Omega.{arith}
 use borrow.Author.Needs.{needs}
 use Rattle.merge.specs.MergingLaws.{merging-upto, next-few, taken-settled, taken-moved}
 use Rattle.merge.proofs.heads.take_first.Statement.{statement}
@@ -7,23 +6,9 @@ use Rattle.merge.proofs.heads.take_first.Tie as tie
 element-copy-out-j : tie.Need-element-copy-out-j
 element-copy-out-j c = search needs
 
-mul-slot : tie.Need-mul-slot
-mul-slot c =
-    let s = c .before .before in omega (arith, merging-upto (s .pre .0 .0) (s .pre .0 .1), s .pre .0 .0 .pages .few)
-
-element-copy-out-slot : tie.Need-element-copy-out-slot
-element-copy-out-slot c =
-    let s = c .before .before in omega (arith, merging-upto (s .pre .0 .0) (s .pre .0 .1), s .pre .0 .0 .pages .few)
-
-cast-slot : tie.Need-cast-slot
-cast-slot c = search needs
-
-add-slot : tie.Need-add-slot
-add-slot c = search needs
-
-put-head-requires : tie.Need-put-head-requires
-put-head-requires c κs =
-    let s = c .before .before .before .before .before in
+advance-head-requires : tie.Need-advance-head-requires
+advance-head-requires c κs =
+    let s = c .before .before .before .before in
     let m = s .pre .0 .0 in
     let some = s .pre .0 .1 in
     (m .pages, merging-upto m some, next-few m some (s .pre .1))
@@ -31,27 +16,21 @@ put-head-requires c κs =
 replay-requires : tie.Need-replay-requires
 replay-requires c κs =
     let p = c .before .before .before in
-    let s = p .before .before .before .before .before .before in
+    let s = p .before .before .before .before .before in
     let m = s .pre .0 .0 in
-    let some = s .pre .0 .1 in
-    (merging-upto m some, m .pages .few, taken-settled m some (s .pre .1) _ _ (p .put-head .ensures .0) (p .put-head .ensures .1))
+    let some = s .pre .0 .1 in (
+      merging-upto m some,
+      m .pages .few,
+      taken-settled m some (s .pre .1) _ _ (p .advance-head .ensures .0) (p .advance-head .ensures .1),
+    )
 
 returns : tie.Need-returns
 returns c =
     let p = c .before .before .before .before in
-    let s = p .before .before .before .before .before .before in
-    taken-moved (s .pre .0 .0) (s .pre .0 .1) (s .pre .1) _ _ (p .put-head .ensures .0) (p .put-head .ensures .1) _
-    (c .replay .ensures)
+    let s = p .before .before .before .before .before in
+    taken-moved (s .pre .0 .0) (s .pre .0 .1) (s .pre .1) _ _ (p .advance-head .ensures .0)
+    (p .advance-head .ensures .1)
+    _ (c .replay .ensures)
 
 pub take-first-spec : {M : Type 1} → statement M
-take-first-spec =
-    tie.close
-    (tie.spec
-    element-copy-out-j
-    mul-slot
-    element-copy-out-slot
-    cast-slot
-    add-slot
-    put-head-requires
-    replay-requires
-    returns)
+take-first-spec = tie.close (tie.spec element-copy-out-j advance-head-requires replay-requires returns)

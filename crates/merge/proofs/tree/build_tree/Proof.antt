@@ -7,10 +7,10 @@ use Rattle.merge.proofs.tree.build_tree.Statement.{statement}
 use Rattle.merge.proofs.tree.build_tree.Tie as tie
 
 abbrev Inv-loop : tie.InvT-loop
-Inv-loop keys marks n tree₀ k₀ tree k = (k ≤ n) × Settled keys marks n tree (Under k)
+Inv-loop keys tails n tree₀ k₀ tree k = (k ≤ n) × Settled keys tails n tree (Under k)
 
 abbrev μ-loop : tie.MeasureT-loop
-μ-loop keys marks n tree₀ k₀ tree k = k
+μ-loop keys tails n tree₀ k₀ tree k = k
 
 put-leaves-requires : tie.Need-put-leaves-requires Inv-loop μ-loop
 put-leaves-requires c κs = search needs
@@ -19,7 +19,7 @@ loop-holds : tie.Need-loop-holds Inv-loop μ-loop
 loop-holds c =
     let a = c .before .args in
     let e = c .put-leaves .ensures in
-    (omega arith, leaves-settled (a .keys .now) (a .marks .now) (a .n) (c .put-leaves .result) (e .0) (e .1))
+    (omega arith, leaves-settled (a .keys .now) (a .tails .now) (a .n) (c .put-leaves .result) (e .0) (e .1))
 
 sub-k : tie.Need-sub-k Inv-loop μ-loop
 sub-k c = omega arith
@@ -28,7 +28,7 @@ winner-at-requires : tie.Need-winner-at-requires Inv-loop μ-loop
 winner-at-requires c κs =
     let l = c .before .before .loop in
     let a = c .before .before .before .before .args in
-    pages-below (a .keys .now) (a .marks .now) (a .n) (l .tree) (Under (l .k)) (l .k - 1) (omega arith) (omega arith)
+    pages-below (a .keys .now) (a .tails .now) (a .n) (l .tree) (Under (l .k)) (l .k - 1) (omega arith) (omega arith)
     (omega arith) (λ o. omega arith) (λ o. omega arith) (l .inv .1)
 
 mul-tree : tie.Need-mul-tree Inv-loop μ-loop
@@ -46,7 +46,7 @@ loop-again c =
     let a = c .before .before .before .before .before .args in (
       omega arith,
       rw (c .winner-at .ensures)
-          (built-next (a .keys .now) (a .marks .now) (a .n) (l .tree) (l .k) (omega arith) (omega arith) (omega arith)
+          (built-next (a .keys .now) (a .tails .now) (a .n) (l .tree) (l .k) (omega arith) (omega arith) (omega arith)
           (l .inv .1)),
     )
 
@@ -54,7 +54,7 @@ returns : tie.Need-returns Inv-loop μ-loop
 returns c =
     let l = c .before .loop in
     let a = c .before .before .before .args in
-    built-won (a .keys .now) (a .marks .now) (a .n) (l .tree) (l .k) (omega arith) (l .inv .1)
+    built-won (a .keys .now) (a .tails .now) (a .n) (l .tree) (l .k) (omega arith) (l .inv .1)
 
 pub build-tree-spec : {M : Type 1} → statement M
 build-tree-spec =

@@ -37,7 +37,11 @@ unfolding ahead
 returns-2 c =
     let s = c .before .before in
     let a = s .args in
-    rw (ne-eqb (getD (a .keys .now) (a .a) 0) (getD (a .keys .now) (a .b) 0) (λ e. c .if1 .left (s .pre .2 ∙ e)), s .pre .2)
+    rw (
+      ne-eqb (getD (a .keys .now) (a .a) 0) (getD (a .keys .now) (a .b) 0) (λ e. c .if1 .left (s .pre .2
+          ∙ e)),
+      s .pre .2,
+    )
 
 pub is-ahead-spec : {M : Type 1} → statement M
 is-ahead-spec =

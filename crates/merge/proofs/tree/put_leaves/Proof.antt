@@ -23,12 +23,12 @@ Inv-loop n tree₀ i₀ tree i = (i ≤ n) × (length tree ≡ 2 * maxPages) × 
 abbrev μ-loop : tie.MeasureT-loop
 μ-loop n tree₀ i₀ tree i = n - i
 
-no-winners-requires : tie.Need-no-winners-requires Inv-loop μ-loop
-no-winners-requires c κs = search needs
+zero-tree-requires : tie.Need-zero-tree-requires Inv-loop μ-loop
+zero-tree-requires c κs = search needs
 
 loop-holds : tie.Need-loop-holds Inv-loop μ-loop
 loop-holds c =
-    let e : length (c .no-winners .result) ≡ 2 * maxPages = rw (c .no-winners .ensures, length-replicate) in
+    let e : length (c .zero-tree .result) ≡ 2 * maxPages = rw (c .zero-tree .ensures, length-replicate) in
     (omega arith, e, λ j l. absurd (omega arith))
 
 add-tree : tie.Need-add-tree Inv-loop μ-loop
@@ -67,7 +67,7 @@ put-leaves-spec =
     (tie.spec
     Inv-loop
     μ-loop
-    no-winners-requires
+    zero-tree-requires
     loop-holds
     add-tree
     mul-tree

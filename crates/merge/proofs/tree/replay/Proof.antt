@@ -1,4 +1,4 @@
-use mathlib.Core.Path.{_≡_, refl, sym, _∙_}
+use mathlib.Core.Path.{refl, sym, _∙_}
 use mathlib.Core.Logic.{⊎-elim}
 use Prim.Native.Nat.{_+_, _*_, _-_, _/_, _<_}
 use native.Mathlib.Omega.{arith}
@@ -11,10 +11,10 @@ use Rattle.merge.proofs.tree.replay.Statement.{statement}
 use Rattle.merge.proofs.tree.replay.Tie as tie
 
 abbrev Inv-loop : tie.InvT-loop
-Inv-loop keys marks tree₀ n j page₀ key₀ k₀ tree page key k = Rising keys marks n tree k page key
+Inv-loop keys tails tree₀ n j page₀ key₀ k₀ tree page key k = Rising keys tails n tree k page key
 
 abbrev μ-loop : tie.MeasureT-loop
-μ-loop keys marks tree₀ n j page₀ key₀ k₀ tree page key k = k
+μ-loop keys tails tree₀ n j page₀ key₀ k₀ tree page key k = k
 
 mul-key : tie.Need-mul-key Inv-loop μ-loop
 mul-key c = omega arith

@@ -24,7 +24,8 @@ copied-next pages₀ walk at i pages c inside =
         ap (λ (x : ℕ). getD (set pages (at + i) (getD walk i 0)) (at + x) 0) e
         ∙ getD-set-same pages (at + i) (getD walk i 0) 0 inside ∙ ap (λ (x : ℕ). getD walk x 0) (sym e)
     go k h (no e) =
-        getD-set-other pages (at + i) (at + k) (getD walk i 0) 0 (λ q. e (omega (arith, q))) ∙ c .here k (omega (arith, h, e))
+        getD-set-other pages (at + i) (at + k) (getD walk i 0) 0 (λ q. e (omega (arith, q))) ∙ c .here k (omega
+        (arith, h, e))
 
 abbrev Inv-loop : tie.InvT-loop
 Inv-loop pages₀ walk at n i₀ pages i = (Copied pages₀ walk at i pages) × (i ≤ n)
@@ -49,7 +50,8 @@ mul-pages-2 : tie.Need-mul-pages-2 Inv-loop μ-loop
 mul-pages-2 c = let s = c .before .before .before in omega (arith, c .before .loop-test .taken, s .pre .0, s .pre .1)
 
 element-write-pages : tie.Need-element-write-pages Inv-loop μ-loop
-element-write-pages c = let s = c .before .before .before in omega (arith, c .before .loop-test .taken, s .pre .0, s .pre .1)
+element-write-pages c =
+    let s = c .before .before .before in omega (arith, c .before .loop-test .taken, s .pre .0, s .pre .1)
 
 add-i : tie.Need-add-i Inv-loop μ-loop
 add-i c = omega arith
@@ -61,7 +63,8 @@ loop-again : tie.Need-loop-again Inv-loop μ-loop
 loop-again c =
     let l = c .before .before in
     let s = l .before in (
-      copied-next (s .args .pages .now) (s .args .walk .now) (s .args .at) (l .loop .i) (l .loop .pages) (l .loop .inv .0)
+      copied-next (s .args .pages .now) (s .args .walk .now) (s .args .at) (l .loop .i) (l .loop .pages)
+          (l .loop .inv .0)
           (omega (arith, l .loop .inv .0 .size, s .pre .0, s .pre .1, c .before .loop-test .taken)),
       omega (arith, c .before .loop-test .taken),
     )

@@ -16,22 +16,22 @@ use Rattle.view.proofs.lookup.put_left.Statement.{statement}
 use Rattle.view.proofs.lookup.put_left.Tie as tie
 
 abbrev Inv-loop : tie.InvT-loop
-Inv-loop store pages keys₀ marks₀ tree₀ output₀ n k hash fresh at₀ keys marks tree output at =
-    (Merging store pages (n + k) keys marks tree)
-    × (Listed (leftOf store pages marks) n k hash fresh
-    (written (sorted (pairsLeft (leftOf store pages marks₀) n k hash fresh)) output₀) output at)
+Inv-loop store pages keys₀ tails₀ tree₀ output₀ n k hash fresh at₀ keys tails tree output at =
+    (Merging store pages (n + k) keys tails tree)
+    × (Listed (leftOf store pages tails) n k hash fresh
+    (written (sorted (pairsLeft (leftOf store pages tails₀) n k hash fresh)) output₀) output at)
     × (length output ≡ length output₀)
 
 abbrev μ-loop : tie.MeasureT-loop
-μ-loop store pages keys₀ marks₀ tree₀ output₀ n k hash fresh at₀ keys marks tree output at =
-    entriesLeft store pages marks (n + k)
+μ-loop store pages keys₀ tails₀ tree₀ output₀ n k hash fresh at₀ keys tails tree output at =
+    entriesLeft store pages tails (n + k)
 
 loop-holds : tie.Need-loop-holds Inv-loop μ-loop
 loop-holds c =
     let s = c .before .before in
     let a = s .args in (
       s .pre .0 .0,
-      list-start (leftOf (a .store .now) (a .pages .now) (a .marks .now)) (a .n) (a .k) (a .hash) (a .fresh)
+      list-start (leftOf (a .store .now) (a .pages .now) (a .tails .now)) (a .n) (a .k) (a .hash) (a .fresh)
           (a .output .now) (s .pre .1 .0) (s .pre .1 .1),
       refl,
     )
@@ -75,11 +75,11 @@ returns-2 c =
     let l = e .before .before .before in
     list-past (l .loop .inv .0) (l .before .before .before .pre .0 .1) (l .loop .inv .1) (more e) (c .if2 .taken)
 
-mul-mark : tie.Need-mul-mark Inv-loop μ-loop
-mul-mark c = omega (arith, upto (c .before .before .before .before))
+mul-tail : tie.Need-mul-tail Inv-loop μ-loop
+mul-tail c = omega (arith, upto (c .before .before .before .before))
 
-element-copy-out-mark : tie.Need-element-copy-out-mark Inv-loop μ-loop
-element-copy-out-mark c = omega (arith, upto (c .before .before .before .before))
+element-copy-out-tail : tie.Need-element-copy-out-tail Inv-loop μ-loop
+element-copy-out-tail c = omega (arith, upto (c .before .before .before .before))
 
 add-take-first : tie.Need-add-take-first Inv-loop μ-loop
 add-take-first c =
@@ -94,11 +94,11 @@ take-first-requires c κs =
 
 mul-put-match : tie.Need-mul-put-match Inv-loop μ-loop
 mul-put-match c =
-    omega (arith, upto (c .before .before .before .before .before .before .before .before .before .before))
+    omega (arith, upto (c .before .before .before .before .before .before .before .before .before .before .before))
 
 element-copy-out-put-match : tie.Need-element-copy-out-put-match Inv-loop μ-loop
 element-copy-out-put-match c =
-    omega (arith, upto (c .before .before .before .before .before .before .before .before .before .before))
+    omega (arith, upto (c .before .before .before .before .before .before .before .before .before .before .before))
 
 is-fresh-requires : tie.Need-is-fresh-requires Inv-loop μ-loop
 is-fresh-requires c κs = search needs
@@ -113,7 +113,7 @@ put-match-requires c κs =
     let some = l .before .before .before .pre .0 .1 in (
       merging-told m some (more e),
       list-room m some (l .loop .inv .1) (more e) (d .if2 .left) (t .take-first .ensures)
-          (c .is-fresh .ensures),
+          (c .before .before .is-fresh .ensures),
     )
 
 loop-less : tie.Need-loop-less Inv-loop μ-loop
@@ -128,8 +128,8 @@ loop-less c =
 loop-again : tie.Need-loop-again Inv-loop μ-loop
 loop-again c =
     let p = c .before .before in
-    let f = p .before in
-    let t = f .before .before .before in
+    let f = p .before .before .before in
+    let t = f .before in
     let d = t .before .before .before .before .before in
     let e = d .before in
     let l = e .before .before .before in (
@@ -153,13 +153,13 @@ put-left-spec =
     returns
     same-length-2
     returns-2
-    mul-mark
-    element-copy-out-mark
+    mul-tail
+    element-copy-out-tail
     add-take-first
     take-first-requires
+    is-fresh-requires
     mul-put-match
     element-copy-out-put-match
-    is-fresh-requires
     put-match-requires
     loop-less
     loop-again)

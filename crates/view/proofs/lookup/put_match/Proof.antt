@@ -9,7 +9,7 @@ use lib.Seq.{sets}
 use Rattle.page.specs.declared.Pair.{Pair}
 use Rattle.model.specs.Calls.{placeBytes}
 use Rattle.chain.specs.Pairs.{counts}
-use Rattle.view.specs.Left.{firstAt}
+use Rattle.merge.specs.Heads.{firstAt}
 use Rattle.view.proofs.lookup.put_match.Statement.{statement}
 use Rattle.view.proofs.lookup.put_match.Tie as tie
 
@@ -20,7 +20,7 @@ returns : tie.Need-returns
 returns c =
     let i = c .before in
     let a = i .before .before .before .args in
-    let z : counts (a .fresh) (firstAt (a .store .now) (a .block) (a .mark)) ≡ false =
+    let z : counts (a .fresh) (firstAt (a .store .now) (a .block) (a .tail)) ≡ false =
     sym (i .is-counted .ensures) ∙ not-true (i .is-counted .result) (c .if1 .taken) in
     rw z (refl, refl)
 
@@ -29,7 +29,7 @@ head-pair-requires c κs = search needs
 
 -- the head counts
 counted : (c : tie.Else1) → let a = c .before .before .before .before .args in
-    counts (a .fresh) (firstAt (a .store .now) (a .block) (a .mark)) ≡ true
+    counts (a .fresh) (firstAt (a .store .now) (a .block) (a .tail)) ≡ true
 counted c =
     let i = c .before in sym (i .is-counted .ensures) ∙ not-false (i .is-counted .result) (c .if1 .left)
 

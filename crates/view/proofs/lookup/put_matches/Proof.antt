@@ -23,11 +23,11 @@ use Rattle.view.proofs.lookup.put_matches.Tie as tie
 join-walks-requires : tie.Need-join-walks-requires
 join-walks-requires c κs = search needs
 
-no-keys-requires : tie.Need-no-keys-requires
-no-keys-requires c κs = search needs
+zero-keys-requires : tie.Need-zero-keys-requires
+zero-keys-requires c κs = search needs
 
-no-marks-requires : tie.Need-no-marks-requires
-no-marks-requires c κs = search needs
+zero-tails-requires : tie.Need-zero-tails-requires
+zero-tails-requires c κs = search needs
 
 add-start-merge : tie.Need-add-start-merge
 add-start-merge c = search needs
@@ -47,8 +47,8 @@ start-merge-requires c κs =
     let k = m .before in (
       pages (k .before),
       (
-        ap length (k .no-keys .ensures) ∙ length-replicate {A = ℕ} maxPages 0,
-        ap length (m .no-marks .ensures) ∙ length-replicate {A = ℕ} maxPages 0,
+        ap length (k .zero-keys .ensures) ∙ length-replicate {A = ℕ} maxPages 0,
+        ap length (m .zero-tails .ensures) ∙ length-replicate {A = ℕ} maxPages 0,
       ),
     )
 
@@ -99,8 +99,8 @@ put-matches-spec =
     tie.close
     (tie.spec
     join-walks-requires
-    no-keys-requires
-    no-marks-requires
+    zero-keys-requires
+    zero-tails-requires
     add-start-merge
     start-merge-requires
     put-left-requires

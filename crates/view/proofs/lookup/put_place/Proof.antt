@@ -1,4 +1,3 @@
-use mathlib.Core.Path.{ap}
 use borrow.Author.Needs.{needs}
 use Rattle.lists.specs.BytesLaws.{sets-append}
 use Rattle.endian.specs.Endian.{le16, le32}

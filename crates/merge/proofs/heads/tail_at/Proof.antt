@@ -8,10 +8,10 @@ use Rattle.endian.specs.Endian.{u16At}
 use Rattle.page.specs.declared.Entry.{Entry}
 use Rattle.page.specs.Entries.{entriesOf}
 use Rattle.page.specs.RuleLaws.{number-le}
-use Rattle.merge.specs.Heads.{markOf}
+use Rattle.merge.specs.Heads.{tailOf}
 use Rattle.merge.specs.HeadLaws.{left-done, left-more}
-use Rattle.merge.proofs.heads.mark_at.Statement.{statement}
-use Rattle.merge.proofs.heads.mark_at.Tie as tie
+use Rattle.merge.proofs.heads.tail_at.Statement.{statement}
+use Rattle.merge.proofs.heads.tail_at.Tie as tie
 
 count-entries-requires : tie.Need-count-entries-requires
 count-entries-requires c κs = search needs
@@ -23,7 +23,7 @@ returns : tie.Need-returns
 returns c =
     let s = c .before .before .before in
     let past : u16At (s .args .page .now) 0 ≤ s .args .slot = omega (arith, c .before .count-entries .ensures) in
-    sym (ap (markOf (s .args .slot)) (left-done (s .args .page .now) (s .args .slot) past))
+    sym (ap (tailOf (s .args .slot)) (left-done (s .args .page .now) (s .args .slot) past))
 
 -- the slot is one of the page's
 below : (c : tie.Else1)
@@ -53,11 +53,11 @@ returns-2 c =
     let s = g .before .before .before .before in
     let l = s .args .page .now in
     let k = s .args .slot in
-    ap (λ (e : Entry). markOf k (e ∷ drop (suc k) (entriesOf l))) (g .get-entry .ensures)
-    ∙ sym (ap (markOf k) (left-more l k (below (g .before))))
+    ap (λ (e : Entry). tailOf k (e ∷ drop (suc k) (entriesOf l))) (g .get-entry .ensures)
+    ∙ sym (ap (tailOf k) (left-more l k (below (g .before))))
 
-pub mark-at-spec : {M : Type 1} → statement M
-mark-at-spec =
+pub tail-at-spec : {M : Type 1} → statement M
+tail-at-spec =
     tie.close
     (tie.spec
     count-entries-requires
