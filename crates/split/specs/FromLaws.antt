@@ -17,8 +17,8 @@ use Rattle.page.specs.Pair.{same, is}
 use Rattle.page.specs.PairLaws.{same-refl, same-eq}
 use Rattle.model.specs.Index.{Page, Chain, copying, clearing, Index, onPages, entriesIn, chain, entriesAt, bucket}
 use Rattle.model.specs.Index.{newBucket, oldBucket, setChain}
-use Rattle.model.specs.Pages.{put, thinEntries, thin, inUse, without, cut}
-use Rattle.model.specs.Steps.{next, orFull, moves, toCopy, step}
+use Rattle.model.specs.Pages.{thinEntries, thin, inUse, without, cut}
+use Rattle.model.specs.Steps.{next, orFull, moves, toCopy}
 use Rattle.model.specs.WellFormed.{WF}
 use Rattle.model.specs.TallyLaws.{any-more}
 use Rattle.model.specs.StandLaws.{chain-here, number-here, chain-there}

@@ -3,7 +3,7 @@ use mathlib.Core.Path.{_≡_}
 use mathlib.Core.Bool.{Bool, true, false}
 use mathlib.Core.List.{List}
 use mathlib.Core.Option.{none, some}
-use Prim.Native.Nat.{ℕ, _<_}
+use Prim.Native.Nat.{ℕ, _+_, _<_}
 use lib.ListN.{length, getD, take}
 use Rattle.lists.specs.Lists.{tally, find}
 use Rattle.page.specs.declared.Pair.{Pair}
@@ -34,6 +34,11 @@ pub data Seeks (t : Entry → Bool) (es : List Entry) : Mover → Type 0 where
 abbrev pub moverPlace : Mover → ℕ
 moverPlace (Mover.At e k b n) = k
 moverPlace Mover.Nothing = 0
+
+-- its place, counted from k entries before
+abbrev pub shifted : ℕ → Mover → Mover
+shifted k (Mover.At e j b n) = Mover.At e (k + j) b n
+shifted k Mover.Nothing = Mover.Nothing
 
 -- its block and slot are where f finds its pair
 pub data Located (f : Pair → Found) : Mover → Type 0 where

@@ -13,7 +13,7 @@ use page::slots::count_entries;
 use page::slots::get_entry;
 use reader::buckets::walk_bucket;
 ghost use mathlib.Core.Path.{_≡_};
-ghost use Prim.Native.Nat.{suc, _-_, _*_, _<_};
+ghost use Prim.Native.Nat.{suc, _+_, _-_, _*_, _<_};
 ghost use lib.ListN.{take};
 ghost use Rattle.lists.specs.Lists.{bind};
 ghost use Rattle.address.specs.Limits.{maxBlocks};
@@ -26,7 +26,7 @@ ghost use Rattle.chain.specs.Within.{entriesOn, PagesOk, Within};
 ghost use Rattle.view.specs.Reads.{Reads};
 ghost use Rattle.view.specs.Places.{findAt};
 ghost use Rattle.split.specs.Mover.{movable, Copies};
-ghost use Rattle.split.specs.Seek.{Before, Seeks, moverPlace, Located, foundOn};
+ghost use Rattle.split.specs.Seek.{Before, Seeks, moverPlace, shifted, Located, foundOn};
 
 // Where the step copies, the walk along the new chain, in which copies are looked for.
 fn walk_copies(store: &[u8], m: Meta, copying: bool) -> Walk
@@ -42,16 +42,17 @@ fn walk_copies(store: &[u8], m: Meta, copying: bool) -> Walk
     }
 }
 
-// Whether the entry maps to the new bucket and, where the step copies, has no copy there.
+// Whether the entry maps to the new bucket and, where the step copies, has no copy there: none on the pages of the
+// first `walked` blocks of `copies`.
 fn is_movable(
     store: &[u8],
     copies: &[u32; MAX_BLOCKS + 1],
-    number: usize,
+    walked: usize,
     m: Meta,
     copying: bool,
     e: Entry,
 ) -> bool
-    requires { ⌜ (Reads (now store) m) × (Copies copying (decode (now store)) (now copies) number) ⌝ }
+    requires { ⌜ (Reads (now store) m) × (Copies copying (decode (now store)) (now copies) walked) ⌝ }
     ensures { λ r. ⌜ r ≡ movable copying (decode (now (store .entry))) e ⌝ }
 {
     let new = m.max;
@@ -62,7 +63,7 @@ fn is_movable(
     if !copying {
         return true;
     }
-    let found = find_pair(store, copies, number, pair);
+    let found = find_pair(store, copies, walked, pair);
     if let Found::At { block: _, slot: _ } = found {
         false
     } else {
@@ -76,13 +77,13 @@ fn first_in_page(
     block: u32,
     store: &[u8],
     copies: &[u32; MAX_BLOCKS + 1],
-    number: usize,
+    walked: usize,
     m: Meta,
     copying: bool,
     from: usize,
 ) -> Mover
     requires { ⌜ (Sorted (now page)) × (Reads (now store) m)
-        × (Copies copying (decode (now store)) (now copies) number) ⌝ }
+        × (Copies copying (decode (now store)) (now copies) walked) ⌝ }
     requires { ⌜ Before (movable copying (decode (now store))) (entriesOf (now page)) from ⌝ }
     ensures { λ r. ⌜ Seeks (movable copying (decode (now (store .entry)))) (entriesOf (now (page .entry))) r ⌝ }
     ensures { λ r. ⌜ Located (foundOn block (entriesOf (now (page .entry)))) r ⌝ }
@@ -91,7 +92,7 @@ fn first_in_page(
     let mut i = from;
     while i < n {
         let entry = get_entry(page, i);
-        if is_movable(store, copies, number, m, copying, entry) {
+        if is_movable(store, copies, walked, m, copying, entry) {
             return Mover::At {
                 entry,
                 place: i,
@@ -111,19 +112,41 @@ fn past(a: usize, b: usize) -> usize
     if a < b { 0 } else { a - b }
 }
 
+// What was found on a page, its place counted from the start of the walk: `passed` entries stand before the page.
+fn shift_place(found: Mover, passed: usize) -> Mover
+    requires { ⌜ passed + moverPlace found < 40 * suc maxBlocks ⌝ }
+    ensures { λ r. ⌜ r ≡ shifted passed found ⌝ }
+{
+    if let Mover::At {
+        entry,
+        place,
+        block,
+        slot,
+    } = found {
+        let at = passed + place;
+        return Mover::At {
+            entry,
+            place: at,
+            block,
+            slot,
+        };
+    }
+    Mover::Nothing
+}
+
 // The first entry on the pages of a walk that a step moves; among the first `from` there is none.
 fn first_in_walk(
     store: &[u8],
     blocks: &[u32; MAX_BLOCKS + 1],
     count: usize,
     copies: &[u32; MAX_BLOCKS + 1],
-    number: usize,
+    walked: usize,
     m: Meta,
     copying: bool,
     from: usize,
 ) -> Mover
     requires { ⌜ (Within (now store) (now blocks) count) × (PagesOk (now store) (take count (now blocks)))
-        × (Reads (now store) m) × (Copies copying (decode (now store)) (now copies) number) ⌝ }
+        × (Reads (now store) m) × (Copies copying (decode (now store)) (now copies) walked) ⌝ }
     requires { ⌜ Before (movable copying (decode (now store)))
         (bind (take count (now blocks)) (entriesOn (now store))) from ⌝ }
     ensures { λ r. ⌜ Seeks (movable copying (decode (now (store .entry))))
@@ -136,21 +159,10 @@ fn first_in_walk(
     while i < count {
         let page = page_on(store, blocks, count, i);
         let start = past(from, passed);
-        let found = first_in_page(page, blocks[i], store, copies, number, m, copying, start);
-        if let Mover::At {
-            entry,
-            place,
-            block,
-            slot,
-        } = found {
-            let at = passed + place;
-            return Mover::At {
-                entry,
-                place: at,
-                block,
-                slot,
-            };
-        }
+        let found = first_in_page(page, blocks[i], store, copies, walked, m, copying, start);
+        let Mover::Nothing = found else {
+            return shift_place(found, passed);
+        };
         passed += count_entries(page);
         i += 1;
     }
@@ -171,8 +183,8 @@ pub fn first_mover(store: &[u8], m: Meta, copying: bool, from: usize) -> Mover
     let walk = walk_bucket(store, m, parent_of(m.max));
     let blocks = walk.blocks;
     let count = walk.count;
-    let made = walk_copies(store, m, copying);
-    let copies = made.blocks;
-    let number = made.count;
-    first_in_walk(store, &blocks, count, &copies, number, m, copying, from)
+    let copies_walk = walk_copies(store, m, copying);
+    let copies = copies_walk.blocks;
+    let walked = copies_walk.count;
+    first_in_walk(store, &blocks, count, &copies, walked, m, copying, from)
 }

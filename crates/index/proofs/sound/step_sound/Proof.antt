@@ -1,4 +1,4 @@
-use mathlib.Core.Path.{_≡_, refl, sym, _∙_, subst}
+use mathlib.Core.Path.{refl, sym, _∙_, subst}
 use borrow.Author.Needs.{needs}
 use Rattle.view.specs.Reads.{Reads}
 use Rattle.index.specs.SoundLaws.{advances-fits, advances-stepped, advances-from}

@@ -15,11 +15,11 @@ use Rattle.split.proofs.search.first_in_page.Statement.{statement}
 use Rattle.split.proofs.search.first_in_page.Tie as tie
 
 abbrev Inv-loop : tie.InvT-loop
-Inv-loop page block store copies number m copying from n i₀ i =
+Inv-loop page block store copies walked m copying from n i₀ i =
     Before (movable copying (decode store)) (entriesOf page) i
 
 abbrev μ-loop : tie.MeasureT-loop
-μ-loop page block store copies number m copying from n i₀ i = n - i
+μ-loop page block store copies walked m copying from n i₀ i = n - i
 
 count-entries-requires : tie.Need-count-entries-requires Inv-loop μ-loop
 count-entries-requires c κs = omega (arith, c .before .before .pre .0 .0 .whole)

@@ -1,16 +1,19 @@
-use mathlib.Core.Path.{_≡_, sym, _∙_, subst}
+use mathlib.Core.Path.{_≡_, sym, ap, _∙_, subst}
 use Prim.Native.Nat.{suc, _+_, _-_, _*_, _≤_, _<_}
 use native.Mathlib.Omega.{arith}
 use borrow.Author.Needs.{needs}
-use lib.ListN.{length}
+use lib.ListN.{length, take}
+use Rattle.lists.specs.Lists.{bind}
 use Rattle.lists.specs.ListsLaws.{find-yes}
 use Rattle.address.specs.Limits.{maxBlocks}
 use Rattle.page.specs.Entries.{entriesOf}
 use Rattle.page.specs.EntriesLaws.{length-entriesOf}
 use Rattle.page.specs.RuleLaws.{number-le}
 use Rattle.image.specs.Decode.{decode}
+use Rattle.chain.specs.Search.{findIn}
+use Rattle.chain.specs.Within.{entriesOn}
 use Rattle.split.specs.Mover.{movable}
-use Rattle.split.specs.Seek.{Before, nowhere}
+use Rattle.split.specs.Seek.{Before, Seeks, moverPlace, shifted, Located, nowhere}
 use Rattle.split.specs.SeekLaws.{seeks-entry, seeks-place}
 use Rattle.split.specs.MoverLaws.{movable-same}
 use Rattle.split.proofs.Searching.{Behind, behind-start, page-start, page-found, page-located, page-later}
@@ -19,11 +22,11 @@ use Rattle.split.proofs.search.first_in_walk.Statement.{statement}
 use Rattle.split.proofs.search.first_in_walk.Tie as tie
 
 abbrev Inv-loop : tie.InvT-loop
-Inv-loop store blocks count copies number m copying from passed₀ i₀ passed i =
+Inv-loop store blocks count copies walked m copying from passed₀ i₀ passed i =
     Behind store blocks count (movable copying (decode store)) passed i
 
 abbrev μ-loop : tie.MeasureT-loop
-μ-loop store blocks count copies number m copying from passed₀ i₀ passed i = count - i
+μ-loop store blocks count copies walked m copying from passed₀ i₀ passed i = count - i
 
 loop-holds : tie.Need-loop-holds Inv-loop μ-loop
 loop-holds c = behind-start _ _ _ _
@@ -52,8 +55,11 @@ first-in-page-requires c κs =
           (page-start (s .pre .0 .0) (l .loop .inv) (p .before .loop-test .taken) h (s .args .from) (s .pre .1)),
     )
 
-enum-known-found : tie.Need-enum-known-found Inv-loop μ-loop
-enum-known-found c = search needs
+enum-told : tie.Need-enum-told Inv-loop μ-loop
+enum-told c = search needs
+
+enum-told-2 : tie.Need-enum-told-2 Inv-loop μ-loop
+enum-told-2 c = search needs
 
 -- a page has at most 40 entries
 few : (c : tie.After-page-on Inv-loop μ-loop) → length (entriesOf (c .page-on .result .now)) ≤ 40
@@ -63,40 +69,53 @@ few c =
     omega (arith, length-entriesOf l, number-le l (c .page-on .ensures .sorted (s .pre .0 .1) .number))
 
 -- the place is one of a walk's slots
-near : (c : tie.After-known-told Inv-loop μ-loop)
-    → let l = c .before .before .before .before .before .before .before .before in
-    l .loop .passed + c .before .found .given .0 .1 .0 < 40 * suc maxBlocks
+near : (c : tie.After-enum-told2 Inv-loop μ-loop)
+    → let f = c .before .before in
+    f .before .before .before .before .before .loop .passed + moverPlace (f .first-in-page .result) < 40 * suc maxBlocks
 near c =
-    let v = c .before in
-    let p = v .before .before .before .before .before in
+    let f = c .before .before in
+    let p = f .before .before .before in
     let l = p .before .before in
-    let place = seeks-place (v .before .before .first-in-page .ensures .0) (v .found .given .1) .inside in
-    omega (arith, few p, place, l .loop .inv .few, l .before .before .pre .0 .0 .few, p .before .loop-test .taken)
+    let at = c .enum-told2 .given .1 in
+    let place = seeks-place (f .first-in-page .ensures .0) at .inside in
+    omega (
+      arith,
+      ap moverPlace at,
+      few p,
+      place,
+      l .loop .inv .few,
+      l .before .before .pre .0 .0 .few,
+      p .before .loop-test .taken,
+    )
 
-add-at : tie.Need-add-at Inv-loop μ-loop
-add-at c = omega (arith, near c)
+shift-place-requires : tie.Need-shift-place-requires Inv-loop μ-loop
+shift-place-requires c κs = near c
 
 returns : tie.Need-returns Inv-loop μ-loop
 returns c =
     let v = c .before in
-    let p = v .before .before .before .before .before in
+    let f = v .before .before in
+    let p = f .before .before .before in
     let l = p .before .before in
     let s = l .before .before in
+    let store = s .args .store .now in
+    let ks = take (s .args .count) (s .args .blocks .now) in
     let ok = s .pre .0 .0 in
     let more = p .before .loop-test .taken in
-    let e = v .before .before .first-in-page .ensures in
-    let t = movable (s .args .copying) (decode (s .args .store .now)) in
-    let yes = find-yes t (entriesOf (p .page-on .result .now)) _ (seeks-entry (e .0) (v .found .given .1)) .0 in (
-      page-found ok (l .loop .inv) more (p .page-on .ensures) (e .0) (v .found .given .1),
+    let e = f .first-in-page .ensures in
+    let found = v .enum-told2 .given .1 in
+    let at = c .shift-place .ensures ∙ ap (shifted (l .loop .passed)) found in
+    let t = movable (s .args .copying) (decode store) in
+    let yes = find-yes t (entriesOf (p .page-on .result .now)) _ (seeks-entry (e .0) found) .0 in (
+      subst (Seeks t (bind ks (entriesOn store))) (sym at)
+          (page-found ok (l .loop .inv) more (p .page-on .ensures) (e .0) found),
       (
-        page-located ok (l .loop .inv) more (p .page-on .ensures) (e .0) (e .1) (v .found .given .1)
-            (movable-same (s .args .copying) (decode (s .args .store .now)) _ yes),
-        near c,
+        subst (Located (findIn store ks)) (sym at)
+            (page-located ok (l .loop .inv) more (p .page-on .ensures) (e .0) (e .1) found
+            (movable-same (s .args .copying) (decode store) _ yes)),
+        omega (arith, ap moverPlace at, ap moverPlace found, near v),
       ),
     )
-
-enum-told : tie.Need-enum-told Inv-loop μ-loop
-enum-told c = search needs
 
 count-entries-requires : tie.Need-count-entries-requires Inv-loop μ-loop
 count-entries-requires c κs = c .before .before .before .before .before .page-on .ensures .whole
@@ -145,10 +164,10 @@ first-in-walk-spec =
     mul-first-in-page
     element-copy-out-first-in-page
     first-in-page-requires
-    enum-known-found
-    add-at
-    returns
     enum-told
+    enum-told-2
+    shift-place-requires
+    returns
     count-entries-requires
     add-passed
     add-i

@@ -28,17 +28,17 @@ returns-2 c =
     (not-true (s .args .copying) (c .if2 .taken)) (c .before .if1 .left)
 
 -- where the step copies, the walk is the new chain's
-walked : (c : tie.Else2)
+new-chain : (c : tie.Else2)
     → let a = c .before .before .before .before .before .args in
-    NewChain (decode (a .store .now)) (a .copies .now) (a .number)
-walked c =
+    NewChain (decode (a .store .now)) (a .copies .now) (a .walked)
+new-chain c =
     let s = c .before .before .before .before .before in
     s .pre .1 (not-false (s .args .copying) (c .if2 .left))
 
 find-pair-requires : tie.Need-find-pair-requires
 find-pair-requires c κs =
     let r = c .before .before .before .before .before .pre .0 in
-    (copies-within r (walked c), copies-pages r (walked c))
+    (copies-within r (new-chain c), copies-pages r (new-chain c))
 
 enum-told : tie.Need-enum-told
 enum-told c = search needs
@@ -54,7 +54,7 @@ copied c =
     let b = c .before .before .before in
     let s = b .before .before .before in
     movable-copy (s .pre .0) (s .args .e) (b .bucket-of .result) (b .bucket-of .ensures)
-    (not-false (s .args .copying) (c .before .if2 .left)) (walked (c .before)) (c .before .before .if1 .left)
+    (not-false (s .args .copying) (c .before .if2 .left)) (new-chain (c .before)) (c .before .before .if1 .left)
     (c .find-pair .result) (c .find-pair .ensures)
 
 returns-3 : tie.Need-returns-3
