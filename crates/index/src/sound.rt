@@ -61,8 +61,9 @@ pub fn step_sound(store: &mut [u8], images: &mut [u8], from: usize) -> Stride
 {
     let m = read_fields(store);
     let plan = plan_step(store, m, from, images);
-    finish(store, plan.change, images);
-    let advance = plan.advance;
+    let step = plan.step;
+    finish(store, step.change, images);
+    let advance = step.advance;
     Stride {
         advance,
         place: plan.place,

@@ -5,8 +5,7 @@ mod begin; // begin.rt: the begin of a split
 pub mod step; // step.rt: one step
 
 use page::Entry;
-use plan::Advance;
-use store::Change;
+use plan::StepPlan;
 
 // The first entry of the old chain that is left to copy or to clear, its place, which is a number of entries from the
 // chain's start, and its block and slot.
@@ -22,7 +21,6 @@ pub enum Mover {
 
 // A planned step, and the place in the old chain that the next one may search from.
 pub struct SplitPlan {
-    pub advance: Advance,
-    pub change: Change,
+    pub step: StepPlan,
     pub place: usize,
 }

@@ -74,26 +74,15 @@ fn step_idle(store: &[u8], m: Meta, images: &mut [u8]) -> StepPlan
     or_full(plan_begin(store, m, images))
 }
 
-// A step, and the place that the next one may search from.
-fn with_place(step: StepPlan, place: usize) -> SplitPlan
-    ensures { λ r. ⌜ (r .change ≡ step .change) × (r .advance ≡ step .advance) × (r .place ≡ place) ⌝ }
-{
-    let advance = step.advance;
-    let change = step.change;
-    SplitPlan {
-        advance,
-        change,
-        place,
-    }
-}
-
 // A change as a step, and the place that the next one may search from.
 fn advance_by(change: Change, place: usize) -> SplitPlan
-    ensures { λ r. ⌜ (r .change ≡ change) × (r .advance ≡ Advance.Next) × (r .place ≡ place) ⌝ }
+    ensures { λ r. ⌜ (r .step .change ≡ change) × (r .step .advance ≡ Advance.Next) × (r .place ≡ place) ⌝ }
 {
     SplitPlan {
-        advance: Advance::Next,
-        change,
+        step: StepPlan {
+            advance: Advance::Next,
+            change,
+        },
         place,
     }
 }
@@ -103,8 +92,8 @@ fn advance_by(change: Change, place: usize) -> SplitPlan
 fn step_copying(store: &[u8], m: Meta, from: usize, images: &mut [u8]) -> SplitPlan
     requires { ⌜ (Reads (now store) m) × (length (now images) ≡ 4096) ⌝ }
     requires { ⌜ (decode (now store) .job ≡ copying) × (From (decode (now store)) from) ⌝ }
-    ensures { λ r. ⌜ Advances (now (store .entry)) (r .change) (now (images .exit))
-        (step (decode (now (store .entry)))) (r .advance) ⌝ }
+    ensures { λ r. ⌜ Advances (now (store .entry)) (r .step .change) (now (images .exit))
+        (step (decode (now (store .entry)))) (r .step .advance) ⌝ }
     ensures { λ r. ⌜ Leads (decode (now (store .entry))) (r .place) ⌝ }
 {
     let mover = first_mover(store, m, true, from);
@@ -119,10 +108,10 @@ fn step_copying(store: &[u8], m: Meta, from: usize, images: &mut [u8]) -> SplitP
     };
     let pair = entry.pair;
     let copy = Entry { pair, moved: true };
-    with_place(
-        or_full(plan_put(store, m, m.max, copy, m.count, images)),
-        place + 1,
-    )
+    SplitPlan {
+        step: or_full(plan_put(store, m, m.max, copy, m.count, images)),
+        place: place + 1,
+    }
 }
 
 // Takes the pair out of the old chain, where it stands at `block` and `slot`.
@@ -151,8 +140,8 @@ fn clear_pair(store: &[u8], m: Meta, pair: Pair, block: u32, slot: u32, images: 
 fn step_clearing(store: &[u8], m: Meta, from: usize, images: &mut [u8]) -> SplitPlan
     requires { ⌜ (Reads (now store) m) × (length (now images) ≡ 4096) ⌝ }
     requires { ⌜ (decode (now store) .job ≡ clearing) × (From (decode (now store)) from) ⌝ }
-    ensures { λ r. ⌜ Advances (now (store .entry)) (r .change) (now (images .exit))
-        (step (decode (now (store .entry)))) (r .advance) ⌝ }
+    ensures { λ r. ⌜ Advances (now (store .entry)) (r .step .change) (now (images .exit))
+        (step (decode (now (store .entry)))) (r .step .advance) ⌝ }
     ensures { λ r. ⌜ Leads (decode (now (store .entry))) (r .place) ⌝ }
 {
     let mover = first_mover(store, m, false, from);
@@ -173,13 +162,16 @@ fn step_clearing(store: &[u8], m: Meta, from: usize, images: &mut [u8]) -> Split
 pub fn plan_step(store: &[u8], m: Meta, from: usize, images: &mut [u8]) -> SplitPlan
     requires { ⌜ (Reads (now store) m) × (length (now images) ≡ 4096) ⌝ }
     requires { ⌜ From (decode (now store)) from ⌝ }
-    ensures { λ r. ⌜ Advances (now (store .entry)) (r .change) (now (images .exit))
-        (step (decode (now (store .entry)))) (r .advance) ⌝ }
+    ensures { λ r. ⌜ Advances (now (store .entry)) (r .step .change) (now (images .exit))
+        (step (decode (now (store .entry)))) (r .step .advance) ⌝ }
     ensures { λ r. ⌜ Leads (decode (now (store .entry))) (r .place) ⌝ }
 {
     let phase = read_job(store, m);
     match phase {
-        Phase::None => with_place(step_idle(store, m, images), 0),
+        Phase::None => SplitPlan {
+            step: step_idle(store, m, images),
+            place: 0,
+        },
         Phase::Copying { old: _, new: _ } => step_copying(store, m, from, images),
         Phase::Clearing { old: _, new: _ } => step_clearing(store, m, from, images),
     }

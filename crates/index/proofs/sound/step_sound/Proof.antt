@@ -16,7 +16,7 @@ plan-step-requires c κs =
 
 finish-requires : tie.Need-finish-requires
 finish-requires c κs =
-    let p = c .before .before .before .before in
+    let p = c .before .before .before .before .before in
     let s = p .before .before .before .before .before .before .before in
     (advances-fits (p .plan-step .ensures .0), p .plan-step .kept .1 .1 .1 .0 ∙ s .pre .1)
 
@@ -29,7 +29,7 @@ same-length-2 c = search needs
 returns : tie.Need-returns
 returns c =
     let f = c .before .before .before .before in
-    let p = f .before .before .before .before .before in
+    let p = f .before .before .before .before .before .before in
     let r = p .before .before .before .before .before .before .before .pre .0 .0 in
     let e = p .plan-step .ensures in (
       advances-stepped r (e .0) refl _ (f .finish .ensures),

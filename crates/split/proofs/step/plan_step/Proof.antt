@@ -1,9 +1,8 @@
-use mathlib.Core.Path.{refl, sym, _∙_, subst}
+use mathlib.Core.Path.{sym, _∙_}
 use borrow.Author.Needs.{needs}
 use Rattle.image.specs.Decode.{decode}
 use Rattle.view.specs.ReadsLaws.{reads-known}
-use Rattle.split.specs.Seek.{Leads}
-use Rattle.split.specs.StepLaws.{job-at, advances-as}
+use Rattle.split.specs.StepLaws.{job-at}
 use Rattle.split.specs.FromLaws.{leads-start}
 use Rattle.split.proofs.step.plan_step.Statement.{statement}
 use Rattle.split.proofs.step.plan_step.Tie as tie
@@ -20,9 +19,6 @@ step-idle-requires c κs =
     let j = t .before .before in
     let s = j .before .before .before in
     (s .pre .0, job-at (decode (s .args .store .now)) _ (sym (t .enum-told .given .1) ∙ j .read-job .ensures))
-
-with-place-requires : tie.Need-with-place-requires
-with-place-requires c κs = search needs
 
 enum-told-2 : tie.Need-enum-told-2
 enum-told-2 c = search needs
@@ -51,12 +47,9 @@ same-length c = search needs
 
 returns : tie.Need-returns
 returns c =
-    let i = c .before .before .before in
+    let i = c .before .before in
     let s = i .before .before .before .before .before .before .before in
-    let k = c .with-place .ensures in (
-      advances-as (i .step-idle .ensures) (k .0) (k .1) refl,
-      subst (Leads (decode (s .args .store .now))) (sym (k .2)) (leads-start (decode (s .args .store .now))),
-    )
+    (i .step-idle .ensures, leads-start (decode (s .args .store .now)))
 
 same-length-2 : tie.Need-same-length-2
 same-length-2 c = search needs
@@ -77,7 +70,6 @@ plan-step-spec =
     read-job-requires
     enum-told
     step-idle-requires
-    with-place-requires
     enum-told-2
     step-copying-requires
     enum-told-3

@@ -1,4 +1,4 @@
-use mathlib.Core.Path.{sym, ap, _∙_, subst}
+use mathlib.Core.Path.{sym, ap, subst}
 use mathlib.Core.Bool.{true}
 use native.Mathlib.Omega.{arith}
 use borrow.Author.Needs.{needs}
@@ -58,21 +58,17 @@ plan-put-requires c κs =
 or-full-requires : tie.Need-or-full-requires
 or-full-requires c κs = search needs
 
-add-with-place : tie.Need-add-with-place
-add-with-place c =
+add-t17 : tie.Need-add-t17
+add-t17 c =
     let v = c .before .before .before .before .before .before .before in
     omega (arith, v .before .before .first-mover .ensures .1 .1, ap moverPlace (v .mover .given .1))
-
-with-place-requires : tie.Need-with-place-requires
-with-place-requires c κs = search needs
 
 same-length-2 : tie.Need-same-length-2
 same-length-2 c = search needs
 
 returns-2 : tie.Need-returns-2
 returns-2 c =
-    let o = c .before in
-    let p = o .before .before .before in
+    let p = c .before .before .before in
     let v = p .before .before .before .before in
     let s = v .before .before .before .before .before in
     let r = s .pre .0 .0 in
@@ -80,11 +76,9 @@ returns-2 c =
     let found = v .before .before .first-mover .ensures .0 in
     let first = seeks-entry found (v .mover .given .1) in
     let at = v .mover .given .0 in
-    let k = c .with-place .ensures in (
-      advances-as (places-advances (p .plan-put .ensures)) (k .0 ∙ o .or-full .ensures .0)
-          (k .1 ∙ o .or-full .ensures .1) (copy-step r (s .pre .1 .0) (at .0) first),
-      subst (Leads x) (sym (k .2))
-          (copy-leads x (r .wf) (at .0) (s .pre .1 .0) first (at .1 .0) (seeks-place found (v .mover .given .1))),
+    let k = c .or-full .ensures in (
+      advances-as (places-advances (p .plan-put .ensures)) (k .0) (k .1) (copy-step r (s .pre .1 .0) (at .0) first),
+      copy-leads x (r .wf) (at .0) (s .pre .1 .0) first (at .1 .0) (seeks-place found (v .mover .given .1)),
     )
 
 pub step-copying-spec : {M : Type 1} → statement M
@@ -100,7 +94,6 @@ step-copying-spec =
     returns
     plan-put-requires
     or-full-requires
-    add-with-place
-    with-place-requires
+    add-t17
     same-length-2
     returns-2)
