@@ -4,7 +4,7 @@ pub mod links; // links.rt: the blocks of a chain
 pub mod search; // search.rt: a pair in a chain, the first page with room
 pub mod counting; // counting.rt: the number of pairs of a hash code
 pub mod along; // along.rt: the same over the walks of a hash code's own and old chain
-pub mod bitmap; // bitmap.rt: the lowest free bit
+pub mod bitmap; // bitmap.rt: the lowest free bit; whether all bits from one on are 1
 
 use address::limits::MAX_BLOCKS;
 
