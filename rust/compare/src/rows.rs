@@ -1,6 +1,6 @@
 //! What the benchmark measures: calls on stores, a row each.
 
-use crate::side::Side;
+use crate::side::{Reply, Side};
 use crate::stores::{chain, copying, crowd, even, wanting, Order, CODE, EACH};
 use std::hint::black_box;
 
@@ -12,8 +12,8 @@ enum Call {
     Lookup(u32),
     /// An insert, and the removal of the same pair.
     Pair,
-    /// Work with a budget, that makes so many steps.
-    Work(u32, u32),
+    /// Work with a budget, that makes so many steps and stops so.
+    Work(u32, u32, u8),
 }
 
 /// A store of `stores`.
@@ -73,7 +73,7 @@ pub fn rows() -> Vec<Row> {
         ("verdict", Call::Verdict, Kind::Even),
         ("lookup of 4", Call::Lookup(4), Kind::Even),
         ("insert and removal", Call::Pair, Kind::Even),
-        ("work, one step", Call::Work(1, 1), Kind::Splitting),
+        ("work, one step", Call::Work(1, 1, 0), Kind::Splitting),
     ];
     let by_size = calls.iter().flat_map(|&(name, call, kind)| [4, 16, 64, 128].map(|n| Row::new(n, name, call, kind)));
     let chain = |pages| Row::new(128, format!("verdict, chain of {pages}"), Call::Verdict, Kind::Chain(pages));
@@ -86,7 +86,7 @@ pub fn rows() -> Vec<Row> {
     };
     let split = |blocks| {
         let (name, steps) = (format!("work, whole split of {}", 10 * blocks), 10 * blocks + 3);
-        Row::new(blocks, name, Call::Work(65_535, steps), Kind::Wanting)
+        Row::new(blocks, name, Call::Work(65_535, steps, 9), Kind::Wanting)
     };
     by_size
         .chain([1, 16, 64, 125].map(chain))
@@ -94,9 +94,26 @@ pub fn rows() -> Vec<Row> {
         .chain([1, 40, 640, 2_560, 5_000].map(|m| lookup(128, format!("lookup of {m}"), m, Order::Interleaved)))
         .chain([640, 2_560, 5_000].map(|m| lookup(128, format!("lookup of {m}, in order"), m, Order::Ascending)))
         .chain([16, 64, 128].map(all))
-        .chain([Row::new(128, "work, one step, long copying", Call::Work(1, 1), Kind::Copying)])
+        .chain([Row::new(128, "work, one step, long copying", Call::Work(1, 1, 0), Kind::Copying)])
         .chain([16, 64, 128].map(split))
         .collect()
+}
+
+/// A hash code, with the first and the last place that stand under it, as a lookup writes them.
+#[derive(Clone, Copy)]
+struct Code {
+    hash: u32,
+    ends: [[u8; 6]; 2],
+}
+
+impl Code {
+    fn new(store: &[u8], hash: u32) -> Self {
+        let place = |entry: &[u8; 12]| [entry[4], entry[5], entry[6], entry[7], entry[8], entry[9]];
+        let ascending = |place: &[u8; 6]| [3, 2, 1, 0, 5, 4].map(|i| place[i]);
+        let under = entries(store).filter(|entry| entry[..4] == hash.to_le_bytes()).map(place);
+        let ends = [under.clone().min_by_key(ascending), under.max_by_key(ascending)];
+        Code { hash, ends: ends.map(Option::unwrap_or_default) }
+    }
 }
 
 /// A row's store, ready for its call.
@@ -104,7 +121,7 @@ pub struct Bench {
     call: Call,
     store: Vec<u8>,
     scratch: Vec<u8>,
-    codes: Vec<u32>,
+    codes: Vec<Code>,
     output: Vec<u8>,
 }
 
@@ -115,27 +132,48 @@ impl Bench {
             Kind::Even => first_codes(&store),
             _ => vec![CODE],
         };
+        let codes = codes.into_iter().map(|hash| Code::new(&store, hash)).collect();
         Bench { call: row.call, scratch: store.clone(), store, codes, output: vec![0; 30_000] }
     }
 
-    /// Makes the call `times` times. Each must be done as it has to.
+    /// Makes the call `times` times. Each must be answered as it has to.
     pub fn run<S: Side>(&mut self, times: u32) {
-        for code in self.codes.iter().copied().cycle().take(times as usize) {
-            let done = match self.call {
-                Call::Verdict => S::verify(black_box(&self.store)).done(),
-                Call::Lookup(matches) => S::lookup(black_box(&self.store), code, &mut self.output).gives == matches,
+        for i in 0..times as usize {
+            let code = self.codes[i % self.codes.len()];
+            let right = match self.call {
+                Call::Verdict => S::verify(black_box(&self.store)) == Reply::default(),
+                Call::Lookup(matches) => self.lookup::<S>(code, matches),
                 Call::Pair => {
-                    S::insert(black_box(&mut self.store), code ^ 0x100, 7, 7).done()
-                        && S::remove(black_box(&mut self.store), code ^ 0x100, 7, 7).done()
+                    let hash = code.hash ^ 0x100;
+                    S::insert(black_box(&mut self.store), hash, 7, 7) == Reply::default()
+                        && S::remove(black_box(&mut self.store), hash, 7, 7) == Reply::default()
                 }
-                Call::Work(budget, steps) => {
+                Call::Work(budget, steps, stop) => {
                     self.scratch.copy_from_slice(&self.store);
-                    S::work(black_box(&mut self.scratch), budget).steps == steps
+                    let reply = S::work(black_box(&mut self.scratch), budget);
+                    reply == Reply { steps, stop, ..Reply::default() }
                 }
             };
-            assert!(done, "the call was not done");
+            assert!(right, "the call was not answered as it has to");
         }
     }
+
+    /// Whether a lookup is done, gives so many matches, and writes the first and the last of them.
+    fn lookup<S: Side>(&mut self, code: Code, matches: u32) -> bool {
+        let last = 6 * (matches as usize - 1);
+        // Not what the call before wrote; 0 is no offset.
+        self.output[..6].fill(0);
+        self.output[last..last + 6].fill(0);
+        let reply = S::lookup(black_box(&self.store), code.hash, &mut self.output);
+        reply == Reply { gives: matches, ..Reply::default() }
+            && [&self.output[..6], &self.output[last..last + 6]] == code.ends
+    }
+}
+
+/// The entries of a store, in order of blocks.
+fn entries(store: &[u8]) -> impl Iterator<Item = &[u8; 12]> + Clone {
+    let pages = store.chunks_exact(512).filter(|page| page[504] & 3 != 0);
+    pages.flat_map(|page| page[4..].as_chunks().0.iter().take(usize::from(page[0])))
 }
 
 /// The first hash code of each bucket page.
