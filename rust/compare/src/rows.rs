@@ -1,5 +1,6 @@
 //! What the benchmark measures: calls on stores, a row each.
 
+use crate::build::found;
 use crate::side::{Reply, Side};
 use crate::stores::{chain, copying, crowd, even, wanting, Order, CODE, EACH};
 use std::hint::black_box;
@@ -108,11 +109,9 @@ struct Code {
 
 impl Code {
     fn new(store: &[u8], hash: u32) -> Self {
-        let place = |entry: &[u8; 12]| [entry[4], entry[5], entry[6], entry[7], entry[8], entry[9]];
-        let ascending = |place: &[u8; 6]| [3, 2, 1, 0, 5, 4].map(|i| place[i]);
-        let under = entries(store).filter(|entry| entry[..4] == hash.to_le_bytes()).map(place);
-        let ends = [under.clone().min_by_key(ascending), under.max_by_key(ascending)];
-        Code { hash, ends: ends.map(Option::unwrap_or_default) }
+        let under = found(store).filter(|entry| entry.pair.0 == hash).map(|entry| (entry.pair.1, entry.pair.2));
+        let ends = [under.clone().min(), under.max()].map(Option::unwrap_or_default);
+        Code { hash, ends: ends.map(written) }
     }
 }
 
@@ -170,10 +169,10 @@ impl Bench {
     }
 }
 
-/// The entries of a store, in order of blocks.
-fn entries(store: &[u8]) -> impl Iterator<Item = &[u8; 12]> + Clone {
-    let pages = store.chunks_exact(512).filter(|page| page[504] & 3 != 0);
-    pages.flat_map(|page| page[4..].as_chunks().0.iter().take(usize::from(page[0])))
+/// A place as a lookup writes it.
+fn written((block, offset): (u32, u32)) -> [u8; 6] {
+    let ([a, b, c, d], [e, f, ..]) = (block.to_le_bytes(), offset.to_le_bytes());
+    [a, b, c, d, e, f]
 }
 
 /// The first hash code of each bucket page.

@@ -1,17 +1,13 @@
 //! Sound stores that no list of calls need reach, built from outside: both sides find them sound, and go on alike.
 
-use compare::build::sound;
+use compare::build::{found, sound};
 use compare::lists::{Call, Maker, Pair, Seen};
 use compare::random::Random;
 use compare::twin::Twin;
 
 /// The pairs that stand anywhere in a store.
 fn pairs(store: &[u8]) -> Vec<Pair> {
-    let pages = store.chunks_exact(512).filter(|page| page[504] & 3 == 1 || page[504] & 3 == 2);
-    let word = |bytes: &[u8]| u32::from_le_bytes([bytes[0], bytes[1], bytes[2], bytes[3]]);
-    let entries = pages.flat_map(|page| page[4..].chunks_exact(12).take(usize::from(page[0])));
-    let pair = |entry: &[u8]| (word(entry), word(&entry[4..]), u32::from(entry[8]) + 256 * u32::from(entry[9]));
-    entries.map(pair).collect()
+    found(store).map(|entry| entry.pair).collect()
 }
 
 /// Calls on a store: on pairs that stand in it, on others, and work.
