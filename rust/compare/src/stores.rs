@@ -67,21 +67,49 @@ pub fn crowd(blocks: u32, matches: u32, order: Order) -> Vec<u8> {
 /// those, the first ones, copied; a new chain of 40 pages, its entries inserted since for the rest. 128 blocks.
 pub fn copying() -> Vec<u8> {
     let mut random = Random::new(7);
-    let (old, new) = (0, 2);
+    let halves = (0..64 * EACH).map(|i| of(&mut random, 4, if i % 2 == 0 { 0 } else { 2 })).collect();
+    copied(&mut random, 128, 2, halves, |random| of(random, 4, 2))
+}
+
+/// The hash code of `copying_one_code`, and its number of places: those of the old chain, and those inserted since.
+pub const LAST_CODE: u32 = u32::MAX;
+pub const LAST_CODE_PLACES: u32 = 64 * EACH + 224;
+
+/// The same with `LAST_CODE` alone, so that all entries of the old chain are the new bucket's. The places end with the
+/// last that there is. `blocks` are 108, which leaves no free page, to 128.
+pub fn copying_one_code(blocks: u32) -> Vec<u8> {
+    let mut random = Random::new(8);
+    let place = |i| (LAST_CODE, NONE - 1 - i % 2, 65_535 - (i / 2 * 3) as u16);
+    let mut pairs: Vec<Pair> = (0..LAST_CODE_PLACES).map(place).collect();
+    random.shuffle(&mut pairs);
+    let mut fresh = pairs.split_off(64 * EACH as usize);
+    copied(&mut random, blocks, 3, pairs, |_| fresh.pop().unwrap_or_default())
+}
+
+/// Copying to bucket `new`, 2 or 3: these pairs in an old chain of 64 pages, the first half of those of the new bucket
+/// copied, and with fresh ones in a chain of 40 pages.
+fn copied(
+    random: &mut Random,
+    blocks: u32,
+    new: u32,
+    old_pairs: Vec<Pair>,
+    mut fresh: impl FnMut(&mut Random) -> Pair,
+) -> Vec<u8> {
+    let old = new - 2;
     let mut spares = [0; 16];
     spares[1..3].copy_from_slice(&[64, 64 + 39]);
-    let layout = Layout { blocks: 128, max: new, point: 2, spares };
-    let halves = (0..64 * EACH).map(|i| (of(&mut random, 4, if i % 2 == 0 { old } else { new }), false)).collect();
-    let old_pages = interleaved(&mut random, halves, 64);
+    let layout = Layout { blocks, max: new, point: 2, spares };
+    let old_pages = interleaved(random, old_pairs.into_iter().map(|pair| (pair, false)).collect(), 64);
     let guests = old_pages.iter().flatten().filter(|(pair, _)| layout.bucket_of(pair.0) == new);
-    let mut guests: Vec<_> = guests.map(|(&pair, _)| (pair, true)).collect();
-    guests.truncate(guests.len() / 2);
-    let fresh = 40 * EACH - guests.len() as u32;
-    let copies = guests.into_iter().chain((0..fresh).map(|_| (of(&mut random, 4, new), false))).collect();
-    let new_pages = interleaved(&mut random, copies, 40);
+    let mut copies: Vec<_> = guests.map(|(&pair, _)| (pair, true)).collect();
+    copies.truncate(copies.len() / 2);
+    copies.resize_with(40 * EACH as usize, || (fresh(random), false));
+    let new_pages = interleaved(random, copies.into_iter().collect(), 40);
     let mut free = (1..layout.bits()).map(|bit| layout.bit_block(bit));
-    let mut linked = |bucket, pages| linked(&layout, bucket, pages, &mut free);
-    let chains = vec![linked(old, old_pages), linked(1, vec![Entries::new()]), linked(new, new_pages)];
+    let mut chain = |bucket, pages| linked(&layout, bucket, pages, &mut free);
+    let mut chains: Chains = (0..=new).map(|bucket| chain(bucket, vec![Entries::new()])).collect();
+    chains[old as usize] = chain(old, old_pages);
+    chains[new as usize] = chain(new, new_pages);
     encode(&layout, EACH, 1, (old, new), &chains)
 }
 
