@@ -1,0 +1,136 @@
+//! Work in parts: whatever the budgets are, the steps and the bytes are those of one call.
+
+use compare::build::{found, sound};
+use compare::random::Random;
+use compare::side::Reply;
+use compare::stores::{copying, copying_one_code, wanting};
+use compare::twin::Twin;
+
+const MOST: u32 = 65_535;
+
+fn worked(steps: u32, stop: u8) -> Reply {
+    Reply { steps, stop, ..Reply::default() }
+}
+
+/// The bytes that work leaves when nothing but work is called, and what it answers.
+fn whole(twin: &Twin) -> (Reply, Vec<u8>) {
+    let mut twin = twin.clone();
+    let reply = twin.work(MOST);
+    (reply, twin.bytes().to_vec())
+}
+
+#[test]
+fn every_budget() {
+    let twin = Twin::new(wanting(16), "wanting");
+    let (reply, end) = whole(&twin);
+    assert_eq!(reply, worked(163, 9));
+    for budget in 0..=164 {
+        let mut twin = twin.clone();
+        twin.label = format!("wanting, work {budget}");
+        let mut left = 163;
+        for budget in [budget, 3, MOST] {
+            let steps = left.min(budget);
+            let stop = if steps == budget { 0 } else { 9 };
+            assert_eq!(twin.work(budget), worked(steps, stop), "{}", twin.label);
+            assert!(twin.verify().done(), "{}", twin.label);
+            left -= steps;
+        }
+        assert!(twin.bytes() == end, "{}: other bytes", twin.label);
+    }
+}
+
+#[test]
+fn random_budgets() {
+    for (name, store) in [("copying", copying()), ("one code", copying_one_code(128))] {
+        let twin = Twin::new(store, name);
+        let (reply, end) = whole(&twin);
+        for seed in 0..6 {
+            let mut random = Random::new(10_000 + seed);
+            let mut twin = twin.clone();
+            twin.label = format!("{name}, budgets {seed}");
+            let mut steps = 0;
+            let stop = loop {
+                let budget = [0, 1, 2, random.below(40), random.below(300), random.below(1500)];
+                let reply = twin.work(random.pick(&budget));
+                assert!(reply.done() && twin.verify().done(), "{}, after {steps}: {reply:?}", twin.label);
+                steps += reply.steps;
+                if reply.stop != 0 {
+                    break reply.stop;
+                }
+            };
+            assert_eq!(worked(steps, stop), reply, "{}", twin.label);
+            assert!(twin.bytes() == end, "{}: other bytes", twin.label);
+        }
+    }
+}
+
+/// Work by `first` and then by `second` does what work by both together does.
+fn twice(twin: &Twin, first: u32, second: u32) {
+    let (mut parted, mut once) = (twin.clone(), twin.clone());
+    let (a, b) = (parted.work(first), parted.work(second));
+    let together = once.work(first + second);
+    let label = format!("{}, {first} and {second}", twin.label);
+    assert_eq!(worked(a.steps + b.steps, b.stop), together, "{label}");
+    assert!(parted.bytes() == once.bytes(), "{label}: other bytes");
+}
+
+#[test]
+fn two_calls_as_one() {
+    let long = [copying(), copying_one_code(128), copying_one_code(108), wanting(64), wanting(128)];
+    let mut random = Random::new(11_000);
+    for (number, store) in long.into_iter().enumerate() {
+        let twin = Twin::new(store, format!("long {number}"));
+        let (reply, _) = whole(&twin);
+        for _ in 0..12 {
+            let both = random.below(reply.steps + 50);
+            let first = random.below(both + 1);
+            twice(&twin, first, both - first);
+        }
+    }
+    for seed in 0..200 {
+        let blocks = random.within(4, 24);
+        let twin = Twin::new(sound(&mut random, blocks, seed % 3, 90), format!("built {seed}"));
+        twice(&twin, random.below(30), random.below(60));
+    }
+}
+
+/// The pairs that stand, marked moved, in the last bucket.
+fn copies(twin: &Twin) -> Vec<(u32, u32, u32)> {
+    let new = twin.standing().1.new;
+    found(twin.bytes()).filter(|entry| entry.moved && entry.bucket == new).map(|entry| entry.pair).collect()
+}
+
+/// Work stops for want of room after `steps` steps, with copies made and `wanting` to make. Removals of pairs that have
+/// copies make room for as many others; with enough of them work goes on, to the end of the job.
+fn goes_on(mut twin: Twin, steps: u32, wanting: u32, rest: Reply) {
+    let mut random = Random::new(12_000);
+    let before = copies(&twin).len();
+    assert_eq!(twin.work(MOST), worked(steps, 7), "{}", twin.label);
+    let copied = copies(&twin).len();
+    assert!(copied > before && twin.standing().1.phase == 1, "{}: {before} and {copied} copies", twin.label);
+    assert_eq!(twin.work(MOST), worked(0, 7), "{}", twin.label);
+    for (removals, reply) in [(1, worked(1, 7)), (3, worked(3, 7)), (wanting - 4, rest)] {
+        let mut pairs = copies(&twin);
+        random.shuffle(&mut pairs);
+        for &(hash, block, offset) in &pairs[..removals as usize] {
+            assert!(twin.remove(hash, block, offset).done(), "{}", twin.label);
+        }
+        assert_eq!(twin.work(MOST), reply, "{}, {removals} removals", twin.label);
+        assert!(twin.verify().done(), "{}", twin.label);
+    }
+    assert_eq!(twin.standing().1.phase, 0, "{}", twin.label);
+}
+
+#[test]
+fn no_room_in_the_midst_of_copying() {
+    let mut twin = Twin::new(vec![0; 8 * 512], "three pages");
+    assert!(twin.format(40).done());
+    for i in 0..120 {
+        assert!(twin.insert(2 * i, 5, 1 + i).done());
+    }
+    // The split that is wanted takes the last blocks, so that 40 of 60 entries find room.
+    // Of those, 20 are removed with their copies, so that 40 are copied and 40 cleared in the end.
+    goes_on(twin, 41, 20, worked(16 + 1 + 40 + 1, 9));
+    // Here 480 more copies find room, and after the split there is none for the next one to begin.
+    goes_on(Twin::new(copying_one_code(108), "one code"), 480, 416, worked(412 + 1 + 1376 + 1, 7));
+}
