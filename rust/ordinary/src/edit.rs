@@ -79,7 +79,8 @@ impl<'a> Edit<'a> {
         if free < self.meta.bits() {
             self.set_bit(free, true);
         } else if self.meta.made() < self.meta.blocks {
-            self.meta.spares[self.meta.point as usize] += 1;
+            let point = self.meta.point as usize;
+            self.meta_mut().spares[point] += 1;
         } else {
             return Err(Refusal::NoRoom);
         }

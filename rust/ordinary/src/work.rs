@@ -6,6 +6,7 @@ use crate::check::sound;
 use crate::edit::Edit;
 use crate::meta::splits_from;
 use crate::page::{self, Entry, Pair};
+use std::convert::Infallible;
 
 /// A work call under way.
 pub struct Work<'a> {
@@ -21,29 +22,28 @@ impl<'a> Work<'a> {
 
     /// Makes steps until the budget is spent or there is no further step.
     pub fn run(mut self) -> Worked {
-        let stop = loop {
-            if let Err(stop) = self.go_on() {
-                break stop;
-            }
-        };
+        let Err(stop) = self.go_on();
         Worked { steps: self.steps, stop }
     }
 
-    /// Makes the steps of one phase.
-    fn go_on(&mut self) -> Result<(), Stop> {
-        if self.left() == 0 {
-            return Err(Stop::Spent);
-        }
-        match self.edit.view().phase() {
-            Phase::None if self.edit.view().slack() >= 0 => Err(Stop::Idle),
-            Phase::None => self.begin(),
-            Phase::Copying { old, new } => self.copy(old, new),
-            Phase::Clearing { old, new } => self.clear(old, new),
+    fn go_on(&mut self) -> Result<Infallible, Stop> {
+        self.left()?;
+        loop {
+            match self.edit.view().phase() {
+                Phase::None if self.edit.view().slack() >= 0 => return Err(Stop::Idle),
+                Phase::None => self.begin()?,
+                Phase::Copying { old, new } => self.copy(old, new)?,
+                Phase::Clearing { old, new } => self.clear(old, new)?,
+            }
         }
     }
 
-    fn left(&self) -> u32 {
-        self.budget - self.steps
+    /// What is left of the budget, if anything is.
+    fn left(&self) -> Result<u32, Stop> {
+        match self.budget - self.steps {
+            0 => Err(Stop::Spent),
+            left => Ok(left),
+        }
     }
 
     /// Ends a step: the store is sound after each, so the blocks that the step changed are sealed here and not once at
@@ -52,10 +52,7 @@ impl<'a> Work<'a> {
         self.edit.seal();
         debug_assert!(sound(self.edit.view().blocks).is_ok());
         self.steps += 1;
-        if self.left() == 0 {
-            return Err(Stop::Spent);
-        }
-        Ok(())
+        self.left().map(drop)
     }
 
     /// Makes the next bucket, empty, and flags it and the one that it splits off from.
@@ -87,7 +84,7 @@ impl<'a> Work<'a> {
         let guests = view.entries(old).map(|spot| spot.entry.pair).filter(|pair| view.meta.bucket_of(pair.hash) == new);
         let wanting = guests.filter(|pair| copied.binary_search(pair).is_err());
         // The old chain stays as it is meanwhile.
-        let wanting: Vec<Pair> = wanting.take(self.left() as usize).collect();
+        let wanting: Vec<Pair> = wanting.take(self.left()? as usize).collect();
         for pair in wanting {
             self.edit.place(new, Entry { pair, moved: true }).map_err(|_| Stop::NoRoom)?;
             self.step()?;
