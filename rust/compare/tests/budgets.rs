@@ -3,6 +3,7 @@
 use compare::build::{found, sound};
 use compare::random::Random;
 use compare::side::Reply;
+use compare::spoil::spoil;
 use compare::stores::{copying, copying_one_code, wanting};
 use compare::twin::Twin;
 
@@ -91,6 +92,29 @@ fn two_calls_as_one() {
         let blocks = random.within(4, 24);
         let twin = Twin::new(sound(&mut random, blocks, seed % 3, 90), format!("built {seed}"));
         twice(&twin, random.below(30), random.below(60));
+    }
+}
+
+#[test]
+fn sealed_once() {
+    let mut random = Random::new(13_000);
+    let same = |store: Vec<u8>, budget, label| {
+        let (mut each, mut once) = (store.clone(), store);
+        let (answer, other) = (ordinary::work(&mut each, budget), ordinary::work_sealed_once(&mut once, budget));
+        assert!(answer == other && each == once, "{label}, work {budget}: {answer:?} and {other:?}");
+    };
+    for (number, store) in [copying(), copying_one_code(128), copying_one_code(108), wanting(16)].iter().enumerate() {
+        for budget in [0, 1, 2, 5, 40, 479, 480, 481, 900, 1_400, MOST, MOST + 1] {
+            same(store.clone(), budget, format!("long {number}"));
+        }
+    }
+    for seed in 0..300 {
+        let blocks = random.within(4, 24);
+        let mut store = sound(&mut random, blocks, seed % 3, 90);
+        if random.once_in(8) {
+            spoil(&mut random, &mut store);
+        }
+        same(store, random.below(60), format!("built {seed}"));
     }
 }
 

@@ -103,14 +103,24 @@ pub fn lookup(store: &[u8], hash: u32, output: &mut [u8]) -> Result<u32, Refusal
     Ok(number)
 }
 
-/// Makes up to `budget` steps of splits.
+/// Makes up to `budget` steps of splits. The store is sound after each.
 pub fn work(store: &mut [u8], budget: u32) -> Result<Worked, Refusal> {
+    worked(store, budget, false)
+}
+
+/// The same work, but the blocks are sealed once, at the end of the call: the store is not sound between its steps.
+/// It shows what it costs that document 01 has the store sound after every step.
+pub fn work_sealed_once(store: &mut [u8], budget: u32) -> Result<Worked, Refusal> {
+    worked(store, budget, true)
+}
+
+fn worked(store: &mut [u8], budget: u32, once: bool) -> Result<Worked, Refusal> {
     let blocks = blocks_mut(store)?;
     if budget > 65_535 {
         return Err(Refusal::Number);
     }
     let meta = sound(blocks)?;
-    Ok(Work::new(Edit::new(blocks, meta), budget).run())
+    Ok(Work::new(Edit::new(blocks, meta), budget, once).run())
 }
 
 /// How the index stands.

@@ -30,5 +30,5 @@ mod view;
 mod work;
 
 pub use answer::{Phase, Refusal, Standing, Stop, Worked};
-pub use calls::{format, insert, lookup, remove, standing, verify, work};
+pub use calls::{format, insert, lookup, remove, standing, verify, work, work_sealed_once};
 pub use crc::crc32c;

@@ -13,16 +13,19 @@ pub struct Work<'a> {
     edit: Edit<'a>,
     budget: u32,
     steps: u32,
+    /// Whether the blocks are sealed at the end of the call only.
+    once: bool,
 }
 
 impl<'a> Work<'a> {
-    pub fn new(edit: Edit<'a>, budget: u32) -> Self {
-        Work { edit, budget, steps: 0 }
+    pub fn new(edit: Edit<'a>, budget: u32, once: bool) -> Self {
+        Work { edit, budget, steps: 0, once }
     }
 
     /// Makes steps until the budget is spent or there is no further step.
     pub fn run(mut self) -> Worked {
         let Err(stop) = self.go_on();
+        self.edit.seal();
         Worked { steps: self.steps, stop }
     }
 
@@ -46,11 +49,13 @@ impl<'a> Work<'a> {
         }
     }
 
-    /// Ends a step: the store is sound after each, so the blocks that the step changed are sealed here and not once at
-    /// the end of the call.
+    /// Ends a step: the store is sound after each, so the blocks that the step changed are sealed here, unless it is to
+    /// be done once at the end of the call.
     fn step(&mut self) -> Result<(), Stop> {
-        self.edit.seal();
-        debug_assert!(sound(self.edit.view().blocks).is_ok());
+        if !self.once {
+            self.edit.seal();
+            debug_assert!(sound(self.edit.view().blocks).is_ok());
+        }
         self.steps += 1;
         self.left().map(drop)
     }
