@@ -11,11 +11,11 @@ whole() { # N NAME SIDE TIMES
         sed -n 's/.*Collected : \([0-9]*\).*/\1/p'
 }
 
-printf '%4s  %-28s %12s %12s %8s\n' N call proved ordinary ratio
+printf '%4s  %-44s %12s %12s %8s\n' N call proved ordinary ratio
 target/release/benchmark rows "$@" | while read -r blocks times name; do
     none=$(whole "$blocks" "$name" ordinary 0)
     proved=$((($(whole "$blocks" "$name" proved "$times") - none) / times))
     ordinary=$((($(whole "$blocks" "$name" ordinary "$times") - none) / times))
     ratio=$(awk "BEGIN { printf \"%.2f\", $proved / $ordinary }")
-    printf '%4s  %-28s %12s %12s %8s\n' "$blocks" "$name" "$proved" "$ordinary" "$ratio"
+    printf '%4s  %-44s %12s %12s %8s\n' "$blocks" "$name" "$proved" "$ordinary" "$ratio"
 done

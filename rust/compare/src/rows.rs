@@ -2,7 +2,8 @@
 
 use crate::build::found;
 use crate::side::{Reply, Side};
-use crate::stores::{chain, copying, crowd, even, wanting, Order, CODE, EACH};
+use crate::stores::{chain, copying, copying_one_code, crowd, even, leaving, wanting, Order};
+use crate::stores::{CODE, EACH, LAST_CODE, LAST_CODE_PLACES, LEAVERS};
 use std::hint::black_box;
 
 /// A call, and what it has to answer.
@@ -15,6 +16,8 @@ enum Call {
     Pair,
     /// Work with a budget, that makes so many steps and stops so.
     Work(u32, u32, u8),
+    /// The same, sealed once by the ordinary side.
+    SealedOnce(u32, u32, u8),
 }
 
 /// A store of `stores`.
@@ -25,10 +28,13 @@ enum Kind {
     Chain(u32),
     Crowd(u32, Order),
     Copying,
+    CopyingOneCode,
     Wanting,
+    Leaving,
 }
 
 /// A row of the tables.
+#[derive(Clone)]
 pub struct Row {
     pub blocks: u32,
     pub name: String,
@@ -41,11 +47,20 @@ impl Row {
         Row { blocks, name: name.into(), call, kind }
     }
 
+    /// The same work, sealed once.
+    fn sealed_once(mut self) -> Self {
+        if let Call::Work(budget, steps, stop) = self.call {
+            self.call = Call::SealedOnce(budget, steps, stop);
+            self.name += ", sealed once";
+        }
+        self
+    }
+
     /// How often the call is made for its instructions to be counted: often where each time differs.
     pub fn times(&self) -> u32 {
         match self.kind {
             Kind::Even => 8,
-            Kind::Wanting => 1,
+            Kind::Wanting | Kind::Leaving => 1,
             _ => 2,
         }
     }
@@ -63,7 +78,9 @@ impl Row {
             Kind::Chain(pages) => chain(self.blocks, pages),
             Kind::Crowd(matches, order) => crowd(self.blocks, matches, order),
             Kind::Copying => copying(),
+            Kind::CopyingOneCode => copying_one_code(self.blocks),
             Kind::Wanting => wanting(self.blocks),
+            Kind::Leaving => leaving(),
         }
     }
 }
@@ -85,19 +102,31 @@ pub fn rows() -> Vec<Row> {
         let matches = (blocks - 3) * EACH;
         lookup(blocks, format!("lookup of all, {matches}"), matches, Order::Ascending)
     };
-    let split = |blocks| {
-        let (name, steps) = (format!("work, whole split of {}", 10 * blocks), 10 * blocks + 3);
-        Row::new(blocks, name, Call::Work(65_535, steps, 9), Kind::Wanting)
-    };
+    let held = LAST_CODE_PLACES;
     by_size
         .chain([1, 16, 64, 125].map(chain))
         .chain([Row::new(128, "verdict, long copying", Call::Verdict, Kind::Copying)])
         .chain([1, 40, 640, 2_560, 5_000].map(|m| lookup(128, format!("lookup of {m}"), m, Order::Interleaved)))
         .chain([640, 2_560, 5_000].map(|m| lookup(128, format!("lookup of {m}, in order"), m, Order::Ascending)))
         .chain([16, 64, 128].map(all))
+        .chain([Row::new(128, format!("lookup of {held}, copying"), Call::Lookup(held), Kind::CopyingOneCode)])
         .chain([Row::new(128, "work, one step, long copying", Call::Work(1, 1, 0), Kind::Copying)])
-        .chain([16, 64, 128].map(split))
+        .chain(splits())
         .collect()
+}
+
+/// Whole splits, each in one call; then the same, sealed once by the ordinary side.
+fn splits() -> Vec<Row> {
+    let wanted = |blocks| {
+        let (name, steps) = (format!("work, whole split of {}", 10 * blocks), 10 * blocks + 3);
+        Row::new(blocks, name, Call::Work(65_535, steps, 9), Kind::Wanting)
+    };
+    // Here more splits are wanted, so the budget ends the call.
+    let (name, steps) = (format!("work, whole split, {LEAVERS} of 3960"), 2 * LEAVERS + 3);
+    let long = Row::new(128, name, Call::Work(steps, steps, 0), Kind::Leaving);
+    let splits = [wanted(16), wanted(64), wanted(128), long];
+    let once = splits.clone().map(Row::sealed_once);
+    splits.into_iter().chain(once).collect()
 }
 
 /// A hash code, with the first and the last place that stand under it, as a lookup writes them.
@@ -129,6 +158,7 @@ impl Bench {
         let store = row.store();
         let codes = match row.kind {
             Kind::Even => first_codes(&store),
+            Kind::CopyingOneCode => vec![LAST_CODE],
             _ => vec![CODE],
         };
         let codes = codes.into_iter().map(|hash| Code::new(&store, hash)).collect();
@@ -147,14 +177,17 @@ impl Bench {
                     S::insert(black_box(&mut self.store), hash, 7, 7) == Reply::default()
                         && S::remove(black_box(&mut self.store), hash, 7, 7) == Reply::default()
                 }
-                Call::Work(budget, steps, stop) => {
-                    self.scratch.copy_from_slice(&self.store);
-                    let reply = S::work(black_box(&mut self.scratch), budget);
-                    reply == Reply { steps, stop, ..Reply::default() }
-                }
+                Call::Work(budget, steps, stop) => self.work(S::work, budget, steps, stop),
+                Call::SealedOnce(budget, steps, stop) => self.work(S::work_sealed_once, budget, steps, stop),
             };
             assert!(right, "the call was not answered as it has to");
         }
+    }
+
+    /// Whether work on a copy of the store makes so many steps and stops so.
+    fn work(&mut self, work: impl Fn(&mut [u8], u32) -> Reply, budget: u32, steps: u32, stop: u8) -> bool {
+        self.scratch.copy_from_slice(&self.store);
+        work(black_box(&mut self.scratch), budget) == Reply { steps, stop, ..Reply::default() }
     }
 
     /// Whether a lookup is done, gives so many matches, and writes the first and the last of them.

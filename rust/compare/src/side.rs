@@ -39,6 +39,10 @@ pub trait Side {
     fn remove(store: &mut [u8], hash: u32, block: u32, offset: u32) -> Reply;
     fn lookup(store: &[u8], hash: u32, output: &mut [u8]) -> Reply;
     fn work(store: &mut [u8], budget: u32) -> Reply;
+    /// The same work, sealed once at the end of the call by a side that can do so.
+    fn work_sealed_once(store: &mut [u8], budget: u32) -> Reply {
+        Self::work(store, budget)
+    }
     fn standing(store: &[u8]) -> (Reply, State);
 }
 
@@ -129,10 +133,11 @@ impl Side for Ordinary {
     }
 
     fn work(store: &mut [u8], budget: u32) -> Reply {
-        match ordinary::work(store, budget) {
-            Ok(did) => Reply { steps: did.steps, stop: did.stop.number(), ..Reply::default() },
-            Err(refusal) => ordinary(Err(refusal)),
-        }
+        worked(ordinary::work(store, budget))
+    }
+
+    fn work_sealed_once(store: &mut [u8], budget: u32) -> Reply {
+        worked(ordinary::work_sealed_once(store, budget))
     }
 
     fn standing(store: &[u8]) -> (Reply, State) {
@@ -156,5 +161,12 @@ fn ordinary(answer: Result<(), ordinary::Refusal>) -> Reply {
     match answer {
         Ok(()) => Reply::default(),
         Err(refusal) => Reply::refused(refusal.number(), refusal.gives()),
+    }
+}
+
+fn worked(answer: Result<ordinary::Worked, ordinary::Refusal>) -> Reply {
+    match answer {
+        Ok(did) => Reply { steps: did.steps, stop: did.stop.number(), ..Reply::default() },
+        Err(refusal) => ordinary(Err(refusal)),
     }
 }

@@ -134,6 +134,20 @@ pub fn wanting(blocks: u32) -> Vec<u8> {
     encode(&layout, 40, 0, (0, 0), &chains)
 }
 
+/// How many of the pairs of `leaving` move with the split that it wants.
+pub const LEAVERS: u32 = 1_000;
+
+/// A store that wants a split of a chain of 99 full pages with 3,960 random pairs, most of which stay: `LEAVERS` move,
+/// and fill the last of 128 blocks. It wants more splits after that one. A store that wants one alone has at most 40
+/// pairs for each bucket and for the new one, so no more full pages than that, and 128 blocks have no room for 99 of
+/// each.
+pub fn leaving() -> Vec<u8> {
+    let mut random = Random::new(9);
+    let pairs = (0..99 * 40).map(|i| (of(&mut random, 4, if i < LEAVERS { 2 } else { 0 }), false)).collect();
+    let pages = interleaved(&mut random, pairs, 99);
+    lone(128, pages)
+}
+
 type Pair = (u32, u32, u16);
 
 /// A random pair under a hash code.

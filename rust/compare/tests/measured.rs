@@ -2,7 +2,8 @@
 
 use compare::rows::{rows, Bench};
 use compare::side::{Ordinary, Proved};
-use compare::stores::{chain, copying, crowd, even, wanting, Order, CODE, EACH};
+use compare::stores::{chain, copying, copying_one_code, crowd, even, leaving, wanting};
+use compare::stores::{Order, CODE, EACH, LEAVERS};
 use compare::twin::Twin;
 
 /// A sound store, and the numbers of its buckets and pages in use.
@@ -60,6 +61,16 @@ fn jobs() {
     // Half of the 896 guests are copied: the others, the end of the copying and the clearing of all are left.
     let reply = twin.work(448 + 1 + 896);
     assert_eq!((reply.steps, twin.standing().1.phase), (448 + 1 + 896, 2));
+    let (mut twin, _, pages) = judged(copying_one_code(128), "one code".into());
+    let (_, state) = twin.standing();
+    assert_eq!((state.phase, state.old, state.new, pages), (1, 1, 3, 64 + 40));
+    let reply = twin.work(896 + 1 + 1792);
+    assert_eq!((reply.steps, twin.standing().1.phase), (896 + 1 + 1792, 2));
+    let (mut twin, buckets, pages) = judged(leaving(), "leaving".into());
+    assert_eq!((buckets, pages, twin.standing().1.count), (2, 99, 3_960));
+    assert_eq!(twin.work(2 * LEAVERS + 2).steps, 2 * LEAVERS + 2);
+    assert_eq!((twin.standing().1.phase, twin.standing().1.new), (2, 2));
+    assert_eq!((twin.work(1).steps, twin.standing().1.phase), (1, 0));
     for blocks in [16, 64, 128] {
         let (mut twin, buckets, pages) = judged(wanting(blocks), format!("wanting, N {blocks}"));
         assert_eq!((buckets, pages as u32), (blocks / 4 - 1, blocks / 2), "{}", twin.label);

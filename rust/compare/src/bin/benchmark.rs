@@ -33,11 +33,11 @@ fn measure(row: &Row) {
     let rounds: Vec<(f64, f64)> = (0..ROUNDS).map(round).collect();
     let middle = |part: fn(&(f64, f64)) -> f64| median(rounds.iter().map(part).collect());
     let (proved, ordinary, ratio) = (middle(|r| r.0), middle(|r| r.1), middle(|r| r.0 / r.1));
-    println!("{:>4}  {:28} {proved:>9.1} us {ordinary:>9.1} us {ratio:>8.2}", row.blocks, row.name);
+    println!("{:>4}  {:44} {proved:>9.1} us {ordinary:>9.1} us {ratio:>8.2}", row.blocks, row.name);
 }
 
 fn table(words: &str) {
-    println!("{:>4}  {:28} {:>12} {:>12} {:>8}", "N", "call", "proved", "ordinary", "ratio");
+    println!("{:>4}  {:44} {:>12} {:>12} {:>8}", "N", "call", "proved", "ordinary", "ratio");
     rows().iter().filter(|row| row.has(words)).for_each(measure);
 }
 
