@@ -124,8 +124,8 @@ fn copies(twin: &Twin) -> Vec<(u32, u32, u32)> {
     found(twin.bytes()).filter(|entry| entry.moved && entry.bucket == new).map(|entry| entry.pair).collect()
 }
 
-/// Work stops for want of room after `steps` steps, with copies made and `wanting` to make. Removals of pairs that have
-/// copies make room for as many others; with enough of them work goes on, to the end of the job.
+/// Work stops for want of room after `steps` steps, with copies made and `wanting` to make. Removals of pairs that
+/// have copies make room for as many others; with enough of them work goes on, to the end of the job.
 fn goes_on(mut twin: Twin, steps: u32, wanting: u32, rest: Reply) {
     let mut random = Random::new(12_000);
     let before = copies(&twin).len();

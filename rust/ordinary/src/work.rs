@@ -49,8 +49,8 @@ impl<'a> Work<'a> {
         }
     }
 
-    /// Ends a step: the store is sound after each, so the blocks that the step changed are sealed here, unless it is to
-    /// be done once at the end of the call.
+    /// Ends a step: the store is sound after each, so the blocks that the step changed are sealed here, unless that
+    /// is to be done once, at the end of the call.
     fn step(&mut self) -> Result<(), Stop> {
         if !self.once {
             self.edit.seal();
