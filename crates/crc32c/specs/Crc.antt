@@ -1,13 +1,17 @@
--- CRC-32C (RFC 3720, 12.1), bit by bit: the reflected polynomial 0x82F63B78, all ones at the start, the complement at
--- the end. `bitXor` is the logic's exclusive or, which computes in as many steps as its first argument has digits, so
--- that is the shorter one.
+-- CRC-32C (RFC 3720, 12.1), bit by bit: the reflected polynomial, all ones at the start, the complement at the end.
+-- `bitXor` is the logic's exclusive or, which computes in as many steps as its first argument has digits, so that is
+-- the shorter one.
 use mathlib.Core.List.{List, [], _∷_}
 use Prim.Native.Nat.{ℕ, zero, suc, _-_, _*_, _/_, _%_}
 use lib.Bits.{bitXor}
 
+-- RFC 3720's polynomial, 0x11EDC6F41, without its highest power and with its bits in the other order
+abbrev pub polynomial : ℕ
+polynomial = 0x82F63B78
+
 -- one bit: shifted down, with the polynomial where a one falls out
 unfoldable pub crcBit : ℕ → ℕ
-crcBit c = bitXor (c % 2 * 0x82F63B78) (c / 2)
+crcBit c = bitXor (c % 2 * polynomial) (c / 2)
 
 -- k bits
 unfoldable pub crcBits : ℕ → ℕ → ℕ

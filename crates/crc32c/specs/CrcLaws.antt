@@ -7,7 +7,7 @@ use native.Mathlib.Omega.{arith}
 use lib.Bits.{bitXor, xor-lt}
 use lib.ListN.{length, getD, drop, drop-of-length-le}
 use lib.Seq.{drop-cons}
-use Rattle.crc32c.specs.Crc.{crcBit, crcBits, crcByte, crcBytes, crcOf}
+use Rattle.crc32c.specs.Crc.{polynomial, crcBit, crcBits, crcByte, crcBytes, crcOf}
 
 -- the state after two runs of bytes
 pub crcBytes-append : (c : ℕ) (a b : List ℕ) → crcBytes c (a ++ b) ≡ crcBytes (crcBytes c a) b
@@ -33,7 +33,7 @@ crcBytes-end c s i h = ap (crcBytes c) (drop-of-length-le s h)
 
 crcBit-lt : (c : ℕ) → c < 2 ^ 32 → crcBit c < 2 ^ 32
 unfolding crcBit
-crcBit-lt c h = xor-lt 32 (c % 2 * 0x82F63B78) (c / 2) (omega arith) (omega arith)
+crcBit-lt c h = xor-lt 32 (c % 2 * polynomial) (c / 2) (omega arith) (omega arith)
 
 crcBits-lt : (k c : ℕ) → c < 2 ^ 32 → crcBits k c < 2 ^ 32
 unfolding crcBits

@@ -1,26 +1,38 @@
-use mathlib.Core.Path.{_≡_, refl}
-use Prim.Native.Nat.{_-_, _≤_}
+use mathlib.Core.Path.{_≡_, sym, ap, _∙_}
+use Prim.Native.Nat.{ℕ, _+_, _-_, _≤_}
 use native.Mathlib.Omega.{arith}
 use lib.ListN.{length, drop}
-use Rattle.crc32c.specs.Crc.{crcBytes}
+use Rattle.crc32c.specs.Crc.{crcByte, crcBytes}
 use Rattle.crc32c.specs.CrcLaws.{crcBytes-drop, crcBytes-end}
 use Rattle.crc32c.proofs.update.Statement.{statement}
 use Rattle.crc32c.proofs.update.Tie as tie
 
 abbrev Inv-loop : tie.InvT-loop
-Inv-loop c s state₀ i₀ state i = (i ≤ length s) × (crcBytes c s ≡ crcBytes state (drop i s))
+Inv-loop c s table state₀ i₀ state i = (i ≤ length s) × (crcBytes c s ≡ crcBytes state (drop i s))
 
 abbrev μ-loop : tie.MeasureT-loop
-μ-loop c s state₀ i₀ state i = length s - i
+μ-loop c s table state₀ i₀ state i = length s - i
+
+byte-table-requires : tie.Need-byte-table-requires Inv-loop μ-loop
+byte-table-requires c κs = tt
+
+take-fours-requires : tie.Need-take-fours-requires Inv-loop μ-loop
+take-fours-requires c κs = c .before .byte-table .ensures
+
+mul-i : tie.Need-mul-i Inv-loop μ-loop
+mul-i c = omega arith
 
 loop-holds : tie.Need-loop-holds Inv-loop μ-loop
-loop-holds c = (omega arith, refl)
+loop-holds c = (omega arith, c .take-fours .ensures)
 
-shared-slice-read-step-byte : tie.Need-shared-slice-read-step-byte Inv-loop μ-loop
-shared-slice-read-step-byte c = omega arith
+shared-slice-read-shift-byte : tie.Need-shared-slice-read-shift-byte Inv-loop μ-loop
+shared-slice-read-shift-byte c = omega arith
 
-step-byte-requires : tie.Need-step-byte-requires Inv-loop μ-loop
-step-byte-requires c κs = tt
+cast-shift-byte : tie.Need-cast-shift-byte Inv-loop μ-loop
+cast-shift-byte c = omega (arith, c .shared-slice-known2 .given (c .before .before .before .loop .i))
+
+shift-byte-requires : tie.Need-shift-byte-requires Inv-loop μ-loop
+shift-byte-requires c κs = c .before .before .before .before .before .before .byte-table .ensures
 
 add-i : tie.Need-add-i Inv-loop μ-loop
 add-i c = omega arith
@@ -29,15 +41,20 @@ loop-less : tie.Need-loop-less Inv-loop μ-loop
 loop-less c = omega arith
 
 loop-again : tie.Need-loop-again Inv-loop μ-loop
+unfolding crcByte
 loop-again c =
-    let l = c .before .before .before .loop in
-    let s = c .before .before .before .before .before .args .s .now in
-    (omega arith, cc (crcBytes-drop (l .state) s (l .i) (omega arith)))
+    let l = c .before .before .before .before .loop in
+    let s = c .before .before .before .before .before .before .before .before .before .args .s .now in (
+      omega arith,
+      l .inv .1
+          ∙ crcBytes-drop (l .state) s (l .i) (omega arith)
+          ∙ ap (λ (x : ℕ). crcBytes x (drop (l .i + 1) s)) (sym (c .shift-byte .ensures)),
+    )
 
 returns : tie.Need-returns Inv-loop μ-loop
 returns c =
     let l = c .before .loop in
-    let s = c .before .before .before .args .s .now in
+    let s = c .before .before .before .before .before .before .args .s .now in
     cc (crcBytes-end (l .state) s (l .i) (omega arith))
 
 pub update-spec : {M : Type 1} → statement M
@@ -46,9 +63,13 @@ update-spec =
     (tie.spec
     Inv-loop
     μ-loop
+    byte-table-requires
+    take-fours-requires
+    mul-i
     loop-holds
-    shared-slice-read-step-byte
-    step-byte-requires
+    shared-slice-read-shift-byte
+    cast-shift-byte
+    shift-byte-requires
     add-i
     loop-less
     loop-again
