@@ -29,17 +29,18 @@ pub fn zero_bytes(p: &mut [u8], from: usize, to: usize)
     }
 }
 
-// Whether the bytes from place `from` up to `to` are zero.
+// Whether the bytes from place `from` up to `to` are zero. Without an early return, so that the compiler vectorises it.
 pub fn is_zero(p: &[u8], from: usize, to: usize) -> bool
     requires { ⌜ (from ≤ to) × (to ≤ length (now p)) ⌝ }
     ensures { λ r. ⌜ r ≡ allZero (part from to (now (p .entry))) ⌝ }
 {
+    let mut zero = true;
     let mut i = from;
     while i < to {
         if p[i] != 0 {
-            return false;
+            zero = false;
         }
         i += 1;
     }
-    true
+    zero
 }
