@@ -16,7 +16,7 @@ use Rattle.image.specs.Decode.{bitOf}
 use Rattle.frame.specs.ListsLaws.{find-hit, find-pass}
 use Rattle.image.specs.Rules.{mapAt, bitAt}
 use Rattle.chain.specs.declared.Free.{Free}
-use Rattle.chain.specs.Bitmap.{freeAs, lowestFree, onesFrom, freeOr}
+use Rattle.chain.specs.Bitmap.{freeAs, lowestFree, onesFrom, Full, freeOr}
 use Rattle.chain.specs.FindLaws.{run-lower, run-none}
 
 -- bit j of byte i
@@ -103,6 +103,23 @@ module _ (l : List ℕ) where
   pub ones-end : onesFrom l 2048 ≡ true
   unfolding onesFrom
   ones-end = refl
+
+  -- ---- bytes of ones to the end
+
+  passed-full : {A : Type 0} (f : ℕ → A) → ((n : ℕ) → n < 2048 → bitOf l n ≢ 0 → f n ≡ f (n + 1))
+      → (d at : ℕ) → at + d ≡ 256 → Full l at → f (8 * at) ≡ f 2048
+  passed-full f turn zero at e full = let z : 8 * at ≡ 2048 = omega arith in ap f z
+  passed-full f turn (suc d) at e full =
+      let g : 8 * at + 8 ≡ 8 * (at + 1) = omega arith in
+      byte-passed l f turn at (omega arith) (full at (omega arith) (omega arith)) 8 (8 * at) (omega arith) (omega arith)
+      ∙ ap f g
+      ∙ passed-full f turn d (at + 1) (omega arith) (λ i h k. full i (omega arith) k)
+
+  pub ones-full : (at : ℕ) → at ≤ 256 → Full l at → onesFrom l (8 * at) ≡ true
+  ones-full at h full = passed-full (onesFrom l) ones-later (256 - at) at (omega arith) full ∙ ones-end
+
+  pub free-full : Full l 0 → lowestFree l ≡ Free.Nothing
+  free-full full = free-start ∙ passed-full freeFrom free-later 256 0 refl full ∙ free-none
 
   -- ---- what is found
 
