@@ -1,8 +1,8 @@
 -- How the list functions with tests bear on each other: everything is counted by `tally`.
-use mathlib.Core.Path.{_≡_, refl, sym, ap, subst}
+use mathlib.Core.Path.{_≡_, refl, sym, ap, subst, _∙_}
 use mathlib.Core.Logic.{_≢_}
 use mathlib.Core.Bool.{Bool, true, false, cond, not, _&&_, _||_}
-use mathlib.Core.List.{List, [], _∷_, _++_, map}
+use mathlib.Core.List.{List, [], _∷_, _++_, map, append-assoc}
 use mathlib.Core.Option.{Option, none, some}
 use Prim.Native.Nat.{ℕ, zero, _+_, _≤_}
 use native.Mathlib.Omega.{arith}
@@ -163,6 +163,11 @@ module _ {A : Type 0} where
 pub tally-map : {A B : Type 0} (f : A → B) (t : B → Bool) (xs : List A) → tally t (map f xs) ≡ tally (λ x. t (f x)) xs
 tally-map f t [] = refl
 tally-map f t (x ∷ xs) = omega (arith, tally-map f t xs)
+
+pub bind-append : {A B : Type 0} (f : A → List B) (xs ys : List A) → bind (xs ++ ys) f ≡ bind xs f ++ bind ys f
+bind-append f [] ys = refl
+bind-append f (x ∷ xs) ys =
+    ap (λ (l : List _). f x ++ l) (bind-append f xs ys) ∙ sym (append-assoc (f x) (bind xs f) (bind ys f))
 
 pub tally-bind : {A B : Type 0} (t : B → Bool) (f : A → List B) (xs ys : List A)
     → tally t (bind (xs ++ ys) f) ≡ tally t (bind xs f) + tally t (bind ys f)

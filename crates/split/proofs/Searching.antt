@@ -1,7 +1,7 @@
 -- The turns of the loop along the old chain: what the page at index i tells.
 use mathlib.Core.Path.{_≡_, refl, sym, ap, _∙_, subst}
 use mathlib.Core.Bool.{Bool, true, false}
-use mathlib.Core.List.{List, [], _++_, append-nil, append-assoc}
+use mathlib.Core.List.{List, _++_, append-nil, append-assoc}
 use Prim.Native.Nat.{ℕ, _+_, _-_, _*_, _≤_, _<_}
 use native.Mathlib.Omega.{arith}
 use lib.ListN.{length, getD, take, drop, length-append}
@@ -32,10 +32,6 @@ pub record Behind (s bs : List ℕ) (n : ℕ) (t : Entry → Bool) (k i : ℕ) :
   pub number : k ≡ length front
   pub few : k ≤ 40 * i
   pub pages : (p : Pair) → PairPasses t p → find (pairOn s p) (take n bs) ≡ find (pairOn s p) (drop i (take n bs))
-
-pub behind-start : (s bs : List ℕ) (n : ℕ) (t : Entry → Bool) → Behind s bs n t 0 0
-behind-start s bs n t =
-    record { front = []; parts = refl; none = refl; number = refl; few = omega arith; pages = λ p u. refl }
 
 module _ {s bs : List ℕ} {n : ℕ} (ok : Within s bs n) {t : Entry → Bool} {k i : ℕ} (h : Behind s bs n t k i) where
   module _ (more : i < n) {l : List ℕ} (on : PageOn s bs n i l) where

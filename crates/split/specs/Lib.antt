@@ -1,6 +1,7 @@
 pub mod Mover
 pub mod Seek
 pub mod SeekLaws
+pub mod OldChainLaws
 pub mod MoverLaws
 pub mod Step
 pub mod StepLaws

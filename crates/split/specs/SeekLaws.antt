@@ -35,7 +35,7 @@ module _ (t : Entry → Bool) where
       ∙ omega (arith, ap b2n f)
 
   -- a place among some entries and others after them, as one among the first
-  before-left : (es fs : List Entry) (k : ℕ) → Before t (es ++ fs) k → Before t es k
+  pub before-left : (es fs : List Entry) (k : ℕ) → Before t (es ++ fs) k → Before t es k
   before-left es fs zero z = refl
   before-left [] fs (suc k) z = refl
   before-left (e ∷ es) fs (suc k) z = omega (arith, before-left es fs k (omega arith))

@@ -5,22 +5,27 @@ use address::limits::MAX_BLOCKS;
 use address::parent_of;
 use chain::Found;
 use chain::Walk;
-use chain::links::page_on;
 use chain::search::find_pair;
 use image::Meta;
 use page::Entry;
 use page::slots::count_entries;
 use page::slots::get_entry;
 use reader::buckets::walk_bucket;
+use reader::roles::home_of;
+use store::block_at;
+use store::flags::NO_LINK;
+use store::next_at;
 ghost use mathlib.Core.Path.{_≡_};
-ghost use Prim.Native.Nat.{suc, _+_, _-_, _*_, _<_};
-ghost use lib.ListN.{take};
+ghost use Prim.Native.Nat.{suc, _+_, _-_, _*_, _≤_, _<_};
+ghost use lib.ListN.{length, getD, take};
 ghost use Rattle.lists.specs.Lists.{bind};
+ghost use Rattle.lists.specs.Block.{blocks};
 ghost use Rattle.address.specs.Limits.{maxBlocks};
 ghost use Rattle.page.specs.Entries.{entriesOf};
 ghost use Rattle.page.specs.Allowed.{Sorted};
 ghost use Rattle.model.specs.Index.{entriesAt, oldBucket};
 ghost use Rattle.image.specs.Decode.{decode};
+ghost use Rattle.chain.specs.Walk.{walk};
 ghost use Rattle.chain.specs.Search.{findIn};
 ghost use Rattle.chain.specs.Within.{entriesOn, PagesOk, Within};
 ghost use Rattle.view.specs.Reads.{Reads};
@@ -112,7 +117,7 @@ fn past(a: usize, b: usize) -> usize
     if a < b { 0 } else { a - b }
 }
 
-// What was found on a page, its place counted from the start of the walk: `passed` entries stand before the page.
+// What was found on a page, its place counted from the start of the chain: `passed` entries stand before the page.
 fn shift_place(found: Mover, passed: usize) -> Mover
     requires { ⌜ passed + moverPlace found < 40 * suc maxBlocks ⌝ }
     ensures { λ r. ⌜ r ≡ shifted passed found ⌝ }
@@ -134,39 +139,89 @@ fn shift_place(found: Mover, passed: usize) -> Mover
     Mover::Nothing
 }
 
-// The first entry on the pages of a walk that a step moves; among the first `from` there is none.
-fn first_in_walk(
+// A page of a chain: its block, its index, which only the proof reads, and the number of entries on the pages before
+// it.
+struct Spot {
+    block: u32,
+    index: usize,
+    passed: usize,
+}
+
+// The page of the chain from `first` on to which the place `from` leads: pages all of whose entries stand before it are
+// passed over, but for the last.
+fn skip_pages(store: &[u8], first: u32, from: usize) -> Spot
+    requires { ⌜ (Within (now store) (walk (now store) first) (length (walk (now store) first)))
+        × (PagesOk (now store) (walk (now store) first)) × (length (walk (now store) first) ≤ blocks (now store)) ⌝ }
+    ensures { λ r. ⌜ (r .index < length (walk (now (store .entry)) first))
+        × (r .block ≡ getD (walk (now (store .entry)) first) (r .index) 0) ⌝ }
+    ensures { λ r. ⌜ r .passed
+        ≡ length (bind (take (r .index) (walk (now (store .entry)) first)) (entriesOn (now (store .entry)))) ⌝ }
+    ensures { λ r. ⌜ (r .passed ≤ from) × (r .passed ≤ 40 * r .index) ⌝ }
+{
+    let mut block = first;
+    let mut left = from;
+    let mut index = 0;
+    loop {
+        let page = block_at(store, block as usize);
+        let count = count_entries(page);
+        if left < count {
+            break;
+        }
+        let next = next_at(page);
+        if next == NO_LINK {
+            break;
+        }
+        left -= count;
+        block = next;
+        index += 1;
+    }
+    Spot {
+        block,
+        index,
+        passed: from - left,
+    }
+}
+
+// The first entry of the chain from `first` on that a step moves; among the first `from` there is none. The next fields
+// are followed as far as its page.
+fn first_in_chain(
     store: &[u8],
-    blocks: &[u32; MAX_BLOCKS + 1],
-    count: usize,
+    first: u32,
     copies: &[u32; MAX_BLOCKS + 1],
     walked: usize,
     m: Meta,
     copying: bool,
     from: usize,
 ) -> Mover
-    requires { ⌜ (Within (now store) (now blocks) count) × (PagesOk (now store) (take count (now blocks)))
+    requires { ⌜ (Within (now store) (walk (now store) first) (length (walk (now store) first)))
+        × (PagesOk (now store) (walk (now store) first)) × (length (walk (now store) first) ≤ blocks (now store))
         × (Reads (now store) m) × (Copies copying (decode (now store)) (now copies) walked) ⌝ }
     requires { ⌜ Before (movable copying (decode (now store)))
-        (bind (take count (now blocks)) (entriesOn (now store))) from ⌝ }
+        (bind (walk (now store) first) (entriesOn (now store))) from ⌝ }
     ensures { λ r. ⌜ Seeks (movable copying (decode (now (store .entry))))
-        (bind (take count (now (blocks .entry))) (entriesOn (now (store .entry)))) r ⌝ }
-    ensures { λ r. ⌜ Located (findIn (now (store .entry)) (take count (now (blocks .entry)))) r ⌝ }
+        (bind (walk (now (store .entry)) first) (entriesOn (now (store .entry)))) r ⌝ }
+    ensures { λ r. ⌜ Located (findIn (now (store .entry)) (walk (now (store .entry)) first)) r ⌝ }
     ensures { λ r. ⌜ moverPlace r < 40 * suc maxBlocks ⌝ }
 {
-    let mut passed = 0;
-    let mut i = 0;
-    while i < count {
-        let page = page_on(store, blocks, count, i);
+    let spot = skip_pages(store, first, from);
+    let mut block = spot.block;
+    let mut passed = spot.passed;
+    let mut i = spot.index;
+    loop {
+        let page = block_at(store, block as usize);
         let start = past(from, passed);
-        let found = first_in_page(page, blocks[i], store, copies, walked, m, copying, start);
+        let found = first_in_page(page, block, store, copies, walked, m, copying, start);
         let Mover::Nothing = found else {
             return shift_place(found, passed);
         };
+        let next = next_at(page);
+        if next == NO_LINK {
+            break Mover::Nothing;
+        }
         passed += count_entries(page);
+        block = next;
         i += 1;
     }
-    Mover::Nothing
 }
 
 // The first entry of the old chain that is left to copy or, where the step clears, to take away; among its first
@@ -180,11 +235,9 @@ pub fn first_mover(store: &[u8], m: Meta, copying: bool, from: usize) -> Mover
     ensures { λ r. ⌜ Located (findAt (decode (now (store .entry))) (oldBucket (decode (now (store .entry))))) r ⌝ }
     ensures { λ r. ⌜ moverPlace r < 40 * suc maxBlocks ⌝ }
 {
-    let walk = walk_bucket(store, m, parent_of(m.max));
-    let blocks = walk.blocks;
-    let count = walk.count;
+    let first = home_of(m, parent_of(m.max));
     let copies_walk = walk_copies(store, m, copying);
     let copies = copies_walk.blocks;
     let walked = copies_walk.count;
-    first_in_walk(store, &blocks, count, &copies, walked, m, copying, from)
+    first_in_chain(store, first, &copies, walked, m, copying, from)
 }

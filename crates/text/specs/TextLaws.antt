@@ -1,6 +1,6 @@
 -- Text written piece after piece.
-use mathlib.Core.Path.{_≡_, refl, sym, ap, _∙_, subst}
-use mathlib.Core.List.{List, [], _∷_, _++_, append-assoc, append-nil}
+use mathlib.Core.Path.{_≡_, ap, _∙_, subst}
+use mathlib.Core.List.{List, [], _∷_, _++_, append-nil}
 use Prim.Native.Nat.{ℕ, zero, suc, _+_, _^_, _≤_, _<_}
 use native.Mathlib.Nat.{zero-add}
 use native.Mathlib.Numerals.{add-one}
@@ -8,6 +8,7 @@ use native.Mathlib.Omega.{arith}
 use lib.ListN.{length, drop, length-append}
 use lib.Seq.{sets, length-sets, sets-eq}
 use Rattle.lists.specs.Lists.{bind, upFrom}
+use Rattle.lists.specs.ListsLaws.{bind-append}
 use Rattle.lists.specs.BytesLaws.{sets-append}
 use Rattle.text.specs.Digits.{digits}
 use Rattle.text.specs.DigitsLaws.{digits-few}
@@ -56,11 +57,6 @@ run-more : (i n : ℕ) → upFrom i (suc n) ≡ upFrom i n ++ ((i + n) ∷ [])
 run-more i zero = ap (λ (k : ℕ). k ∷ []) (omega arith)
 run-more i (suc n) =
     ap (λ (l : List ℕ). i ∷ l) (run-more (suc i) n ∙ ap (λ (k : ℕ). upFrom (suc i) n ++ (k ∷ [])) (omega arith))
-
-bind-append : (f : ℕ → List ℕ) (xs ys : List ℕ) → bind (xs ++ ys) f ≡ bind xs f ++ bind ys f
-bind-append f [] ys = refl
-bind-append f (x ∷ xs) ys = ap (λ (l : List ℕ). f x ++ l) (bind-append f xs ys)
-    ∙ sym (append-assoc (f x) (bind xs f) (bind ys f))
 
 pub bind-more : (f : ℕ → List ℕ) (n : ℕ) → bind (upFrom 0 (n + 1)) f ≡ bind (upFrom 0 n) f ++ f n
 bind-more f n =
