@@ -6,7 +6,7 @@ use mathlib.Core.List.{List, [], _∷_}
 use Prim.Native.Nat.{ℕ, suc, _+_, _*_, _%_, _/_, _≤_, _<_}
 use native.Mathlib.Omega.{arith}
 use native.Mathlib.Decide.{ℕ-discrete}
-use borrow.Author.Tests.{le-ltb, leb-true, eq-eqb, ne-eqb}
+use borrow.Author.Tests.{le-ltb, ltb-true, leb-true, eq-eqb, ne-eqb}
 use lib.Dec.{eqb, ltb, leb}
 use lib.ListN.{length, getD, set, drop, drop-of-length-le, length-set}
 use lib.Seq.{drop-cons, getD-set-same, getD-set-other}
@@ -14,7 +14,7 @@ use Rattle.lists.specs.ListsLaws.{and-left, not-yes}
 use Rattle.endian.specs.Endian.{u16At}
 use Rattle.page.specs.declared.Pair.{Pair}
 use Rattle.page.specs.declared.Entry.{Entry}
-use Rattle.page.specs.Pair.{badPair}
+use Rattle.page.specs.Pair.{before, badPair}
 use Rattle.page.specs.PairLaws.{no-way, Order, less, equal, more, order}
 use Rattle.page.specs.Entries.{entryAt, entriesOf}
 use Rattle.page.specs.EntriesLaws.{length-entriesOf, getD-entriesOf}
@@ -63,6 +63,30 @@ head-leads (x ∷ xs) (y ∷ ys) c d a b ok ok′ h =
         let t : leb (p .offset * 64 + c) (q .offset * 64 + d) ≡ true = rw (eq-eqb (pairKey p) (pairKey q) e) at h in
         rw (eq-eqb (pairKey q) (pairKey p) (sym e))
         (le-ltb (q .offset) (p .offset) (omega (arith, leb-true (p .offset * 64 + c) (q .offset * 64 + d) t, a, b)))
+    go (more l) =
+        no-way h (rw (ne-eqb (pairKey p) (pairKey q) (omega arith)) (le-ltb (pairKey p) (pairKey q) (omega arith)))
+
+-- the head of what is left after the first entry comes no earlier
+pub head-on : (e : Entry) (es : List Entry) (c : ℕ) → Allowed (e ∷ es)
+    → (keyOf (e ∷ es) ≤ keyOf es) × (keyOf (e ∷ es) ≡ keyOf es → tailOf c (e ∷ es) ≤ tailOf (c + 1) es)
+head-on e [] c ok = let l = head-below e [] ok in (omega (arith, l), λ q. absurd (omega (arith, l, q)))
+head-on e (f ∷ es) c ok = go (order (pairKey p) (pairKey q))
+  where
+    p : Pair
+    p = e .pair
+
+    q : Pair
+    q = f .pair
+
+    h : cond (eqb (pairKey p) (pairKey q)) (ltb (p .offset) (q .offset)) (ltb (pairKey p) (pairKey q)) ≡ true
+    h = before-key p q (ok .fit .0) (ok .fit .1 .0) ∙ and-left (before p q) _ (ok .order)
+
+    go : Order (pairKey p) (pairKey q)
+        → (pairKey p ≤ pairKey q) × (pairKey p ≡ pairKey q → p .offset * 64 + c ≤ q .offset * 64 + (c + 1))
+    go (less l) = (omega (arith, l), λ r. absurd (omega (arith, l, r)))
+    go (equal z) =
+        let l = ltb-true (p .offset) (q .offset) (rw (eq-eqb (pairKey p) (pairKey q) z) at h) in
+        (omega (arith, z), λ r. omega (arith, l))
     go (more l) =
         no-way h (rw (ne-eqb (pairKey p) (pairKey q) (omega arith)) (le-ltb (pairKey p) (pairKey q) (omega arith)))
 

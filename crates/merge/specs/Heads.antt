@@ -10,7 +10,7 @@ use Rattle.page.specs.declared.Entry.{Entry}
 use Rattle.page.specs.Entries.{entryAt, entriesOf}
 use Rattle.page.specs.Places.{placeOf}
 use Rattle.page.specs.Allowed.{Sorted, Allowed}
-use Rattle.merge.specs.Tree.{maxPages, Won}
+use Rattle.merge.specs.Tree.{maxPages, Won, Second}
 use Rattle.merge.specs.Merge.{Taken}
 
 -- the key where nothing is left: no entry has it, since none has reading block 4294967295
@@ -71,6 +71,7 @@ module _ (s ks : List ℕ) where
     pub pages : Pages n
     pub heads : Heads n keys tails
     pub won : Won keys tails n tree
+    pub second : Second keys tails n tree
 
   -- every cursor stands at the sorted place of a pair
   abbrev pub CursorsAt : (from : Pair) (n : ℕ) (tails : List ℕ) → Type 0

@@ -1,6 +1,8 @@
 pub mod Tree
+pub mod NodeLaws
 pub mod TreeLaws
 pub mod ReplayLaws
+pub mod SecondLaws
 pub mod Merge
 pub mod MergeLaws
 pub mod Heads

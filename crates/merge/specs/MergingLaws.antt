@@ -8,7 +8,7 @@ use native.Mathlib.Numerals.{add-one}
 use native.Mathlib.Omega.{arith}
 use native.Mathlib.Decide.{decLt}
 use lib.ListN.{length, getD, set, drop}
-use lib.Seq.{getD-set-other}
+use lib.Seq.{getD-set-same, getD-set-other}
 use Rattle.lists.specs.Block.{block}
 use Rattle.endian.specs.Endian.{u16At}
 use Rattle.page.specs.declared.Entry.{Entry}
@@ -18,12 +18,13 @@ use Rattle.page.specs.Allowed.{Allowed}
 use Rattle.page.specs.AllowedLaws.{allowed-sublist}
 use Rattle.page.specs.Entries.{entryAt}
 use Rattle.page.specs.RuleLaws.{number-le}
-use Rattle.merge.specs.Tree.{ahead, Above, Settled, Won}
+use Rattle.merge.specs.Tree.{ahead, Above, Settled, Won, Second}
 use Rattle.merge.specs.ReplayLaws.{won-upto, won-first, settled-moved}
+use Rattle.merge.specs.SecondLaws.{next-kept, kept-won}
 use Rattle.merge.specs.Merge.{leads, joined, Best}
 use Rattle.merge.specs.MergeLaws.{best-end}
 use Rattle.merge.specs.Heads.{noKey, pairKey, pairFrom, keyOf, tailOf, pageAt, leftOf, Merging, Moved}
-use Rattle.merge.specs.HeadLaws.{key-done, head-leads, head-pair, left-done}
+use Rattle.merge.specs.HeadLaws.{key-done, head-leads, head-on, head-pair, left-done}
 use Rattle.merge.specs.HeadLaws.{left-more, put-left, other-left, heads-put}
 
 module _ {s ks : List ℕ} {n : ℕ} {keys tails tree : List ℕ} (m : Merging s ks n keys tails tree) where
@@ -135,14 +136,19 @@ module _ {s ks : List ℕ} {n : ℕ} {keys tails tree : List ℕ} (m : Merging s
         in-tails : j < length tails
         in-tails = omega (arith, merging-upto, m .pages .few, m .heads .tails-size)
 
-        pub taken-settled : Settled keys′ tails′ n tree (Above ((n + getD tree 1 0) / 2))
-        taken-settled =
-            settled-moved (m .won) keys′ tails′ j
-            (λ i ne. ap (λ (l : List ℕ). getD l i 0) put-keys ∙ getD-set-other keys j i (keyOf left) 0 ne)
-            (λ i ne. ap (λ (l : List ℕ). getD l i 0) put-tails ∙ getD-set-other tails j i (tailOf (c + 1) left) 0 ne)
+        other-keys : (i : ℕ) → i ≢ j → getD keys′ i 0 ≡ getD keys i 0
+        other-keys i ne = ap (λ (l : List ℕ). getD l i 0) put-keys ∙ getD-set-other keys j i (keyOf left) 0 ne
 
-        pub taken-moved : (tree′ : List ℕ) → Won keys′ tails′ n tree′ → Moved s ks n tree tails keys′ tails′ tree′
-        taken-moved tree′ won =
+        other-tails : (i : ℕ) → i ≢ j → getD tails′ i 0 ≡ getD tails i 0
+        other-tails i ne =
+            ap (λ (l : List ℕ). getD l i 0) put-tails ∙ getD-set-other tails j i (tailOf (c + 1) left) 0 ne
+
+        pub taken-settled : Settled keys′ tails′ n tree (Above ((n + getD tree 1 0) / 2))
+        taken-settled = settled-moved (m .won) keys′ tails′ j other-keys other-tails
+
+        pub taken-moved : (tree′ : List ℕ) → Won keys′ tails′ n tree′ → Second keys′ tails′ n tree′
+            → Moved s ks n tree tails keys′ tails′ tree′
+        taken-moved tree′ won second =
             record {
               entry = entryAt page c;
               taken =
@@ -164,5 +170,30 @@ module _ {s ks : List ℕ} {n : ℕ} {keys tails tree : List ℕ} (m : Merging s
                         (heads-put s ks keys tails j (c + 1) in-keys in-tails next-few n (m .heads .keys-size)
                         (m .heads .tails-size) (λ k h ne. m .heads .each k h));
                     won = won;
+                    second = second;
                   };
             }
+
+        -- its head comes no earlier than it did
+        later : (getD keys j 0 ≤ getD keys′ j 0)
+            × (getD keys j 0 ≡ getD keys′ j 0 → getD tails j 0 ≤ getD tails′ j 0)
+        later =
+            let h = m .heads .each j merging-upto in
+            let e = entryAt page c in
+            let o = head-on e left c (rw first-left at (left-allowed j merging-upto)) in
+            let a : getD keys j 0 ≡ keyOf (e ∷ left) = h .key ∙ ap keyOf first-left in
+            let b : getD tails j 0 ≡ tailOf c (e ∷ left) = h .tail ∙ ap (tailOf c) first-left in
+            let a′ : getD keys′ j 0 ≡ keyOf left =
+            ap (λ (l : List ℕ). getD l j 0) put-keys ∙ getD-set-same keys j (keyOf left) 0 in-keys in
+            let b′ : getD tails′ j 0 ≡ tailOf (c + 1) left =
+            ap (λ (l : List ℕ). getD l j 0) put-tails ∙ getD-set-same tails j (tailOf (c + 1) left) 0 in-tails in
+            (omega (arith, o .0, a, a′), λ q. omega (arith, o .1 (sym a ∙ q ∙ a′), b, b′))
+
+        -- it is ahead of the page that comes second: the tree stays as it is
+        pub taken-kept : getD tree 0 0 < n → ahead keys′ tails′ (getD tree 1 0) (getD tree 0 0) ≡ true
+            → Moved s ks n tree tails keys′ tails′ tree
+        taken-kept l h =
+            let p = getD tree 0 0 in
+            taken-moved tree
+            (kept-won (m .won) keys′ tails′ j other-keys other-tails p (m .second l) h later)
+            (λ u. next-kept (m .won) keys′ tails′ j other-keys other-tails p (m .second u))

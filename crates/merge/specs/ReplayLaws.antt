@@ -8,8 +8,9 @@ use native.Mathlib.Omega.{arith}
 use native.Mathlib.Decide.{ℕ-discrete}
 use lib.ListN.{length, getD, set}
 use lib.Seq.{getD-set-same}
-use Rattle.merge.specs.Tree.{maxPages, Above, Nowhere, ahead, winner, Tops, Settled, Won}
-use Rattle.merge.specs.TreeLaws.{ahead-refl, ahead-trans, above-up, above-half, not-above, above-none}
+use Rattle.merge.specs.Tree.{maxPages, halves, Above, Nowhere, ahead, winner, Tops, Settled, Won}
+use Rattle.merge.specs.TreeLaws.{ahead-refl, ahead-trans}
+use Rattle.merge.specs.NodeLaws.{halves-suc, halves-le, above-up, above-half, not-above, above-none, above-one}
 use Rattle.merge.specs.TreeLaws.{Picked, winner-picked, here-picked, side-picked, settled-more, settled-put}
 
 -- node c is one that `build_tree` comes to after node k
@@ -133,42 +134,44 @@ module _ {keys tails : List ℕ} {n : ℕ} {tree : List ℕ} (s : Won keys tails
   pub won-upto : 1 ≤ n → getD tree 1 0 < n
   won-upto l = s .few 1 (omega arith) (omega arith) shut
 
-  -- the page at node 1 is ahead of the page at node c
-  abbrev First : ℕ → Type 0
-  First c = ahead keys tails (getD tree 1 0) (getD tree c 0) ≡ true
-
-  first-below : (c : ℕ) → 2 ≤ c → c < 2 * n → First (c / 2) → First c
-  first-below c l u f = go (ℕ-discrete c (2 * (c / 2)))
+  -- a node's page is ahead of that at each of the two nodes below it
+  top-over : (c : ℕ) → 2 ≤ c → c < 2 * n → ahead keys tails (getD tree (c / 2) 0) (getD tree c 0) ≡ true
+  top-over c l u = go (ℕ-discrete c (2 * (c / 2)))
     where
+      Over : ℕ → Type 0
+      Over x = ahead keys tails (getD tree (c / 2) 0) (getD tree x 0) ≡ true
+
       b : Tops keys tails tree (c / 2)
       b = s .tops (c / 2) (omega arith) (omega arith) shut
 
-      step : (a : ℕ) → ahead keys tails (getD tree (c / 2) 0) a ≡ true → ahead keys tails (getD tree 1 0) a ≡ true
-      step a = ahead-trans keys tails (getD tree 1 0) (getD tree (c / 2) 0) a f
-
-      go : Dec (c ≡ 2 * (c / 2)) → First c
-      go (yes e) = subst First (sym e) (step (getD tree (2 * (c / 2)) 0) (b .first))
+      go : Dec (c ≡ 2 * (c / 2)) → Over c
+      go (yes e) = subst Over (sym e) (b .first)
       go (no ne) =
           let e : 2 * (c / 2) + 1 ≡ c = omega arith in
-          subst First e (step (getD tree (2 * (c / 2) + 1) 0) (b .second))
+          subst Over e (b .second)
 
-  -- by induction over a bound m on the node
-  first-node : (m c : ℕ) → c ≤ m → 1 ≤ c → c < 2 * n → First c
-  first-node zero c b l u = absurd (omega arith)
-  first-node (suc m) c b l u =
-      go (ℕ-discrete c 1) (λ h. first-node m (c / 2) (omega arith) (omega arith) (omega arith))
-    where
-      go : Dec (c ≡ 1) → (2 ≤ c → First (c / 2)) → First c
-      go (yes e) f = rw e (ahead-refl keys tails (getD tree 1 0))
-      go (no ne) f = first-below c (omega arith) u (f (omega arith))
+  halves-first : (d i : ℕ) → i < n → 1 ≤ halves d (n + i)
+      → ahead keys tails (getD tree (halves d (n + i)) 0) i ≡ true
+  halves-first zero i l b = rw (s .leaf i l) (ahead-refl keys tails i)
+  halves-first (suc d) i l b =
+      let c = halves d (n + i) in
+      let e = halves-suc d (n + i) in
+      ahead-trans keys tails (getD tree (halves (suc d) (n + i)) 0) (getD tree c 0) i
+      (subst (λ (x : ℕ). ahead keys tails (getD tree x 0) (getD tree c 0) ≡ true) (sym e)
+      (top-over c (omega (arith, e, b)) (omega (arith, halves-le d (n + i)))))
+      (halves-first d i l (omega (arith, e, b)))
+
+  -- a node's page is ahead of each page whose leaf is below the node
+  pub won-below : (c i : ℕ) → i < n → 1 ≤ c → Above (n + i) c → ahead keys tails (getD tree c 0) i ≡ true
+  won-below c i l b (d, e) = rw e at (halves-first d i l (omega (arith, e, b)))
 
   pub won-first : (i : ℕ) → i < n → ahead keys tails (getD tree 1 0) i ≡ true
-  won-first i l = rw (s .leaf i l) at (first-node (n + i) (n + i) (omega arith) (omega arith) (omega arith))
+  won-first i l = won-below 1 i l (omega arith) (above-one (n + i) (n + i) (omega arith) (omega arith))
 
   -- the head of page j changes: the nodes above its leaf are open
   module _ (keys' tails' : List ℕ) (j : ℕ) (k : (i : ℕ) → i ≢ j → getD keys' i 0 ≡ getD keys i 0)
       (m : (i : ℕ) → i ≢ j → getD tails' i 0 ≡ getD tails i 0) where
-    ahead-kept : (a b : ℕ) → a ≢ j → b ≢ j → ahead keys tails a b ≡ true → ahead keys' tails' a b ≡ true
+    pub ahead-kept : (a b : ℕ) → a ≢ j → b ≢ j → ahead keys tails a b ≡ true → ahead keys' tails' a b ≡ true
     unfolding ahead
     ahead-kept a b p q h = rw (k a p, k b q, m a p, m b q) h
 

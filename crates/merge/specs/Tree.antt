@@ -1,6 +1,7 @@
 -- The winner tree over n pages, each with a head of two numbers, its key and its tail. Page i is leaf n + i, the nodes
 -- below node k are 2 k and 2 k + 1.
 use mathlib.Core.Path.{_≡_}
+use mathlib.Core.Logic.{_≢_}
 use mathlib.Core.Bool.{Bool, true, cond}
 use mathlib.Core.List.{List}
 use Prim.Native.Nat.{ℕ, zero, suc, _+_, _*_, _/_, _≤_, _<_}
@@ -54,3 +55,12 @@ module _ (keys tails : List ℕ) where
   -- every node is right
   abbrev pub Won : (n : ℕ) (tree : List ℕ) → Type 0
   Won n tree = Settled n tree Nowhere
+
+  -- page p is another page than page j, and is ahead of every page but page j
+  pub record NextBest (n j p : ℕ) : Type 0 where
+    pub other : p ≢ j
+    pub first : (i : ℕ) → i < n → i ≢ j → ahead p i ≡ true
+
+  -- the page at node 0 comes second, where it is one of the n
+  abbrev pub Second : (n : ℕ) (tree : List ℕ) → Type 0
+  Second n tree = getD tree 0 0 < n → NextBest n (getD tree 1 0) (getD tree 0 0)

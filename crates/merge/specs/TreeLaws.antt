@@ -1,9 +1,9 @@
--- The winner tree's order, its nodes one above the other, and one node put right.
-use mathlib.Core.Path.{_≡_, refl, sym, ap, ap₂, subst, _∙_}
+-- The winner tree's order, and one node put right.
+use mathlib.Core.Path.{_≡_, refl, sym, ap₂, subst, _∙_}
 use mathlib.Core.Logic.{_≢_}
 use mathlib.Core.Bool.{Bool, true, false, cond}
 use mathlib.Core.List.{List}
-use Prim.Native.Nat.{ℕ, zero, suc, _+_, _*_, _-_, _/_, _%_, _≤_, _<_}
+use Prim.Native.Nat.{ℕ, _+_, _*_, _-_, _/_, _%_, _≤_, _<_}
 use native.Mathlib.Omega.{arith}
 use native.Mathlib.Decide.{ℕ-discrete}
 use borrow.Author.Tests.{ltb-true, ltb-false, leb-true, leb-false, eqb-true, eqb-false, lt-ltb, le-leb}
@@ -11,7 +11,8 @@ use lib.Dec.{eqb, ltb, leb}
 use lib.ListN.{getD, set, length-set}
 use lib.Seq.{getD-set-same, getD-set-other}
 use Rattle.lists.specs.TestLaws.{cond-put}
-use Rattle.merge.specs.Tree.{maxPages, halves, Above, ahead, winner, Tops, Settled}
+use Rattle.merge.specs.Tree.{maxPages, Above, ahead, winner, Tops, Settled}
+use Rattle.merge.specs.NodeLaws.{above-up}
 
 -- ---- the order of the heads: by their keys, and of equal keys by their tails
 
@@ -22,14 +23,16 @@ module _ (keys tails : List ℕ) where
   abbrev tail : ℕ → ℕ
   tail a = getD tails a 0
 
-  ahead-put : (a b : ℕ) → key a ≤ key b → (key a ≡ key b → tail a ≤ tail b) → ahead keys tails a b ≡ true
+  pub ahead-put : (a b : ℕ) → getD keys a 0 ≤ getD keys b 0
+      → (getD keys a 0 ≡ getD keys b 0 → getD tails a 0 ≤ getD tails b 0) → ahead keys tails a b ≡ true
   unfolding ahead
   ahead-put a b l f =
       cond-put (eqb (key a) (key b)) (leb (tail a) (tail b)) (ltb (key a) (key b))
       (λ e. le-leb (tail a) (tail b) (f (eqb-true (key a) (key b) e)))
       (λ e. lt-ltb (key a) (key b) (omega (arith, eqb-false (key a) (key b) e)))
 
-  ahead-yes : (a b : ℕ) → ahead keys tails a b ≡ true → (key a ≤ key b) × (key a ≡ key b → tail a ≤ tail b)
+  pub ahead-yes : (a b : ℕ) → ahead keys tails a b ≡ true
+      → (getD keys a 0 ≤ getD keys b 0) × (getD keys a 0 ≡ getD keys b 0 → getD tails a 0 ≤ getD tails b 0)
   unfolding ahead
   ahead-yes a b = go (eqb (key a) (key b)) refl
     where
@@ -58,36 +61,6 @@ module _ (keys tails : List ℕ) where
       let p = ahead-yes a b h in
       let q = ahead-yes b c k in
       ahead-put a c (omega arith) (λ e. omega (arith, p .1 (omega arith), q .1 (omega arith)))
-
--- ---- nodes one above the other
-
-halves-suc : (d k : ℕ) → halves (suc d) k ≡ halves d k / 2
-halves-suc zero k = refl
-halves-suc (suc d) k = halves-suc d (k / 2)
-
-halves-zero : (d : ℕ) → halves d 0 ≡ 0
-halves-zero zero = refl
-halves-zero (suc d) = halves-zero d
-
-halves-le : (d k : ℕ) → halves d k ≤ k
-halves-le zero k = omega arith
-halves-le (suc d) k = omega (arith, halves-le d (k / 2))
-
--- the node above one that stands above m does so too
-pub above-up : (m c : ℕ) → Above m c → Above m (c / 2)
-above-up m c (d, e) = (suc d, halves-suc d m ∙ ap (λ (v : ℕ). v / 2) e)
-
--- what stands above m and is not m stands above m / 2, or is it
-pub above-half : (m c : ℕ) → c ≢ m → Above m c → Above (m / 2) c
-above-half m c ne (zero, e) = absurd (ne (sym e))
-above-half m c ne (suc d, e) = (d, e)
-
--- the nodes below m do not stand above it
-pub not-above : (m c : ℕ) → m < c → Above m c → ⊥
-not-above m c l (d, e) = omega (arith, halves-le d m)
-
-pub above-none : (c : ℕ) → 1 ≤ c → Above 0 c → ⊥
-above-none c l (d, e) = omega (arith, halves-zero d)
 
 -- ---- the page that wins at a node
 

@@ -1,7 +1,9 @@
 // The heads of the pages: what stands first in what is left of each, as two numbers.
 use crate::MAX_PAGES;
 use crate::tree::build_tree;
+use crate::tree::put_second;
 use crate::tree::replay;
+use crate::tree::stays_first;
 use page::Pair;
 use page::search::find_place;
 use page::slots::count_entries;
@@ -143,7 +145,7 @@ fn advance_head(
     put_head(store, pages, keys, tails, n, j, slot);
 }
 
-// Takes the entry that comes first.
+// Takes the entry that comes first. Where the next one of its page comes first again, the tree stays as it is.
 pub fn take_first(
     store: &[u8],
     pages: &[u32; MAX_PAGES],
@@ -159,7 +161,11 @@ pub fn take_first(
 {
     let j = tree[1];
     advance_head(store, pages, keys, tails, n, j);
+    if stays_first(keys, tails, tree, n, j) {
+        return;
+    }
     replay(keys, tails, tree, n, j);
+    put_second(keys, tails, tree, n, j);
 }
 
 // The pair that a head stands for.

@@ -3,6 +3,7 @@ use Prim.Native.Nat.{_-_, _≤_}
 use native.Mathlib.Omega.{arith}
 use Rattle.merge.specs.Tree.{Settled}
 use Rattle.merge.specs.ReplayLaws.{Under, pages-below, leaves-settled, built-next, built-won}
+use Rattle.merge.specs.SecondLaws.{won-put, second-none}
 use Rattle.merge.proofs.tree.build_tree.Statement.{statement}
 use Rattle.merge.proofs.tree.build_tree.Tie as tie
 
@@ -50,11 +51,15 @@ loop-again c =
           (l .inv .1)),
     )
 
+array-write-tree-2 : tie.Need-array-write-tree-2 Inv-loop μ-loop
+array-write-tree-2 c = omega arith
+
 returns : tie.Need-returns Inv-loop μ-loop
 returns c =
     let l = c .before .loop in
     let a = c .before .before .before .args in
-    built-won (a .keys .now) (a .tails .now) (a .n) (l .tree) (l .k) (omega arith) (l .inv .1)
+    let won = built-won (a .keys .now) (a .tails .now) (a .n) (l .tree) (l .k) (omega arith) (l .inv .1) in
+    (won-put won (a .n), second-none won)
 
 pub build-tree-spec : {M : Type 1} → statement M
 build-tree-spec =
@@ -70,4 +75,5 @@ build-tree-spec =
     array-write-tree
     loop-less
     loop-again
+    array-write-tree-2
     returns)
