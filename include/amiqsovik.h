@@ -29,14 +29,15 @@
 extern "C" {
 #endif
 
-/* The version of this header, and of the archive made from the same sources. 1.0.0 is document 01, whole. The first
- * number goes up when a program that was right may have to change: a call's arguments, the answer to a call that was
- * accepted, the bytes of a store. The second goes up when calls are added, the third when neither is so. */
+/* The version of this header, and of the archive made from the same sources. 1.0.0 is document 01, whole; 1.0.1 is
+ * quicker (request 2026-02). The first number goes up when a program that was right may have to change: a call's
+ * arguments, the answer to a call that was accepted, the bytes of a store. The second goes up when calls are added, the
+ * third when neither is so. */
 #define AMIQSOVIK_VERSION_MAJOR 1
 #define AMIQSOVIK_VERSION_MINOR 0
-#define AMIQSOVIK_VERSION_PATCH 0
+#define AMIQSOVIK_VERSION_PATCH 1
 #define AMIQSOVIK_VERSION (AMIQSOVIK_VERSION_MAJOR * 10000 + AMIQSOVIK_VERSION_MINOR * 100 + AMIQSOVIK_VERSION_PATCH)
-#define AMIQSOVIK_VERSION_TEXT "1.0.0"
+#define AMIQSOVIK_VERSION_TEXT "1.0.1"
 
 /* A word that nobody looks at may be a refusal: compilers that can do so warn. */
 #if defined(__GNUC__)

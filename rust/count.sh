@@ -5,6 +5,10 @@ set -eu
 cd "$(dirname "$0")"
 cargo build --release --quiet --bin benchmark
 
+# valgrind counts each byte of a `rep stosb` or `rep movsb` as an instruction; so glibc's memset and memcpy do without
+# here, and count as the vector moves that they are on other machines. The benchmark's times are with them.
+export GLIBC_TUNABLES=glibc.cpu.x86_rep_stosb_threshold=1000000:glibc.cpu.x86_rep_movsb_threshold=1000000
+
 # Instructions of a whole run that makes a row's call so many times.
 whole() { # N NAME SIDE TIMES
     valgrind --tool=callgrind --callgrind-out-file=/dev/null target/release/benchmark count "$@" 2>&1 |

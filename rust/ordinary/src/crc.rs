@@ -1,18 +1,39 @@
-//! The check of a block: CRC-32C of RFC 3720, bit by bit.
+//! The check of a block: CRC-32C of RFC 3720, a byte at a time.
 
 const POLYNOMIAL: u32 = 0x82F6_3B78;
 
-/// CRC-32C of some bytes.
-pub fn crc32c(bytes: &[u8]) -> u32 {
-    let mut crc = !0;
-    for &byte in bytes {
-        crc ^= u32::from(byte);
-        for _ in 0..8 {
-            let carry = (crc & 1).wrapping_neg();
-            crc = (crc >> 1) ^ (POLYNOMIAL & carry);
+/// What eight single-bit steps make of each byte.
+static TABLE: [u32; 256] = table();
+
+const fn table() -> [u32; 256] {
+    let mut table = [0; 256];
+    let mut byte = 0;
+    while byte < 256 {
+        let mut crc = byte as u32;
+        let mut bit = 0;
+        while bit < 8 {
+            crc = (crc >> 1) ^ (POLYNOMIAL & (crc & 1).wrapping_neg());
+            bit += 1;
         }
+        table[byte] = crc;
+        byte += 1;
     }
-    !crc
+    table
+}
+
+/// What eight single-bit steps make of the state.
+fn shift_byte(crc: u32) -> u32 {
+    (crc >> 8) ^ TABLE[usize::from(crc as u8)]
+}
+
+/// CRC-32C of some bytes: four at a time go into the state, and are worked off a byte at a time.
+pub fn crc32c(bytes: &[u8]) -> u32 {
+    let mut fours = bytes.chunks_exact(4);
+    let crc = fours.by_ref().fold(!0, |crc, four| {
+        let state = crc ^ u32::from_le_bytes([four[0], four[1], four[2], four[3]]);
+        (0..4).fold(state, |state, _| shift_byte(state))
+    });
+    !fours.remainder().iter().fold(crc, |crc, &byte| shift_byte(crc ^ u32::from(byte)))
 }
 
 #[cfg(test)]
@@ -31,5 +52,15 @@ mod tests {
             seen += 1;
         }
         assert_eq!(seen, 6);
+    }
+
+    #[test]
+    fn every_length_as_bit_by_bit() {
+        let bit = |crc: u32| if crc % 2 == 1 { (crc >> 1) ^ super::POLYNOMIAL } else { crc >> 1 };
+        let byte = |crc: u32, byte: &u8| (0..8).fold(crc ^ u32::from(*byte), |crc, _| bit(crc));
+        let bytes: Vec<u8> = (0..2048u32).map(|i| (i.wrapping_mul(0x9E37_79B9) >> 24) as u8).collect();
+        for len in (0..64).chain([508, 512, 2047, 2048]) {
+            assert_eq!(crc32c(&bytes[..len]), !bytes[..len].iter().fold(!0, byte), "{len} bytes");
+        }
     }
 }
