@@ -2,7 +2,7 @@
  * numbers a byte at a time, by the same table with four bytes put into the state at once, and by the processor's own
  * instruction, eight bytes at a time. The median of 101 rounds, in microseconds. It ends with 1 where two disagree.
  *
- *     gcc -O3 -msse4.2 -o /tmp/limits tools/limits.c && /tmp/limits
+ *     gcc -O3 -msse4.2 -o target/limits tools/limits.c && target/limits
  */
 #include <nmmintrin.h>
 #include <stdint.h>
