@@ -35,7 +35,7 @@ crcBit-lt : (c : ℕ) → c < 2 ^ 32 → crcBit c < 2 ^ 32
 unfolding crcBit
 crcBit-lt c h = xor-lt 32 (c % 2 * polynomial) (c / 2) (omega arith) (omega arith)
 
-crcBits-lt : (k c : ℕ) → c < 2 ^ 32 → crcBits k c < 2 ^ 32
+pub crcBits-lt : (k c : ℕ) → c < 2 ^ 32 → crcBits k c < 2 ^ 32
 unfolding crcBits
 crcBits-lt zero c h = h
 crcBits-lt (suc k) c h = crcBit-lt (crcBits k c) (crcBits-lt k c h)

@@ -1,7 +1,7 @@
--- Four bytes that go into the state at once.
+-- Four bytes that go into the state at once, and the check of two numbers before other bytes.
 use mathlib.Core.Path.{_≡_, refl, sym, ap, ap₂, _∙_}
-use mathlib.Core.List.{List}
-use Prim.Native.Nat.{ℕ, _+_, _/_, _%_, _^_, _≤_, _<_}
+use mathlib.Core.List.{List, _++_}
+use Prim.Native.Nat.{ℕ, _+_, _-_, _/_, _%_, _^_, _≤_, _<_}
 use native.Mathlib.Omega.{arith}
 use lib.Bits.{bitXor}
 use lib.ListN.{length, take, drop, take-append-drop}
@@ -9,8 +9,8 @@ use lib.Seq.{drop-drop}
 use Rattle.lists.specs.Bytes.{Bytes}
 use Rattle.endian.specs.Endian.{le32, u32At}
 use Rattle.endian.specs.EndianLaws.{le32-read}
-use Rattle.crc32c.specs.Crc.{crcBits, crcByte, crcBytes}
-use Rattle.crc32c.specs.CrcLaws.{crcBytes-append}
+use Rattle.crc32c.specs.Crc.{crcBits, crcByte, crcBytes, crcOf}
+use Rattle.crc32c.specs.CrcLaws.{crcBytes-append, crcOf-append}
 use Rattle.crc32c.specs.TableLaws.{low-byte}
 
 crcBytes-le32 : (c w : ℕ)
@@ -43,3 +43,10 @@ crcBytes-fours c s i h bytes =
     ap (crcBytes c) (sym (take-append-drop 4 (drop i s)))
     ∙ crcBytes-append c (take 4 (drop i s)) (drop 4 (drop i s))
     ∙ ap₂ crcBytes (ap (crcBytes c) (sym (le32-read s bytes i h))) (drop-drop 4 i s)
+
+-- two numbers, and then the bytes of s
+pub crcOf-words : (first second : ℕ) (s : List ℕ) → crcOf (le32 first ++ (le32 second ++ s))
+    ≡ 0xFFFFFFFF - crcBytes (crcBytes (crcBytes 0xFFFFFFFF (le32 first)) (le32 second)) s
+crcOf-words first second s =
+    crcOf-append (le32 first) (le32 second ++ s)
+    ∙ ap (λ (c : ℕ). 0xFFFFFFFF - c) (crcBytes-append (crcBytes 0xFFFFFFFF (le32 first)) (le32 second) s)

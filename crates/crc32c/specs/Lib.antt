@@ -5,3 +5,4 @@ pub mod Table
 pub mod XorLaws
 pub mod TableLaws
 pub mod FoursLaws
+pub mod InjectiveLaws

@@ -1,10 +1,10 @@
--- Exclusive or is associative, and two operands before a third change places.
+-- Exclusive or is associative, two operands before a third change places, and an operand on both sides is cancelled.
 use mathlib.Core.Path.{_≡_, refl, sym, ap, ap₂, _∙_}
 use Prim.Native.Nat.{ℕ, zero, suc, _+_, _*_, _/_, _%_, _<_}
 use native.Mathlib.Nat.{le-of-suc-le-suc, not-suc-le-zero, mod-lt, div-add-mod'}
 use lib.Arith.{bin-ind}
 use lib.Dec.{lit<}
-use lib.Bits.{bitXor, xor-comm, xor-shr, xor-mod}
+use lib.Bits.{bitXor, xor-comm, xor-self, xor-shr, xor-mod}
 
 -- of single binary digits
 digit-swap : (x y z : ℕ) → x < 2 → y < 2 → bitXor x (bitXor y z) ≡ bitXor y (bitXor x z)
@@ -35,3 +35,14 @@ xor-swap =
 
 pub xor-assoc : (a b c : ℕ) → bitXor (bitXor a b) c ≡ bitXor a (bitXor b c)
 xor-assoc a b c = xor-comm (bitXor a b) c ∙ xor-swap c a b ∙ ap (bitXor a) (xor-comm c b)
+
+-- the same number twice goes out
+xor-twice : (a b : ℕ) → bitXor a (bitXor a b) ≡ b
+xor-twice a b = sym (xor-assoc a a b) ∙ ap (λ (x : ℕ). bitXor x b) (xor-self a)
+
+-- an operand on both sides is cancelled
+pub xor-cancel-left : (a b c : ℕ) → bitXor a b ≡ bitXor a c → b ≡ c
+xor-cancel-left a b c e = sym (xor-twice a b) ∙ ap (bitXor a) e ∙ xor-twice a c
+
+pub xor-cancel-right : (a b c : ℕ) → bitXor b a ≡ bitXor c a → b ≡ c
+xor-cancel-right a b c e = xor-cancel-left a b c (xor-comm a b ∙ e ∙ xor-comm c a)

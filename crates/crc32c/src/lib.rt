@@ -4,6 +4,7 @@ mod table; // table.rt: what eight single-bit steps make of each byte
 use endian::get_u32;
 use table::byte_table;
 ghost use mathlib.Core.Path.{_≡_};
+ghost use mathlib.Core.List.{_++_};
 ghost use Prim.Native.Nat.{_*_, _/_};
 ghost use lib.ListN.{length, drop};
 ghost use Rattle.endian.specs.Endian.{le32};
@@ -46,14 +47,14 @@ fn take_fours(table: &[u32; 256], c: u32, s: &[u8]) -> u32
 }
 
 // The state `c` after the bytes of `s`.
-pub fn update(c: u32, s: &[u8]) -> u32
+fn update(table: &[u32; 256], c: u32, s: &[u8]) -> u32
+    requires { ⌜ now table ≡ byteTable ⌝ }
     ensures { λ r. ⌜ r ≡ crcBytes c (now (s .entry)) ⌝ }
 {
-    let table = byte_table();
-    let mut state = take_fours(&table, c, s);
+    let mut state = take_fours(table, c, s);
     let mut i = s.len() / 4 * 4;
     while i < s.len() {
-        state = shift_byte(&table, s[i] as u32 ^ state);
+        state = shift_byte(table, s[i] as u32 ^ state);
         i += 1;
     }
     state
@@ -63,5 +64,16 @@ pub fn update(c: u32, s: &[u8]) -> u32
 pub fn crc32c(s: &[u8]) -> u32
     ensures { λ r. ⌜ r ≡ crcOf (now (s .entry)) ⌝ }
 {
-    0xFFFF_FFFF - update(0xFFFF_FFFF, s)
+    let table = byte_table();
+    0xFFFF_FFFF - update(&table, 0xFFFF_FFFF, s)
+}
+
+// The check of two numbers and then `s`.
+pub fn crc32c_after(first: u32, second: u32, s: &[u8]) -> u32
+    ensures { λ r. ⌜ r ≡ crcOf (le32 first ++ (le32 second ++ now (s .entry))) ⌝ }
+{
+    let table = byte_table();
+    let one = take_four(&table, 0xFFFF_FFFF, first);
+    let two = take_four(&table, one, second);
+    0xFFFF_FFFF - update(&table, two, s)
 }

@@ -3,6 +3,9 @@ use Rattle.crc32c.specs.Crc.{crcOf}
 use Rattle.crc32c.proofs.crc32c.Statement.{statement}
 use Rattle.crc32c.proofs.crc32c.Tie as tie
 
+byte-table-requires : tie.Need-byte-table-requires
+byte-table-requires c κs = tt
+
 update-requires : tie.Need-update-requires
 update-requires c κs = search needs
 
@@ -14,4 +17,4 @@ unfolding crcOf
 returns c = cc
 
 pub crc32c-spec : {M : Type 1} → statement M
-crc32c-spec = tie.close (tie.spec update-requires sub-result returns)
+crc32c-spec = tie.close (tie.spec byte-table-requires update-requires sub-result returns)

@@ -8,16 +8,13 @@ use Rattle.crc32c.proofs.update.Statement.{statement}
 use Rattle.crc32c.proofs.update.Tie as tie
 
 abbrev Inv-loop : tie.InvT-loop
-Inv-loop c s table state₀ i₀ state i = (i ≤ length s) × (crcBytes c s ≡ crcBytes state (drop i s))
+Inv-loop table c s state₀ i₀ state i = (i ≤ length s) × (crcBytes c s ≡ crcBytes state (drop i s))
 
 abbrev μ-loop : tie.MeasureT-loop
-μ-loop c s table state₀ i₀ state i = length s - i
-
-byte-table-requires : tie.Need-byte-table-requires Inv-loop μ-loop
-byte-table-requires c κs = tt
+μ-loop table c s state₀ i₀ state i = length s - i
 
 take-fours-requires : tie.Need-take-fours-requires Inv-loop μ-loop
-take-fours-requires c κs = c .before .byte-table .ensures
+take-fours-requires c κs = c .before .pre
 
 mul-i : tie.Need-mul-i Inv-loop μ-loop
 mul-i c = omega arith
@@ -29,10 +26,10 @@ shared-slice-read-shift-byte : tie.Need-shared-slice-read-shift-byte Inv-loop μ
 shared-slice-read-shift-byte c = omega arith
 
 cast-shift-byte : tie.Need-cast-shift-byte Inv-loop μ-loop
-cast-shift-byte c = omega (arith, c .shared-slice-known2 .given (c .before .before .before .loop .i))
+cast-shift-byte c = omega (arith, c .shared-slice-known2 .given (c .before .before .loop .i))
 
 shift-byte-requires : tie.Need-shift-byte-requires Inv-loop μ-loop
-shift-byte-requires c κs = c .before .before .before .before .before .before .byte-table .ensures
+shift-byte-requires c κs = c .before .before .before .before .before .pre
 
 add-i : tie.Need-add-i Inv-loop μ-loop
 add-i c = omega arith
@@ -43,8 +40,8 @@ loop-less c = omega arith
 loop-again : tie.Need-loop-again Inv-loop μ-loop
 unfolding crcByte
 loop-again c =
-    let l = c .before .before .before .before .loop in
-    let s = c .before .before .before .before .before .before .before .before .before .args .s .now in (
+    let l = c .before .before .before .loop in
+    let s = c .before .before .before .before .before .before .args .s .now in (
       omega arith,
       l .inv .1
           ∙ crcBytes-drop (l .state) s (l .i) (omega arith)
@@ -54,7 +51,7 @@ loop-again c =
 returns : tie.Need-returns Inv-loop μ-loop
 returns c =
     let l = c .before .loop in
-    let s = c .before .before .before .before .before .before .args .s .now in
+    let s = c .before .before .before .before .args .s .now in
     cc (crcBytes-end (l .state) s (l .i) (omega arith))
 
 pub update-spec : {M : Type 1} → statement M
@@ -63,7 +60,6 @@ update-spec =
     (tie.spec
     Inv-loop
     μ-loop
-    byte-table-requires
     take-fours-requires
     mul-i
     loop-holds
