@@ -18,6 +18,7 @@ use words::standing_word;
 use words::verdict_word;
 use words::work_word;
 ghost use mathlib.Core.Path.{_≡_};
+ghost use Rattle.model.specs.Calls.{orderOf};
 ghost use Rattle.outcomes.specs.Outcomes.{verifyOutcome, formatOutcome, insertOutcome, removeOutcome};
 ghost use Rattle.outcomes.specs.Outcomes.{lookupOutcome, workOutcome};
 ghost use Rattle.amiqsovik.specs.Words.{answerWord, lookupWord, workWord, verdictWord};
@@ -32,11 +33,11 @@ pub extern "C" fn amiqsovik_verify(store: &[u8]) -> u64
 }
 
 #[no_mangle]
-pub extern "C" fn amiqsovik_format(store: &mut [u8], fill: u32) -> u64
-    ensures { λ r. ⌜ r ≡ answerWord (formatOutcome (now (store .entry)) (record { fill = fill }) .answer) ⌝ }
-    ensures { λ _. ⌜ now (store .exit) ≡ formatOutcome (now (store .entry)) (record { fill = fill }) .store ⌝ }
+pub extern "C" fn amiqsovik_format(store: &mut [u8], fill: u32, number: u32) -> u64
+    ensures { λ r. ⌜ r ≡ answerWord (formatOutcome (now (store .entry)) (orderOf fill number) .answer) ⌝ }
+    ensures { λ _. ⌜ now (store .exit) ≡ formatOutcome (now (store .entry)) (orderOf fill number) .store ⌝ }
 {
-    answer_word(format(store, Order { fill }))
+    answer_word(format(store, Order { fill, number }))
 }
 
 #[no_mangle]

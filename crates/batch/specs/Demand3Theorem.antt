@@ -2,7 +2,7 @@
 -- `run_batch` leaves exactly what `runs` says (Batch.antt); here its store, words and output are joined to the moments
 -- of the calls. The claim on moments is in Demand.antt of crate `model`, its proof for stores in
 -- Demand3Theorem.antt of crate `outcomes`.
-use mathlib.Core.Path.{_≡_, refl, sym, ap, _∙_}
+use mathlib.Core.Path.{_≡_, refl, sym, ap, _∙_, subst}
 use mathlib.Core.Bool.{true}
 use mathlib.Core.List.{List, _∷_, _++_}
 use mathlib.Core.Option.{Option, some}
@@ -10,7 +10,7 @@ use Prim.Native.Nat.{ℕ, suc, _+_, _≤_, _<_}
 use lib.ListN.{length, getD, set}
 use Rattle.lists.specs.Lists.{Each}
 use Rattle.model.specs.declared.Order.{Order}
-use Rattle.model.specs.Machine.{Call, formatting, accepted}
+use Rattle.model.specs.Machine.{Call, formatting, CallFits, accepted}
 use Rattle.model.specs.History.{Moment, start}
 use Rattle.model.specs.Demand.{Holds}
 use Rattle.image.specs.Decode.{decode}
@@ -18,10 +18,12 @@ use Rattle.outcomes.specs.Outcomes.{runStore, onStore}
 use Rattle.outcomes.specs.Demand3Theorem.{demand3-stores}
 use Rattle.batch.specs.Batch.{wordOf, storeAfter, outputAfter, Small, callAt, lentAt, Kept, ranAt, runs}
 use Rattle.batch.specs.Batch.{callsIn, momentsIn, momentAfter}
+use Rattle.batch.specs.CallLaws.{MayFit, fits-call}
 use Rattle.batch.specs.BatchLaws.{fits-calls, runs-next, last-each, moments-split, moment-store, runs-word}
 
 -- after an accepted format, n calls of any list, from call i on
-module _ (s : List ℕ) (o : Order) (ok : accepted (runStore (formatting o) s .reply) ≡ true)
+module _ (s : List ℕ) (o : Order) (fits : CallFits (formatting o))
+    (ok : accepted (runStore (formatting o) s .reply) ≡ true)
     (ws : List ℕ) (small : Small ws) (i n : ℕ) (output words : List ℕ) where
   abbrev first : Kept
   first = record { store = runStore (formatting o) s .state; output = output; words = words }
@@ -41,13 +43,13 @@ module _ (s : List ℕ) (o : Order) (ok : accepted (runStore (formatting o) s .r
 
   -- demand 3 holds at every moment of the calls
   pub demand3-batch : Each (Holds onStore decode) (opening ∷ momentsIn ws n i first opening)
-  demand3-batch = demand3-stores s o ok (callsIn ws n i first) (fits-calls ws small n i first)
+  demand3-batch = demand3-stores s o fits ok (callsIn ws n i first) (fits-calls ws small n i first)
 
   -- so it does after the first m calls
   pub batch-moment : (m : ℕ) → Holds onStore decode (reached m)
   batch-moment m =
       last-each (Holds onStore decode) opening (momentsIn ws m i first opening)
-      (demand3-stores s o ok (callsIn ws m i first) (fits-calls ws small m i first))
+      (demand3-stores s o fits ok (callsIn ws m i first) (fits-calls ws small m i first))
 
   -- and its store is the one that these calls leave
   pub batch-store : (m : ℕ) → reached m .state ≡ left m .store
@@ -85,3 +87,8 @@ batch-format ws n o k e =
       output = outputAfter c (lentAt ws 0) (k .store) (k .output);
       words = set (k .words) 0 (wordOf c (k .store));
     })) e
+
+-- whose numbers fit
+pub batch-fits : (ws : List ℕ) (o : Order) (output : List ℕ) → Small ws → callAt ws 0 output ≡ some (formatting o)
+    → CallFits (formatting o)
+batch-fits ws o output small e = subst MayFit e (fits-call _ _ _ _ output (small 1) (small 2) (small 3))

@@ -14,7 +14,7 @@ use Rattle.lists.specs.ListsLaws.{and-left, and-right, eqb-yes, eqb-no, eqb-eq}
 use Rattle.lists.specs.Block.{blocks, block}
 use Rattle.lists.specs.BlockLaws.{length-block}
 use Rattle.store.specs.declared.Change.{Change}
-use Rattle.store.specs.Store.{covered, sealed}
+use Rattle.store.specs.Store.{covered, sealed, numberAt}
 use Rattle.store.specs.CheckLaws.{sealed-cong}
 use Rattle.store.specs.ChangeLaws.{find-number}
 use Rattle.store.specs.Finish.{finished, resealed, Sealed}
@@ -86,20 +86,20 @@ module _ (s d : List ℕ) (whole : length s ≡ 512 * blocks s) (same : length d
       go true e = alike-eq _ _ e
       go false e = refl
 
-  pub resealed-trimmed : resealed (trimmed s d) ≡ resealed d
+  pub resealed-trimmed : (number : ℕ) → resealed number (trimmed s d) ≡ resealed number d
   unfolding resealed blocks
-  resealed-trimmed =
+  resealed-trimmed number =
       let e : length (trimmed s d) / 512 ≡ length d / 512 = omega (arith, length-trimmed) in
-      ap (λ (n : ℕ). bind (upFrom 0 n) (λ k. sealed (block (trimmed s d) k))) e
-      ∙ bind-run (λ k. sealed (block (trimmed s d) k)) (λ k. sealed (block d k)) 0 (length d / 512)
-      (λ k l h. sealed-cong (block (trimmed s d) k) (block d k) (covered-trimmed k (omega arith)))
+      ap (λ (n : ℕ). bind (upFrom 0 n) (λ k. sealed number k (block (trimmed s d) k))) e
+      ∙ bind-run (λ k. sealed number k (block (trimmed s d) k)) (λ k. sealed number k (block d k)) 0 (length d / 512)
+      (λ k l h. sealed-cong number k (block (trimmed s d) k) (block d k) (covered-trimmed k (omega arith)))
 
 -- ---- the change that makes it
 
 module _ {s d : List ℕ} {r : Change} {images′ : List ℕ} (t : Trimmed s d r images′) (same : length d ≡ length s) where
-  pub finished-trimmed : Sealed s → finished s r images′ ≡ resealed d
+  pub finished-trimmed : Sealed s → finished s r images′ ≡ resealed (numberAt s) d
   finished-trimmed sound =
-      finished-draft (t .draft) sound ∙ resealed-trimmed s d (t .draft .whole) same
+      finished-draft (t .draft) sound ∙ resealed-trimmed s d (t .draft .whole) same (numberAt s)
 
   -- a block that is altered is listed
   pub listed-altered : (k : ℕ) → k < blocks s → covered (block s k) ≢ covered (block d k) → Listed r k

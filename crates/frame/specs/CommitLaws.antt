@@ -1,5 +1,5 @@
 -- A change that names the altered blocks, with their images, makes the bytes of one index those of the other.
-use mathlib.Core.Path.{_≡_, sym, ap, _∙_, subst}
+use mathlib.Core.Path.{_≡_, sym, ap, ap₂, _∙_, subst}
 use mathlib.Core.Logic.{_≢_, _⊎_, inl, inr, ⊎-elim}
 use mathlib.Core.List.{List, [], _∷_}
 use Prim.Native.Nat.{ℕ, _*_, _<_}
@@ -35,17 +35,19 @@ frame-rest x y ks Named frame listed k no-name =
     ⊎-elim (λ n. ⊎-elim (λ a. absurd (no-name a)) (λ e. e) n) (frame k)
     (in-or-apart (λ (k : ℕ). Named k ⊎ (encodeBlock y k ≡ encodeBlock x k)) k ks listed)
 
-pub frame-commits : (x y : Index) → Laid x → Laid y → y .size ≡ x .size → (numbers images : List ℕ) (n : ℕ)
-    → Fits (encode x) numbers n → length images ≡ 4096
+pub frame-commits : (x y : Index) → Laid x → Laid y → y .size ≡ x .size → y .number ≡ x .number
+    → (numbers images : List ℕ) (n : ℕ) → Fits (encode x) numbers n → length images ≡ 4096
     → ((j : ℕ) → j < n → block images j ≡ sealedBlock y (getD numbers j 0))
     → ((k : ℕ) → ((j : ℕ) → j < n → getD numbers j 0 ≢ k) → encodeBlock y k ≡ encodeBlock x k)
     → commits (encode x) numbers images n ≡ encode y
 unfolding sealedBlock
-frame-commits x y l m same numbers images n fits eight named rest =
+frame-commits x y l m same alike numbers images n fits eight named rest =
     sym
     (commits-ext (encode x) numbers images n fits eight (x .size) (encode y) (length-encode x l)
     (length-encode y m ∙ ap (λ (k : ℕ). 512 * k) same)
     (λ j h. block-encode y m (getD numbers j 0) (omega (arith, fits .inside j h, length-encode x l, same))
     ∙ sym (named j h))
     (λ k h none.
-    block-encode y m k (omega (arith, h, same)) ∙ ap sealed (rest k none) ∙ sym (block-encode x l k h)))
+    block-encode y m k (omega (arith, h, same))
+    ∙ ap₂ (λ (i : ℕ) (b : List ℕ). sealed i k b) alike (rest k none)
+    ∙ sym (block-encode x l k h)))

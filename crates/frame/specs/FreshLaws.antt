@@ -39,7 +39,15 @@ moreSpares x = set (x .spares) (point (x .maxBucket)) (suc (topBit x))
 
 abbrev withSpares : Index → List ℕ → Index
 withSpares x sp =
-    record { size = x .size; fill = x .fill; maxBucket = x .maxBucket; spares = sp; job = x .job; chains = x .chains }
+    record {
+      size = x .size;
+      fill = x .fill;
+      number = x .number;
+      maxBucket = x .maxBucket;
+      spares = sp;
+      job = x .job;
+      chains = x .chains;
+    }
 
 module _ (x : Index) (n : ℕ) (ok : SparesOk (x .spares) (point (x .maxBucket)) n)
     (room : made (x .spares) (point (x .maxBucket)) < n) where

@@ -135,6 +135,7 @@ step-meta x y w j e s f =
           free = f i;
           size = frame .size i;
           spares = padded (s i);
+          number = frame .number i;
         }
 
 -- an entry put into a page with room, and a pair cut with no page left empty, leave the bitmap

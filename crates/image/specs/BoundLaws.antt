@@ -70,7 +70,7 @@ module _ (x : Index) (l : Laid x) where
       go none e = omega arith
       go (some n) e = omega (arith, free-bit x n e .2)
 
-  length-padded : length (padded (x .spares)) ≡ 16
+  pub length-padded : length (padded (x .spares)) ≡ 16
   unfolding padded
   length-padded = simp (length-append, length-replicate) (omega (arith, l .spares .points, laid-point x l))
 
@@ -114,6 +114,7 @@ meta-fits x w =
       size = omega (arith, l .size);
       sixteen = length-padded x l;
       words = words-fit x l;
+      number = l .number;
     }
 
 pub flags-small : (x : Index) (b : ℕ) → flagsOf x b < 2 ^ 16

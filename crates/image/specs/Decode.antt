@@ -37,6 +37,7 @@ readMeta l =
       free = u32At l 32;
       size = u32At l 36;
       spares = wordsAt l 40 16;
+      number = u32At l 104;
     }
 
 -- the blocks that the next fields lead to from block k
@@ -96,6 +97,7 @@ module _ (s : List ℕ) where
       record {
         size = blocks s;
         fill = metaAt .fill;
+        number = metaAt .number;
         maxBucket = maxAt;
         spares = sparesAt;
         job = jobFrom newFlags oldFlags;

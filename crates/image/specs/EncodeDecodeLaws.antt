@@ -168,6 +168,7 @@ module _ (x : Index) (w : WF x) where
       record {
         size = blocks-encode x l i;
         fill = meta-encode x w i .fill;
+        number = meta-encode x w i .number;
         maxBucket = max-encode x w i;
         spares = spares-encode x w i;
         job = job-encode i;

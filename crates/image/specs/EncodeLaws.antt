@@ -1,6 +1,6 @@
 -- The bytes of a laid-out index, block by block: each has 512 bytes, its check is right, and its body is the image of
 -- the block's role.
-use mathlib.Core.Path.{_≡_, refl, ap, _∙_}
+use mathlib.Core.Path.{_≡_, refl, ap, ap₂, _∙_}
 use mathlib.Core.Bool.{Bool, true, false, cond, not}
 use mathlib.Core.List.{List, [], _∷_, map}
 use mathlib.Core.Option.{Option, none, some}
@@ -15,14 +15,16 @@ use Rattle.lists.specs.Bytes.{Bytes}
 use Rattle.lists.specs.BytesLaws.{Bytes-append}
 use Rattle.lists.specs.Block.{blocks, block}
 use Rattle.lists.specs.BlockLaws.{length-bind, block-bind}
+use Rattle.endian.specs.Endian.{u32At}
 use Rattle.address.specs.Limits.{maxBlocks}
 use Rattle.address.specs.Address.{point, bucketBlock, bitBlock}
 use Rattle.address.specs.Role.{Role, meta, bucketPage, bitPage, unmade, roleOf}
+use Rattle.address.specs.RoleLaws.{role-meta}
 use Rattle.address.specs.BlockLaws.{point-pos, bit-made, bucket-made}
 use Rattle.page.specs.declared.Entry.{Entry}
 use Rattle.page.specs.Entries.{encodePage}
 use Rattle.page.specs.PageLaws.{Bytes-encodePage}
-use Rattle.store.specs.Store.{covered, checks, checked}
+use Rattle.store.specs.Store.{covered, checks, numberAt, checked}
 use Rattle.store.specs.CheckLaws.{covered-whole, length-sealed, covered-sealed, checks-sealed, Bytes-sealed}
 use Rattle.model.specs.Index.{Page, Chain, noChain, Index, chain, topBit}
 use Rattle.model.specs.Pages.{bitsOf, isFree}
@@ -55,12 +57,13 @@ use Rattle.image.specs.PagedLaws.{
   Bytes-paged,
   length-blank,
   Bytes-blank,
+  paged-parts,
 }
-use Rattle.image.specs.MetaLaws.{Bytes-metaFront}
+use Rattle.image.specs.MetaLaws.{Bytes-metaFront, number-metaFront}
 use Rattle.image.specs.BitmapLaws.{length-mapFront, Bytes-mapFront}
 use Rattle.image.specs.PageOkLaws.{length-pageFront}
 use Rattle.image.specs.LinkedLaws.{hasBit}
-use Rattle.image.specs.BoundLaws.{max-under, length-meta}
+use Rattle.image.specs.BoundLaws.{max-under, length-padded, length-meta}
 
 -- ---- a body
 
@@ -192,7 +195,7 @@ module _ (x : Index) (l : Laid x) where
   -- a block with its check
   full : (k : ℕ) → length (sealedBlock x k) ≡ 512
   unfolding sealedBlock
-  full k = length-sealed (encodeBlock x k) (omega (arith, block-whole k .full))
+  full k = length-sealed _ k (encodeBlock x k) (omega (arith, block-whole k .full))
 
   pub length-encode : length (encode x) ≡ 512 * x .size
   unfolding encode
@@ -213,13 +216,28 @@ module _ (x : Index) (l : Laid x) where
   covered-encode k h =
       let b = block-whole k .full in
       ap covered (block-encode k h)
-      ∙ covered-sealed (encodeBlock x k) (omega arith)
+      ∙ covered-sealed _ k (encodeBlock x k) (omega arith)
       ∙ covered-whole (encodeBlock x k) b
+
+  pub meta-block : covered (block (encode x) 0) ≡ paged (metaFront (metaOf x)) noLink noLink noLink 8
+  unfolding encodeBlock image
+  meta-block =
+      covered-encode 0 (omega (arith, laid-size x l))
+      ∙ ap (image x) (role-meta sp s (x .size) (l .spares) (point-pos (x .maxBucket)))
+
+  pub number-encode : numberAt (encode x) ≡ x .number
+  unfolding numberAt metaOf
+  number-encode =
+      let front : List ℕ = metaFront (metaOf x) in
+      ap (λ (b : List ℕ). u32At b 104)
+      (paged-parts front (length-meta x l) noLink noLink noLink 8 (block (encode x) 0) meta-block)
+      ∙ number-metaFront (metaOf x) _ (length-padded x l) (l .number)
 
   pub checked-encode : (k : ℕ) → k < x .size → checked (encode x) k ≡ true
   unfolding checked sealedBlock
   checked-encode k h =
-      ap checks (block-encode k h) ∙ checks-sealed (encodeBlock x k) (omega (arith, block-whole k .full))
+      ap₂ (λ (n : ℕ) (b : List ℕ). checks n k b) number-encode (block-encode k h)
+      ∙ checks-sealed (x .number) k (encodeBlock x k) (omega (arith, block-whole k .full))
 
   pub Bytes-encode : Bytes (encode x)
   unfolding encode
@@ -229,7 +247,7 @@ module _ (x : Index) (l : Laid x) where
       go i zero = λ j. omega arith
       go i (suc n) =
           Bytes-append (sealedBlock x i) (bind (upFrom (suc i) n) (sealedBlock x))
-          (unfold sealedBlock in Bytes-sealed (encodeBlock x i) (block-whole i .bytes))
+          (unfold sealedBlock in Bytes-sealed _ i (encodeBlock x i) (block-whole i .bytes))
           (go (suc i) n)
 
   pub lengthOk-encode : lengthOk (encode x) ≡ true

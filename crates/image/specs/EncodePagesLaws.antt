@@ -14,7 +14,7 @@ use Rattle.lists.specs.Block.{block}
 use Rattle.endian.specs.Endian.{u16At}
 use Rattle.address.specs.Address.{lastSplit, point, bucketBlock, bitBlock}
 use Rattle.address.specs.Role.{Role, bucketPage, bitPage, roleOf}
-use Rattle.address.specs.RoleLaws.{role-meta, role-bucket, role-bit}
+use Rattle.address.specs.RoleLaws.{role-bucket, role-bit}
 use Rattle.address.specs.BlockLaws.{point-pos}
 use Rattle.page.specs.declared.Entry.{Entry}
 use Rattle.page.specs.Entries.{encodePage, entriesOf}
@@ -24,7 +24,7 @@ use Rattle.page.specs.RuleLaws.{pageOk-encodePage}
 use Rattle.store.specs.Store.{prevAt, nextAt, bucketAt, flagsAt, idAt, covered}
 use Rattle.model.specs.Index.{Page, Index, chain, topBit}
 use Rattle.model.specs.WellFormed.{PageOk, Laid, WF}
-use Rattle.model.specs.BoundLaws.{laid-room, laid-size, bits-le}
+use Rattle.model.specs.BoundLaws.{laid-room, bits-le}
 use Rattle.image.specs.declared.Meta.{Meta}
 use Rattle.image.specs.Layout.{
   paged,
@@ -50,7 +50,7 @@ use Rattle.image.specs.MetaLaws.{readMeta-metaFront}
 use Rattle.image.specs.PageOkLaws.{page-allowed, encodePage-append, length-pageFront}
 use Rattle.image.specs.LinkedLaws.{hasBit, linked-uses, Found, found-each, each-chain}
 use Rattle.image.specs.BoundLaws.{max-under, max-small, length-meta, meta-fits, flags-small, last-le, bits-part}
-use Rattle.image.specs.EncodeLaws.{bit-inside, bucket-inside, LinkedOk, linked-ok, covered-encode}
+use Rattle.image.specs.EncodeLaws.{bit-inside, bucket-inside, LinkedOk, linked-ok, covered-encode, meta-block}
 
 -- ---- what a page of entries holds
 
@@ -98,15 +98,10 @@ module _ (x : Index) (w : WF x) where
 
   -- ---- the meta block
 
-  pub meta-block : covered (block (encode x) 0) ≡ paged (metaFront (metaOf x)) noLink noLink noLink 8
-  unfolding encodeBlock image
-  meta-block =
-      covered-encode x l 0 (omega (arith, laid-size x l))
-      ∙ ap (image x) (role-meta sp s (x .size) (l .spares) (point-pos (x .maxBucket)))
-
   pub meta-encode : metaAt (encode x) ≡ metaOf x
   meta-encode =
-      ap readMeta (paged-parts (metaFront (metaOf x)) (length-meta x l) noLink noLink noLink 8 (block e 0) meta-block)
+      ap readMeta
+      (paged-parts (metaFront (metaOf x)) (length-meta x l) noLink noLink noLink 8 (block e 0) (meta-block x l))
       ∙ readMeta-metaFront (metaOf x) _ (meta-fits x w)
 
   pub max-encode : maxAt (encode x) ≡ x .maxBucket

@@ -45,8 +45,8 @@ use Rattle.image.specs.MetaLaws.{frontOk-metaFront}
 use Rattle.image.specs.BoundLaws.{length-meta, meta-fits}
 use Rattle.image.specs.PairRuleLaws.{placed-distinct, placed-all, placed-copied}
 use Rattle.image.specs.VerdictLaws.{Passes, passes-verdict}
-use Rattle.image.specs.EncodeLaws.{blocks-encode, checked-encode}
-use Rattle.image.specs.EncodePagesLaws.{meta-block, meta-encode, max-encode, blockOf-encode, chain-is}
+use Rattle.image.specs.EncodeLaws.{blocks-encode, meta-block, checked-encode}
+use Rattle.image.specs.EncodePagesLaws.{meta-encode, max-encode, blockOf-encode, chain-is}
 use Rattle.image.specs.EncodeDecodeLaws.{decode-encode}
 use Rattle.image.specs.EncodeFitsLaws.{rule3-encode}
 use Rattle.image.specs.EncodeChainsLaws.{rule4-encode, pages-encode}
@@ -68,7 +68,7 @@ module _ (x : Index) (w : WF x) where
   unfolding rule1 metaOf
   rule1-encode =
       ap₂ frontOk (blocks-encode x l)
-      (paged-parts (metaFront (metaOf x)) (length-meta x l) noLink noLink noLink 8 (block e 0) (meta-block x w))
+      (paged-parts (metaFront (metaOf x)) (length-meta x l) noLink noLink noLink 8 (block e 0) (meta-block x l))
       ∙ frontOk-metaFront (metaOf x) _ (meta-fits x w)
 
   padded-at : (i : ℕ) → i ≤ s → getD (padded (x .spares)) i 0 ≡ getD (x .spares) i 0

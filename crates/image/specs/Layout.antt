@@ -32,12 +32,13 @@ blank = replicate 508 0
 -- ---- meta
 
 -- "magic 0x06440640 at 0, edition 512 at 4, count of held pairs at 8, fill (u16) at 12, max bucket at 16, high mask
--- 20, low mask 24, overflow point 28, first free 32, N at 36, spares[0..15] from 40. All else zero"
+-- 20, low mask 24, overflow point 28, first free 32, N at 36, spares[0..15] from 40, store number at 104. All else
+-- zero"
 unfoldable pub metaFront : Meta → List ℕ
 metaFront m =
     le32 0x06440640 ++ (le32 512 ++ (le32 (m .count) ++ (le16 (m .fill) ++ (le16 0 ++ (le32 (m .max) ++ (le32 (m .high)
     ++ (le32 (m .low) ++ (le32 (m .point) ++ (le32 (m .free) ++ (le32 (m .size)
-    ++ (bind (m .spares) le32 ++ replicate 388 0)))))))))))
+    ++ (bind (m .spares) le32 ++ (le32 (m .number) ++ replicate 384 0))))))))))))
 
 -- spares[0..15]: those up to s, and zeros
 unfoldable pub padded : List ℕ → List ℕ
@@ -56,6 +57,7 @@ metaOf x =
       free = firstFree x;
       size = x .size;
       spares = padded (x .spares);
+      number = x .number;
     }
 
 -- ---- bitmap
@@ -138,7 +140,7 @@ encodeBlock x k = image x (roleOf (x .spares) (point (x .maxBucket)) k)
 
 -- block k, with its check
 unfoldable pub sealedBlock : Index → ℕ → List ℕ
-sealedBlock x k = sealed (encodeBlock x k)
+sealedBlock x k = sealed (x .number) k (encodeBlock x k)
 
 unfoldable pub encode : Index → List ℕ
 encode x = bind (upFrom 0 (x .size)) (sealedBlock x)

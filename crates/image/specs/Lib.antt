@@ -11,6 +11,7 @@ pub mod LinkedLaws
 pub mod BoundLaws
 pub mod PageOkLaws
 pub mod EncodeLaws
+pub mod NumberLaws
 pub mod EncodePagesLaws
 pub mod EncodeDecodeLaws
 pub mod EncodeFitsLaws

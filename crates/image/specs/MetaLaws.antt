@@ -74,6 +74,7 @@ pub record MetaFits (m : Meta) : Type 0 where
   pub size : m .size < 2 ^ 32
   pub sixteen : length (m .spares) ≡ 16
   pub words : Words (m .spares)
+  pub number : m .number < 2 ^ 32
 
 module _ (m : Meta) where
   -- the fields before the spares
@@ -83,23 +84,25 @@ module _ (m : Meta) where
       ++ (le32 512 ++ (le32 (m .count) ++ (le16 (m .fill) ++ (le16 0 ++ (le32 (m .max) ++ (le32 (m .high)
       ++ (le32 (m .low) ++ (le32 (m .point) ++ (le32 (m .free) ++ le32 (m .size))))))))))
 
-  head-front : (q : List ℕ) → metaFront m ++ q ≡ head ++ (bind (m .spares) le32 ++ (replicate 388 0 ++ q))
+  head-front : (q : List ℕ)
+      → metaFront m ++ q ≡ head ++ (bind (m .spares) le32 ++ (le32 (m .number) ++ (replicate 384 0 ++ q)))
   unfolding metaFront head le32 le16
-  head-front q = ap (λ (l : List ℕ). head ++ l) (append-assoc (bind (m .spares) le32) (replicate 388 0) q)
+  head-front q =
+      ap (λ (l : List ℕ). head ++ l) (append-assoc (bind (m .spares) le32) (le32 (m .number) ++ replicate 384 0) q)
 
   pub length-metaFront : length (m .spares) ≡ 16 → length (metaFront m) ≡ 492
   unfolding metaFront le32 le16
   length-metaFront h =
-      let a = length-append (bind (m .spares) le32) (replicate 388 0) in
-      omega (arith, a, length-words (m .spares), length-replicate {A = ℕ} 388 0)
+      let a = length-append (bind (m .spares) le32) (le32 (m .number) ++ replicate 384 0) in
+      omega (arith, a, length-words (m .spares), length-replicate {A = ℕ} 384 0)
 
   pub Bytes-metaFront : Bytes (metaFront m)
   unfolding metaFront
   Bytes-metaFront =
       word 0x06440640 _ (word 512 _ (word (m .count) _ (half (m .fill) _ (half 0 _ (word (m .max) _ (word (m .high) _
       (word (m .low) _ (word (m .point) _ (word (m .free) _ (word (m .size) _
-      (Bytes-append (bind (m .spares) le32) (replicate 388 0) (Bytes-words (m .spares))
-      (Bytes-replicate 388))))))))))))
+      (Bytes-append (bind (m .spares) le32) (le32 (m .number) ++ replicate 384 0) (Bytes-words (m .spares))
+      (word (m .number) _ (Bytes-replicate 384)))))))))))))
     where
       word : (v : ℕ) (l : List ℕ) → Bytes l → Bytes (le32 v ++ l)
       word v l b = Bytes-append (le32 v) l (Bytes-le32 v) b
@@ -107,12 +110,25 @@ module _ (m : Meta) where
       half : (v : ℕ) (l : List ℕ) → Bytes l → Bytes (le16 v ++ l)
       half v l b = Bytes-append (le16 v) l (Bytes-le16 v) b
 
+  pub number-metaFront : (q : List ℕ) → length (m .spares) ≡ 16 → m .number < 2 ^ 32
+      → u32At (metaFront m ++ q) 104 ≡ m .number
+  unfolding head u32At le32 le16
+  number-metaFront q sixteen f =
+      let ws : List ℕ = bind (m .spares) le32 in
+      let rest : List ℕ = le32 (m .number) ++ (replicate 384 0 ++ q) in
+      let at : 104 ≡ length (head ++ ws) + 0 =
+      omega (arith, length-append head ws, length-words (m .spares), sixteen) in
+      ap (λ (l : List ℕ). u32At l 104) (head-front q ∙ sym (append-assoc head ws rest))
+      ∙ ap (u32At (head ++ ws ++ rest)) at
+      ∙ u32At-shift (head ++ ws) rest 0
+      ∙ u32At-le32 (m .number) f
+
   pub readMeta-metaFront : (q : List ℕ) → MetaFits m → readMeta (metaFront m ++ q) ≡ m
   unfolding readMeta metaFront head u32At u16At le32 le16
   readMeta-metaFront q f =
       let ws : wordsAt (metaFront m ++ q) 40 16 ≡ m .spares =
       ap₂ (λ (l : List ℕ) (n : ℕ). wordsAt l 40 n) (head-front q) (sym (f .sixteen))
-      ∙ wordsAt-words (m .spares) head (replicate 388 0 ++ q) 40 (f .words) refl in
+      ∙ wordsAt-words (m .spares) head (le32 (m .number) ++ (replicate 384 0 ++ q)) 40 (f .words) refl in
       λ i. record {
         count = u32At-le32 (m .count) (f .count) i;
         fill = u16At-le16 (m .fill) (f .fill) i;
@@ -123,19 +139,24 @@ module _ (m : Meta) where
         free = u32At-le32 (m .free) (f .free) i;
         size = u32At-le32 (m .size) (f .size) i;
         spares = ws i;
+        number = number-metaFront q (f .sixteen) (f .number) i;
       }
 
   pub frontOk-metaFront : (q : List ℕ) → MetaFits m → frontOk (m .size) (metaFront m ++ q) ≡ true
   unfolding frontOk metaFront head u32At le32 le16 part allZero
   frontOk-metaFront q f =
-      let zeros : part 104 492 (metaFront m ++ q) ≡ replicate 388 0 =
-      ap (part 104 492) (head-front q)
-      ∙ part-at (bind (m .spares) le32) (replicate 388 0) q 64 452
-      (length-words (m .spares) ∙ omega (arith, f .sixteen)) (omega (arith, length-replicate {A = ℕ} 388 0)) in
+      let ws : List ℕ = bind (m .spares) le32 in
+      let number : List ℕ = le32 (m .number) in
+      let zeros : part 108 492 (metaFront m ++ q) ≡ replicate 384 0 =
+      ap (part 108 492)
+      (head-front q ∙ ap (λ (l : List ℕ). head ++ l) (sym (append-assoc ws number (replicate 384 0 ++ q))))
+      ∙ part-at (ws ++ number) (replicate 384 0) q 68 452
+      (length-append ws number ∙ omega (arith, length-words (m .spares), f .sixteen))
+      (omega (arith, length-replicate {A = ℕ} 384 0)) in
       and-both _ _ (eq-eqb (u32At (metaFront m ++ q) 0) 0x06440640 refl)
       (and-both _ _ (eq-eqb (u32At (metaFront m ++ q) 4) 512 refl)
       (and-both _ _ (eq-eqb (u32At (metaFront m ++ q) 36) (m .size) (u32At-le32 (m .size) (f .size)))
-      (and-both _ _ refl (ap allZero zeros ∙ replicate-allZero 388))))
+      (and-both _ _ refl (ap allZero zeros ∙ replicate-allZero 384))))
 
 -- ---- what was read is written
 
@@ -160,7 +181,7 @@ module _ (l : List ℕ) (bytes : Bytes l) (full : length l ≡ 512) where
     edition : u32At l 4 ≡ 512
     size : u32At l 36 ≡ n
     gap : part 14 16 l ≡ le16 0
-    rest : part 104 492 l ≡ replicate 388 0
+    rest : part 108 492 l ≡ replicate 384 0
 
   front-is : (n : ℕ) → frontOk n l ≡ true → Front n
   unfolding frontOk le16
@@ -173,7 +194,7 @@ module _ (l : List ℕ) (bytes : Bytes l) (full : length l ≡ 512) where
         edition = eqb-true _ _ (and-left (eqb (u32At l 4) 512) _ h₁);
         size = eqb-true _ _ (and-left (eqb (u32At l 36) n) _ h₂);
         gap = zeros 14 16 (omega arith) (and-left (allZero (part 14 16 l)) _ h₃);
-        rest = zeros 104 492 (omega arith) (and-right (allZero (part 14 16 l)) _ h₃);
+        rest = zeros 108 492 (omega arith) (and-right (allZero (part 14 16 l)) _ h₃);
       }
     where
       zeros : (a e : ℕ) → e ≤ 512 → allZero (part a e l) ≡ true → part a e l ≡ replicate (e - a) 0
@@ -189,7 +210,8 @@ module _ (l : List ℕ) (bytes : Bytes l) (full : length l ≡ 512) where
       let f = front-is n h in
       let word : (i : ℕ) → i + 4 ≤ 512 → le32 (u32At l i) ≡ take 4 (drop i l) =
       λ i k. le32-read l bytes i (omega arith) in
-      let t₄₀ = join 40 104 492 (omega arith) (omega arith) (words-wordsAt 16 40 (omega arith)) (sym (f .rest)) in
+      let t₁₀₄ = join 104 108 492 (omega arith) (omega arith) (word 104 (omega arith)) (sym (f .rest)) in
+      let t₄₀ = join 40 104 492 (omega arith) (omega arith) (words-wordsAt 16 40 (omega arith)) t₁₀₄ in
       let t₃₆ = join 36 40 492 (omega arith) (omega arith) (word 36 (omega arith)) t₄₀ in
       let t₃₂ = join 32 36 492 (omega arith) (omega arith) (word 32 (omega arith)) t₃₆ in
       let t₂₈ = join 28 32 492 (omega arith) (omega arith) (word 28 (omega arith)) t₃₂ in

@@ -33,11 +33,11 @@ lengthOk s = eqb (length s % 512) 0 && sizeOk (blocks s)
 
 -- ---- rules 1 and 2, of the meta block's bytes and fields
 
--- (1) "magic, edition, N, zero bytes of meta": those that no field has, 14..15 and 104..491
+-- (1) "magic, edition, N, zero bytes of meta": those that no field has, 14..15 and 108..491
 unfoldable pub frontOk : (size : ℕ) → List ℕ → Bool
 frontOk n l =
     eqb (u32At l 0) 0x06440640
-    && (eqb (u32At l 4) 512 && (eqb (u32At l 36) n && (allZero (part 14 16 l) && allZero (part 104 492 l))))
+    && (eqb (u32At l 4) 512 && (eqb (u32At l 36) n && (allZero (part 14 16 l) && allZero (part 108 492 l))))
 
 -- "spares[0] zero, spares[1..s] at least 1 and not falling, zero above s"
 unfoldable pub sparesOk : (s : ℕ) → List ℕ → Bool

@@ -15,7 +15,7 @@ use Rattle.lists.specs.Block.{blocks, block}
 use Rattle.address.specs.Address.{lastSplit, point, bitBlock}
 use Rattle.address.specs.Role.{Role, meta, bucketPage, bitPage, unmade, RoleIs}
 use Rattle.page.specs.Entries.{encodePage}
-use Rattle.store.specs.Store.{prevAt, nextAt, bucketAt, flagsAt, idAt, covered}
+use Rattle.store.specs.Store.{prevAt, nextAt, bucketAt, flagsAt, idAt, covered, numberAt}
 use Rattle.store.specs.CheckLaws.{sealed-body, block-checked}
 use Rattle.model.specs.Index.{Chain, Index, chain}
 use Rattle.model.specs.Held.{count}
@@ -87,6 +87,7 @@ module _ (s : List ℕ) (g : SoundBytes s) where
         free = sym (free-read s g) i;
         size = sym size i;
         spares = sym (f .padding) i;
+        number = metaAt s .number;
       }
 
   meta-read : take 492 (block s 0) ≡ metaFront (metaOf x)
@@ -184,8 +185,8 @@ module _ (s : List ℕ) (g : SoundBytes s) where
   covered-decode k h = image-at k (block-ok s g k h) (roleAt s k) (role-at s g k) refl
 
   pub block-decode : (k : ℕ) → k < blocks s → block s k ≡ sealedBlock (decode s) k
-  unfolding sealedBlock decode
+  unfolding sealedBlock decode numberAt readMeta
   block-decode k h =
       let w = block-ok s g k h in
       block-checked s k (g .bytes) (w .place) (w .check)
-      ∙ sealed-body (block s k) (encodeBlock (decode s) k) (covered-decode k h)
+      ∙ sealed-body (numberAt s) k (block s k) (encodeBlock (decode s) k) (covered-decode k h)

@@ -10,7 +10,8 @@ use Rattle.lists.specs.Lists.{all, Each}
 use Rattle.lists.specs.ListsLaws.{and-left, and-right}
 use Rattle.lists.specs.RunLaws.{length-run}
 use Rattle.lists.specs.Block.{blocks, block}
-use Rattle.lists.specs.BlockLaws.{blocks-ext}
+use Rattle.lists.specs.BlockLaws.{blocks-ext, Bytes-block}
+use Rattle.endian.specs.EndianLaws.{u32At-lt}
 use Rattle.page.specs.declared.Pair.{Pair}
 use Rattle.page.specs.declared.Entry.{Entry}
 use Rattle.page.specs.Entries.{entriesOf}
@@ -21,7 +22,7 @@ use Rattle.model.specs.Index.{noChain, Index, chain, entriesAt, bucket, newBuck
 use Rattle.model.specs.WellFormed.{PageOk, MoreOk, ChainOk, Laid, PlacedIn, WF}
 use Rattle.model.specs.ChainOkLaws.{noChain-ok}
 use Rattle.image.specs.Layout.{encode}
-use Rattle.image.specs.Decode.{maxAt, blockOf, trail, readPage, readChain, decode}
+use Rattle.image.specs.Decode.{readMeta, maxAt, blockOf, trail, readPage, readChain, decode}
 use Rattle.image.specs.Rules.{placed, buckets, rule5, rule7}
 use Rattle.image.specs.PageOkLaws.{allowed-page}
 use Rattle.image.specs.PairRuleLaws.{rules-placed}
@@ -73,6 +74,7 @@ module _ (s : List ℕ) (g : SoundBytes s) where
   decode-laid =
       let f = fields s g in
       record {
+        number = unfold readMeta in u32At-lt (block s 0) (Bytes-block s 0 (g .bytes)) 104;
         size = g .small;
         fillLow = f .fillLow;
         fillHigh = f .fillHigh;

@@ -10,6 +10,7 @@ pub struct Meta {
     pub free: u32,
     pub size: u32,
     pub spares: [u32; 16],
+    pub number: u32,
 }
 
 pub enum Verdict {

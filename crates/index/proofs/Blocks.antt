@@ -13,9 +13,10 @@ use Rattle.endian.specs.Endian.{le16, le32}
 use Rattle.store.specs.Store.{sealed}
 use Rattle.store.specs.Change.{Fits, commits, seals, copies}
 use Rattle.store.specs.ChangeLaws.{block-seals}
-use Rattle.store.specs.Finish.{finished}
+use Rattle.store.specs.Finish.{finishedAs}
 use Rattle.store.specs.CheckLaws.{length-sealed}
 use Rattle.store.specs.Flags.{noLink}
+use Rattle.model.specs.declared.Order.{Order}
 use Rattle.outcomes.specs.Format.{formatMeta, formatBlock}
 use Rattle.image.specs.PagedLaws.{length-paged, length-blank}
 
@@ -31,17 +32,18 @@ fits-one s numbers h =
     inside (suc j) l = absurd (omega arith)
 
 -- its image sealed and stored
-pub finished-one : (s numbers zeros body images : List ℕ) → length zeros ≡ 4096 → length body ≡ 512
+pub finished-one : (number : ℕ) (s numbers zeros body images : List ℕ) → length zeros ≡ 4096 → length body ≡ 512
     → images ≡ setBlock zeros 0 body
-    → finished s (record { count = 1; numbers = numbers }) images ≡ setBlock s (getD numbers 0 0) (sealed body)
-unfolding finished commits copies
-finished-one s numbers zeros body images lz lb e =
+    → finishedAs number s (record { count = 1; numbers = numbers }) images
+    ≡ setBlock s (getD numbers 0 0) (sealed number (getD numbers 0 0) body)
+unfolding finishedAs commits copies
+finished-one number s numbers zeros body images lz lb e =
     let fits : 512 * 0 + 512 ≤ length zeros = omega arith in
     let l : length (setBlock zeros 0 body) ≡ length zeros = length-setBlock zeros 0 body fits lb in
     ap (setBlock s (getD numbers 0 0))
-    (ap (λ (x : List ℕ). block (seals x 1) 0) e
-    ∙ block-seals (setBlock zeros 0 body) 1 (omega arith) 0 (omega arith)
-    ∙ ap sealed (block-same zeros 0 body fits lb))
+    (ap (λ (x : List ℕ). block (seals number numbers x 1) 0) e
+    ∙ block-seals number numbers (setBlock zeros 0 body) 1 (omega arith) 0 (omega arith)
+    ∙ ap (sealed number (getD numbers 0 0)) (block-same zeros 0 body fits lb))
 
 -- ---- all blocks, which f gives
 
@@ -62,13 +64,14 @@ module _ (f : ℕ → List ℕ) (whole : (k : ℕ) → length (f k) ≡ 512) whe
       blocks-ext n s (bind (upFrom 0 n) f) ls (length-bind f whole 0 n)
       (λ k lt. h k lt ∙ ap f (sym (zero-add k)) ∙ sym (block-bind f whole 0 n k lt))
 
-length-formatBlock : (n fill k : ℕ) → length (formatBlock n fill k) ≡ 508
+length-formatBlock : (n : ℕ) (o : Order) (k : ℕ) → length (formatBlock n o k) ≡ 508
 unfolding formatBlock formatMeta le16 le32
-length-formatBlock n fill zero = length-paged (formatMeta n fill) refl noLink noLink noLink 8
-length-formatBlock n fill (suc zero) = length-paged (replicate 492 0) refl 1 noLink 0 2
-length-formatBlock n fill (suc (suc zero)) = length-paged (replicate 492 0) refl 1 noLink 1 2
-length-formatBlock n fill (suc (suc (suc zero))) = length-paged _ refl noLink noLink noLink 4
-length-formatBlock n fill (suc (suc (suc (suc k)))) = length-blank
+length-formatBlock n o zero = length-paged (formatMeta n o) refl noLink noLink noLink 8
+length-formatBlock n o (suc zero) = length-paged (replicate 492 0) refl 1 noLink 0 2
+length-formatBlock n o (suc (suc zero)) = length-paged (replicate 492 0) refl 1 noLink 1 2
+length-formatBlock n o (suc (suc (suc zero))) = length-paged _ refl noLink noLink noLink 4
+length-formatBlock n o (suc (suc (suc (suc k)))) = length-blank
 
-pub length-formatted : (n fill k : ℕ) → length (sealed (formatBlock n fill k)) ≡ 512
-length-formatted n fill k = length-sealed (formatBlock n fill k) (omega (arith, length-formatBlock n fill k))
+pub length-formatted : (n : ℕ) (o : Order) (k : ℕ) → length (sealed (o .number) k (formatBlock n o k)) ≡ 512
+length-formatted n o k =
+    length-sealed (o .number) k (formatBlock n o k) (omega (arith, length-formatBlock n o k))

@@ -16,6 +16,7 @@ use Rattle.model.specs.Index.{Index}
 use Rattle.model.specs.Steps.{Step, next, stopped, Worked, step, iterate}
 use Rattle.model.specs.Calls.{Result}
 use Rattle.model.specs.WellFormed.{WF}
+use Rattle.model.specs.BoundLaws.{laid-size}
 use Rattle.model.specs.StepLaws.{step-wf}
 use Rattle.model.specs.MachineLaws.{never}
 use Rattle.image.specs.Layout.{encode}
@@ -25,9 +26,13 @@ use Rattle.outcomes.specs.Outcomes.{changed, stepOn, stepOutcome}
 use Rattle.plan.specs.declared.Advance.{Advance}
 use Rattle.plan.specs.Plan.{Settles, accepted, declined, Advances, advanced, halted}
 use Rattle.plan.specs.PlanLaws.{fits-none}
-use Rattle.view.specs.ReadsLaws.{encode-reads}
+use Rattle.view.specs.ReadsLaws.{reads-laid, reads-size, reads-whole, encode-reads}
 use Rattle.split.specs.Seek.{From, Leads}
 use Rattle.index.specs.Sound.{Sound, Stepped, moved, stayed, workedBy}
+
+-- a sound store has a first block
+pub sound-first : {s : List ℕ} → Sound s → 512 ≤ length s
+sound-first {s} r = reads-whole r 0 (omega (arith, laid-size (decode s) (reads-laid r), reads-size r))
 
 module _ {s : List ℕ} {c : Change} {images : List ℕ} where
   -- ---- a call

@@ -7,7 +7,7 @@ use model::Answer;
 use model::Order;
 use model::Refusal;
 use store::Change;
-use store::finish;
+use store::finish_as;
 use store::flags::BITMAP;
 use store::flags::BUCKET;
 use store::flags::META;
@@ -31,9 +31,11 @@ ghost use Rattle.chain.specs.Walk.{Sized};
 
 // The blocks of a new store, without their checks.
 
-fn build_meta(size: u32, fill: u16) -> [u8; 512]
-    ensures { λ r. ⌜ covered r ≡ paged (formatMeta size fill) noLink noLink noLink metaFlags ⌝ }
+fn build_meta(size: u32, order: Order) -> [u8; 512]
+    requires { ⌜ order .fill ≤ 40 ⌝ }
+    ensures { λ r. ⌜ covered r ≡ paged (formatMeta size order) noLink noLink noLink metaFlags ⌝ }
 {
+    let fill = order.fill as u16;
     let mut spares = [0u32; 16];
     spares[1] = 1;
     let mut body = [0u8; 512];
@@ -49,6 +51,7 @@ fn build_meta(size: u32, fill: u16) -> [u8; 512]
             free: 1,
             size,
             spares,
+            number: order.number,
         },
     );
     put_trailer(&mut body, NO_LINK, NO_LINK, NO_LINK, META);
@@ -76,11 +79,12 @@ fn build_bitmap() -> [u8; 512]
 }
 
 // Block `k` of `size`.
-fn build_body(k: u32, size: u32, fill: u16) -> [u8; 512]
-    ensures { λ r. ⌜ covered r ≡ formatBlock size fill k ⌝ }
+fn build_body(k: u32, size: u32, order: Order) -> [u8; 512]
+    requires { ⌜ order .fill ≤ 40 ⌝ }
+    ensures { λ r. ⌜ covered r ≡ formatBlock size order k ⌝ }
 {
     match k {
-        0 => build_meta(size, fill),
+        0 => build_meta(size, order),
         1 => build_bucket(0),
         2 => build_bucket(1),
         3 => build_bitmap(),
@@ -89,31 +93,32 @@ fn build_body(k: u32, size: u32, fill: u16) -> [u8; 512]
 }
 
 // Writes block `k` of a new store, with its check.
-fn format_block(store: &mut [u8], k: u32, size: u32, fill: u16)
-    requires { ⌜ 512 * k + 512 ≤ length (now store) ⌝ }
-    ensures { λ _. ⌜ now (store .exit) ≡ setBlock (now (store .entry)) k (sealed (formatBlock size fill k)) ⌝ }
+fn format_block(store: &mut [u8], k: u32, size: u32, order: Order)
+    requires { ⌜ (512 * k + 512 ≤ length (now store)) × (order .fill ≤ 40) ⌝ }
+    ensures { λ _. ⌜ now (store .exit)
+        ≡ setBlock (now (store .entry)) k (sealed (order .number) k (formatBlock size order k)) ⌝ }
 {
     let change = Change {
         count: 1,
         numbers: [k, 0, 0, 0, 0, 0, 0, 0],
     };
-    let body = build_body(k, size, fill);
+    let body = build_body(k, size, order);
     let mut images = [0u8; 4096];
     put_block(&mut images, 0, &body);
-    finish(store, change, &mut images);
+    finish_as(store, change, &mut images, order.number);
 }
 
 // Writes every block of a new store.
-fn format_blocks(store: &mut [u8], fill: u16)
-    requires { ⌜ Sized (now store) ⌝ }
+fn format_blocks(store: &mut [u8], order: Order)
+    requires { ⌜ Sized (now store) × (order .fill ≤ 40) ⌝ }
     ensures { λ _. ⌜ now (store .exit)
         ≡ bind (upFrom 0 (blocks (now (store .entry))))
-        (λ k. sealed (formatBlock (blocks (now (store .entry))) fill k)) ⌝ }
+        (λ k. sealed (order .number) k (formatBlock (blocks (now (store .entry))) order k)) ⌝ }
 {
     let size = (store.len() / 512) as u32;
     let mut k = 0;
     while k < size {
-        format_block(store, k, size, fill);
+        format_block(store, k, size, order);
         k += 1;
     }
 }
@@ -129,6 +134,6 @@ pub fn format(store: &mut [u8], order: Order) -> Answer
     if !check_fill(order.fill) {
         return Answer::Refused(Refusal::Number);
     }
-    format_blocks(store, order.fill as u16);
+    format_blocks(store, order);
     Answer::Done
 }

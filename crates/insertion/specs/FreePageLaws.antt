@@ -165,7 +165,7 @@ module _ {s : List ℕ} {m : Meta} {b last : ℕ} {e : Entry} {held n : ℕ}
           → ((d : List ℕ) → Draft s c₂ images₂ d → Trimmed s d c₃ images₃)
           → Plans s c₃ images₃ (extended (decode s) (decode s .spares) b n e)
       free-plans m′ first new ends f t =
-          plans-fields r mapped y (h .leaves .wf .laid) refl (M ∷ L ∷ K ∷ [])
+          plans-fields r mapped y (h .leaves .wf .laid) (record { size = refl; number = refl }) (M ∷ L ∷ K ∷ [])
           (frame-again x laid b (chain-there (h .leaves)) e n)
           (λ k a. (a .0, (a .1 .1 .0, (a .1 .0, tt))))
           ((λ z. bit-some x laid 0 (sym z)), ((λ z. bit-some x laid n (sym z)), ((λ z. last-meta h (sym z)), tt))) (

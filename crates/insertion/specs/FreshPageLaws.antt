@@ -135,7 +135,7 @@ module _ {s : List ℕ} {m : Meta} {b last : ℕ} {e : Entry} {held : ℕ}
         → Plans s c₂ images₂ (extended (decode s) (moreSpares (decode s)) b (topBit (decode s)) e)
     fresh-plans m′ first spares new is same f t =
         let at = fresh-blocks x laid b (chain-there (h .leaves)) e room (addPage (topBit x) e (chain x b)) in
-        plans-fields r (p .sketch) y (h .leaves .wf .laid) refl (L ∷ K ∷ []) frame
+        plans-fields r (p .sketch) y (h .leaves .wf .laid) (record { size = refl; number = refl }) (L ∷ K ∷ []) frame
         (λ k a. (a .1 .0, (a .0, tt)))
         ((λ z. bit-some x laid (topBit x) (sym z)), ((λ z. last-meta h (sym z)), tt))
         (last-shown h at apart p, (new-shown h at apart p, tt))

@@ -12,6 +12,7 @@ use Rattle.store.specs.declared.Change.{Change}
 use Rattle.store.specs.Store.{covered}
 use Rattle.model.specs.Index.{Index}
 use Rattle.model.specs.WellFormed.{Laid}
+use Rattle.model.specs.FrameLaws.{SameStore}
 use Rattle.model.specs.BoundLaws.{laid-size}
 use Rattle.image.specs.declared.Meta.{Meta}
 use Rattle.image.specs.Layout.{paged, metaFront, metaOf, encodeBlock}
@@ -40,7 +41,7 @@ module _ {s : List ℕ} {m : Meta} (r : Reads s m) {c : Change} {images d : List
   pub fields-ready : n < 8 → Ready s c images d 0
   fields-ready few = ready g 0 meta-under few
 
-  module _ (y : Index) (laid : Laid y) (size : y .size ≡ decode s .size) (js : List ℕ)
+  module _ (y : Index) (laid : Laid y) (kept : SameStore (decode s) y) (js : List ℕ)
       (frame : (k : ℕ) → Apart k (0 ∷ js) → encodeBlock y k ≡ encodeBlock (decode s) k)
       (edits : (k : ℕ) → Apart k js → Apart k ks) (first : Apart 0 ks)
       (shown : Each (λ (k : ℕ). covered (block d k) ≡ encodeBlock y k) js) where
@@ -75,7 +76,7 @@ module _ {s : List ℕ} {m : Meta} (r : Reads s m) {c : Change} {images d : List
       plans-fields e t =
           let h = e .draft d (g .draft) in
           let here = sketch-here g 0 meta-under written whole in
-          plans-of r (sketch-more g 0 meta-under written whole (e .lists) h) y laid size (0 ∷ js) frame
+          plans-of r (sketch-more g 0 meta-under written whole (e .lists) h) y laid kept (0 ∷ js) frame
           (λ k a. (a .0, edits k (a .1))) (
             λ u. ap covered here ∙ meta-shown,
             each-map (λ (k : ℕ). covered (block d k) ≡ encodeBlock y k)
@@ -88,4 +89,4 @@ module _ {s : List ℕ} {m : Meta} (r : Reads s m) {c : Change} {images d : List
               → covered (block (setBlock d 0 written) k) ≡ encodeBlock y k
           go k q u (yes z) = rw z (ap covered (sketch-here g 0 meta-under written whole) ∙ meta-shown)
           go k q u (no ne) =
-              ap covered (sketch-there g 0 meta-under written whole k (omega (arith, size, reads-size r)) ne) ∙ q
+              ap covered (sketch-there g 0 meta-under written whole k (omega (arith, kept .size, reads-size r)) ne) ∙ q

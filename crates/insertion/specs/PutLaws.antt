@@ -221,7 +221,8 @@ module _ {s : List ℕ} {m : Meta} {k : ℕ} {e : Entry} {held b : ℕ} (h : InR
           → ((d : List ℕ) → Draft s c₂ images₂ d → Trimmed s d c₃ images₃)
           → Plans s c₃ images₃ (entered (decode s) b e)
       room-plans m′ is q t =
-          plans-fields r room-sketch y (h .leaves .wf .laid) refl (pageBlock x b i ∷ [])
+          plans-fields r room-sketch y (h .leaves .wf .laid) (record { size = refl; number = refl })
+          (pageBlock x b i ∷ [])
           (frame-room x (reads-laid r) b (chain-there (h .leaves)) e none)
           (λ k a. a) ((λ z. page-meta x (reads-laid r) b i inside (sym z)), tt) (shown, tt)
           m′

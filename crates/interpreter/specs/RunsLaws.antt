@@ -20,7 +20,7 @@ use Rattle.model.specs.declared.LookupAnswer.{LookupAnswer}
 use Rattle.model.specs.Answers.{refusalNo}
 use Rattle.model.specs.Index.{Index}
 use Rattle.model.specs.Held.{matches}
-use Rattle.model.specs.Calls.{sizeOk, formatOk, format, listed, lookup}
+use Rattle.model.specs.Calls.{sizeOk, orderOf, formatOk, format, listed, lookup}
 use Rattle.image.specs.Layout.{encode}
 use Rattle.outcomes.specs.Outcomes.{Tested, passed, failed, tested, Changed, formatOn, formatOutcome}
 use Rattle.image.specs.Rules.{lengthOk}
@@ -98,27 +98,24 @@ format-turn s t line n o old e =
     both true false y = refl
     both true true y = refl
 
--- the order of a line
-abbrev pub orderOf : ℕ → Order
-orderOf fill = record { fill = fill }
-
-module _ (s : List ℕ) (line n fill : ℕ) (old : List ℕ) (size : length s ≡ 512 * n) (few : n ≤ scriptBlocks) where
+module _ (s : List ℕ) (line n fill number : ℕ) (old : List ℕ) (size : length s ≡ 512 * n) (few : n ≤ scriptBlocks) where
   abbrev d : Changed
-  d = formatOutcome s (orderOf fill)
+  d = formatOutcome s (orderOf fill number)
 
-  same : formatTurn line n fill (d .answer) old (d .store) ≡ runCommand (Command.Format n fill) line old
+  same : formatTurn line n fill (d .answer) old (d .store) ≡ runCommand (Command.Format n fill number) line old
   unfolding runCommand
   same =
-      format-turn s (replicate (512 * n) 0) line n (orderOf fill) old (size ∙ sym (length-replicate (512 * n) 0))
-      ∙ ap (λ (b : Bool). formatLine b n fill line old) (sym (le-leb n scriptBlocks few))
+      format-turn s (replicate (512 * n) 0) line n (orderOf fill number) old (size ∙ sym (length-replicate (512 * n) 0))
+      ∙ ap (λ (b : Bool). formatLine b n (orderOf fill number) line old) (sym (le-leb n scriptBlocks few))
 
-  pub format-done : formatOutcome s (orderOf fill) .answer ≡ Answer.Done
-      → record { text = storeText n fill; store = formatOutcome s (orderOf fill) .store }
-      ≡ runCommand (Command.Format n fill) line old
+  pub format-done : formatOutcome s (orderOf fill number) .answer ≡ Answer.Done
+      → record { text = storeText n fill; store = formatOutcome s (orderOf fill number) .store }
+      ≡ runCommand (Command.Format n fill number) line old
   format-done e = sym (ap (λ (a : Answer). formatTurn line n fill a old (d .store)) e) ∙ same
 
-  pub format-refused : (r : Refusal) → formatOutcome s (orderOf fill) .answer ≡ Answer.Refused r
-      → record { text = refusedText line (refusalNo r); store = old } ≡ runCommand (Command.Format n fill) line old
+  pub format-refused : (r : Refusal) → formatOutcome s (orderOf fill number) .answer ≡ Answer.Refused r
+      → record { text = refusedText line (refusalNo r); store = old }
+      ≡ runCommand (Command.Format n fill number) line old
   format-refused r e = sym (ap (λ (a : Answer). formatTurn line n fill a old (d .store)) e) ∙ same
 
 -- a refused one changes nothing
@@ -133,10 +130,11 @@ format-kept s o r e = go (lengthOk s) (formatOk o) (encode (format (blocks s) o)
     go true true y q = let z : _≡_ {A = ℕ} 0 1 = cc in absurd (omega arith)
 
 -- N above the script's gets 1
-pub format-large : (line n fill : ℕ) (old : List ℕ) → scriptBlocks < n
-    → record { text = refusedText line 1; store = old } ≡ runCommand (Command.Format n fill) line old
+pub format-large : (line n fill number : ℕ) (old : List ℕ) → scriptBlocks < n
+    → record { text = refusedText line 1; store = old } ≡ runCommand (Command.Format n fill number) line old
 unfolding runCommand
-format-large line n fill old h = ap (λ (b : Bool). formatLine b n fill line old) (sym (lt-leb n scriptBlocks h))
+format-large line n fill number old h =
+    ap (λ (b : Bool). formatLine b n (orderOf fill number) line old) (sym (lt-leb n scriptBlocks h))
 
 -- With the largest N that the index has today the script's own test answers what format would.
 unfit : (n : ℕ) → scriptBlocks < n → lengthOk (replicate (512 * n) 0) ≡ false
@@ -147,21 +145,21 @@ unfit n h =
     rw (count, lt-leb n maxBlocks h, and-false (leb 4 n))
     (and-false (eqb (length (replicate {A = ℕ} (512 * n) 0) % 512) 0))
 
-pub line-is-format : (line n fill : ℕ) (old : List ℕ)
-    → let c = formatOutcome (replicate (512 * n) 0) (orderOf fill) in
-    runCommand (Command.Format n fill) line old ≡ formatTurn line n fill (c .answer) old (c .store)
+pub line-is-format : (line n fill number : ℕ) (old : List ℕ)
+    → let c = formatOutcome (replicate (512 * n) 0) (orderOf fill number) in
+    runCommand (Command.Format n fill number) line old ≡ formatTurn line n fill (c .answer) old (c .store)
 unfolding runCommand formatOutcome
-line-is-format line n fill old = go (leb n scriptBlocks) refl
+line-is-format line n fill number old = go (leb n scriptBlocks) refl
   where
     z : List ℕ
     z = replicate (512 * n) 0
 
     outcome : Bool → Changed
-    outcome l = formatOn l (formatOk (orderOf fill)) z (encode (format (blocks z) (orderOf fill)))
+    outcome l = formatOn l (formatOk (orderOf fill number)) z (encode (format (blocks z) (orderOf fill number)))
 
     turn : Bool → Turn
     turn l = formatTurn line n fill (outcome l .answer) old (outcome l .store)
 
-    go : (t : Bool) → leb n scriptBlocks ≡ t → formatLine t n fill line old ≡ turn (lengthOk z)
+    go : (t : Bool) → leb n scriptBlocks ≡ t → formatLine t n (orderOf fill number) line old ≡ turn (lengthOk z)
     go true e = refl
     go false e = ap turn (sym (unfit n (leb-false n scriptBlocks e)))

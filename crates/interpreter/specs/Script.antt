@@ -8,10 +8,12 @@ use Rattle.line.specs.declared.Command.{Command}
 use Rattle.line.specs.Words.{parts}
 use Rattle.line.specs.Command.{readLine}
 use Rattle.text.specs.Text.{storeText, okText, refusedText, stepsText, foundText}
+use Rattle.model.specs.declared.Order.{Order}
 use Rattle.model.specs.declared.Answer.{Answer}
 use Rattle.model.specs.declared.LookupAnswer.{LookupAnswer}
 use Rattle.model.specs.declared.WorkAnswer.{WorkAnswer}
 use Rattle.model.specs.Answers.{refusalNo, stopNo}
+use Rattle.model.specs.Calls.{orderOf}
 use Rattle.outcomes.specs.Outcomes.{formatOutcome, insertOutcome, removeOutcome, lookupOutcome, workOutcome}
 
 -- ---- answers as text. "Each refusal is shown as in line 4 below"
@@ -45,11 +47,11 @@ abbrev pub scriptBlocks : ℕ
 scriptBlocks = 128
 
 -- an f, by whether N is at most that: "A number that is outside its field gets 2, N gets 1."
-abbrev pub formatLine : (small : Bool) → (blocks fill line : ℕ) → (store : List ℕ) → Turn
-formatLine true n fill line s =
-    let c = formatOutcome (replicate (512 * n) 0) (record { fill = fill }) in
-    formatTurn line n fill (c .answer) s (c .store)
-formatLine false n fill line s = record { text = refusedText line 1; store = s }
+abbrev pub formatLine : (small : Bool) → (blocks : ℕ) → Order → (line : ℕ) → (store : List ℕ) → Turn
+formatLine true n o line s =
+    let c = formatOutcome (replicate (512 * n) 0) o in
+    formatTurn line n (o .fill) (c .answer) s (c .store)
+formatLine false n o line s = record { text = refusedText line 1; store = s }
 
 -- "A lookup lends 30,000 bytes"
 abbrev pub lent : ℕ
@@ -57,7 +59,8 @@ lent = 30000
 
 -- the call of a line on the store that stands; "Anything else .. is refusal 10"
 unfoldable pub runCommand : Command → (line : ℕ) → (store : List ℕ) → Turn
-runCommand (Command.Format n fill) line s = formatLine (leb n scriptBlocks) n fill line s
+runCommand (Command.Format n fill number) line s =
+    formatLine (leb n scriptBlocks) n (orderOf fill number) line s
 runCommand (Command.Insert h b o) line s =
     let c = insertOutcome s (record { hash = h; block = b; offset = o }) in
     record { text = answerText line (c .answer); store = c .store }

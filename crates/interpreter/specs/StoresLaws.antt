@@ -14,10 +14,10 @@ use Rattle.line.specs.FitsLaws.{CommandFits}
 use Rattle.model.specs.declared.Order.{Order}
 use Rattle.model.specs.Index.{Job, idle, copying, clearing, Index}
 use Rattle.model.specs.Steps.{next, step}
-use Rattle.model.specs.Calls.{sizeOk, formatOk, format}
-use Rattle.model.specs.Machine.{Call, inserting, removing, working, CallFits, Ran, runIndex}
+use Rattle.model.specs.Calls.{sizeOk, orderOf, formatOk, format}
+use Rattle.model.specs.Machine.{Call, formatting, inserting, removing, working, CallFits, Ran, runIndex}
 use Rattle.model.specs.FormatLaws.{format-wf}
-use Rattle.model.specs.FrameLaws.{SameJob, insert-frame, remove-frame, begin-frame, job-frame}
+use Rattle.model.specs.FrameLaws.{SameJob, insert-frame, remove-frame, begin-frame, job-frame, step-store}
 use Rattle.model.specs.InsertLaws.{insert-wf}
 use Rattle.model.specs.RemoveLaws.{remove-wf}
 use Rattle.model.specs.StepLaws.{step-wf}
@@ -52,31 +52,24 @@ begun-step x y h e one n = go (x .job) refl
     go copying q = busy (λ r. never (cc))
     go clearing q = busy (λ r. never (cc))
 
-size-step : (x y : Index) → step x ≡ next y → y .size ≡ x .size
-size-step x y e = go (x .job) refl
-  where
-    go : (j : Job) → x .job ≡ j → y .size ≡ x .size
-    go idle q = begin-frame x y q e .size
-    go copying q = job-frame x y (λ r. never (cc)) e .size
-    go clearing q = job-frame x y (λ r. never (cc)) e .size
-
 made-step : (x y : Index) → Made x → step x ≡ next y → Made y
 made-step x y m e =
     record {
       wf = step-wf x y (m .wf) e;
       begun = begun-step x y (m .begun) e (m .wf .laid .two);
-      small = omega (arith, size-step x y e, m .small);
+      small = omega (arith, step-store x y e .size, m .small);
     }
 
-made-format : (n : ℕ) (o : Order) → sizeOk n ≡ true → formatOk o ≡ true → n ≤ scriptBlocks → Made (format n o)
+made-format : (n : ℕ) (o : Order) → CallFits (formatting o) → sizeOk n ≡ true → formatOk o ≡ true
+    → n ≤ scriptBlocks → Made (format n o)
 unfolding format
-made-format n o so oo few = record { wf = format-wf n o so oo; begun = λ ne. absurd (ne refl); small = few }
+made-format n o fits so oo few = record { wf = format-wf n o fits so oo; begun = λ ne. absurd (ne refl); small = few }
 
 made-run : (c : Call) → CallFits c → (x : Index) → Made x → Made (runIndex c x .state)
 made-run =
     run-keeps Made
     (record {
-      formats = λ x o so oo m. made-format (x .size) o so oo (m .small);
+      formats = λ x o f so oo m. made-format (x .size) o f so oo (m .small);
       inserts =
           λ x p y m f e. record {
             wf = insert-wf x p y (m .wf) f e;
@@ -103,34 +96,36 @@ call-store c f s (bytes x m) e =
     (bytes (runIndex c x .state) (made-run c f x m))
 
 -- an accepted f makes one, and a refused one leaves what stands
-format-store : (line n fill : ℕ) (o : Order) (z s : List ℕ) → blocks z ≤ scriptBlocks → ScriptStore s
+format-store : (line n fill : ℕ) (o : Order) → CallFits (formatting o) → (z s : List ℕ) → blocks z ≤ scriptBlocks
+    → ScriptStore s
     → let c = formatOutcome z o in ScriptStore (formatTurn line n fill (c .answer) s (c .store) .store)
 unfolding formatOutcome
-format-store line n fill o z s few p = go (lengthOk z) refl (formatOk o) refl
+format-store line n fill o fits z s few p = go (lengthOk z) refl (formatOk o) refl
   where
     go : (l : Bool) → lengthOk z ≡ l → (f : Bool) → formatOk o ≡ f
         → let c = formatOn l f z (encode (format (blocks z) o)) in
         ScriptStore (formatTurn line n fill (c .answer) s (c .store) .store)
     go false h f k = p
     go true h false k = p
-    go true h true k = bytes (format (blocks z) o) (made-format (blocks z) o (legal-size z h) k few)
+    go true h true k = bytes (format (blocks z) o) (made-format (blocks z) o fits (legal-size z h) k few)
 
 -- N of the script's, or refusal 1
-line-store : (line n fill : ℕ) (s : List ℕ) → ScriptStore s
-    → ScriptStore (formatLine (leb n scriptBlocks) n fill line s .store)
+line-store : (line n : ℕ) (o : Order) → CallFits (formatting o) → (s : List ℕ) → ScriptStore s
+    → ScriptStore (formatLine (leb n scriptBlocks) n o line s .store)
 unfolding blocks
-line-store line n fill s p = go (leb n scriptBlocks) refl
+line-store line n o fits s p = go (leb n scriptBlocks) refl
   where
-    go : (t : Bool) → leb n scriptBlocks ≡ t → ScriptStore (formatLine t n fill line s .store)
+    go : (t : Bool) → leb n scriptBlocks ≡ t → ScriptStore (formatLine t n o line s .store)
     go true e =
-        format-store line n fill (record { fill = fill }) (replicate (512 * n) 0) s
+        format-store line n (o .fill) o fits (replicate (512 * n) 0) s
         (omega (arith, leb-true n scriptBlocks e, length-replicate {A = ℕ} (512 * n) 0)) p
     go false e = p
 
 pub store-after : (c : Command) → CommandFits c → (line : ℕ) (s : List ℕ)
     → ScriptStore s → ScriptStore (runCommand c line s .store)
 unfolding runCommand runStore insertOutcome removeOutcome workOutcome tested lengthOk blocks
-store-after (Command.Format n fill) f line s p = line-store line n fill s p
+store-after (Command.Format n fill number) f line s p =
+    line-store line n (orderOf fill number) (f .1, f .2) s p
 store-after (Command.Insert h b o) f line s p =
     call-store (inserting (record { hash = h; block = b; offset = o })) f s p refl
 store-after (Command.Remove h b o) f line s p =

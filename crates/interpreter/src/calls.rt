@@ -25,13 +25,15 @@ ghost use Rattle.interpreter.specs.Runs.{Runs, Room};
 fn run_format(
     blocks: u32,
     fill: u32,
+    number: u32,
     line: u64,
     standing: u32,
     store: &mut [u8],
     output: &mut [u8],
 ) -> LineEnd
     requires { ⌜ Room standing (now store) (now output) ⌝ }
-    ensures { λ r. ⌜ Runs (runCommand (command.Format blocks fill) line (take (512 * standing) (now (store .entry))))
+    ensures { λ r. ⌜ Runs
+        (runCommand (command.Format blocks fill number) line (take (512 * standing) (now (store .entry))))
         (now (store .entry)) (now (store .exit)) (r .blocks)
         (now (output .entry)) (now (output .exit)) (r .written) ⌝ }
 {
@@ -43,7 +45,7 @@ fn run_format(
         };
     }
     let end = 512 * blocks as usize;
-    let answer = format(&mut store[..end], Order { fill });
+    let answer = format(&mut store[..end], Order { fill, number });
     match answer {
         Answer::Done => {
             let written = put_store(output, blocks, fill);
@@ -131,7 +133,11 @@ pub fn run_command(
         (now (output .entry)) (now (output .exit)) (r .written) ⌝ }
 {
     match command {
-        Command::Format { blocks: n, fill } => run_format(n, fill, line, blocks, store, output),
+        Command::Format {
+            blocks: n,
+            fill,
+            number,
+        } => run_format(n, fill, number, line, blocks, store, output),
         Command::Insert {
             hash,
             block,

@@ -7,7 +7,7 @@ use types.Run.{OneOf, miss}
 use Rattle.line.proofs.Fields.{the-type}
 use Rattle.line.specs.declared.Fields.{Fields}
 use Rattle.line.specs.declared.Command.{Command}
-use Rattle.line.specs.Command.{withOne, withTwo, withThree}
+use Rattle.line.specs.Command.{withOne, withThree}
 
 pub not-one : (make : ℕ → Command) (f : Fields) → OneOf (0 ∷ 2 ∷ 3 ∷ 4 ∷ []) (tagOf the-type f)
     → Command.Unreadable ≡ withOne make f
@@ -16,14 +16,6 @@ not-one make (Fields.One a) h = absurd (miss (0 ∷ 2 ∷ 3 ∷ 4 ∷ []) 1 tt h
 not-one make (Fields.Two a b) h = refl
 not-one make (Fields.Three a b c) h = refl
 not-one make Fields.Wrong h = refl
-
-pub not-two : (make : ℕ → ℕ → Command) (f : Fields) → OneOf (0 ∷ 1 ∷ 3 ∷ 4 ∷ []) (tagOf the-type f)
-    → Command.Unreadable ≡ withTwo make f
-not-two make Fields.None h = refl
-not-two make (Fields.One a) h = refl
-not-two make (Fields.Two a b) h = absurd (miss (0 ∷ 1 ∷ 3 ∷ 4 ∷ []) 2 tt h)
-not-two make (Fields.Three a b c) h = refl
-not-two make Fields.Wrong h = refl
 
 pub not-three : (make : ℕ → ℕ → ℕ → Command) (f : Fields) → OneOf (0 ∷ 1 ∷ 2 ∷ 4 ∷ []) (tagOf the-type f)
     → Command.Unreadable ≡ withThree make f

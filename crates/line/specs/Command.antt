@@ -37,13 +37,6 @@ withOne make (Fields.Two a b) = Command.Unreadable
 withOne make (Fields.Three a b c) = Command.Unreadable
 withOne make Fields.Wrong = Command.Unreadable
 
-abbrev pub withTwo : (ℕ → ℕ → Command) → Fields → Command
-withTwo make Fields.None = Command.Unreadable
-withTwo make (Fields.One a) = Command.Unreadable
-withTwo make (Fields.Two a b) = make a b
-withTwo make (Fields.Three a b c) = Command.Unreadable
-withTwo make Fields.Wrong = Command.Unreadable
-
 abbrev pub withThree : (ℕ → ℕ → ℕ → Command) → Fields → Command
 withThree make Fields.None = Command.Unreadable
 withThree make (Fields.One a) = Command.Unreadable
@@ -54,7 +47,7 @@ withThree make Fields.Wrong = Command.Unreadable
 -- by the first word's byte: f, +, -, ?, w
 abbrev pub commandOf : (kind : ℕ) → Fields → Command
 commandOf kind f =
-    cond (eqb kind 102) (withTwo Command.Format f) (cond (eqb kind 43) (withThree Command.Insert f)
+    cond (eqb kind 102) (withThree Command.Format f) (cond (eqb kind 43) (withThree Command.Insert f)
     (cond (eqb kind 45) (withThree Command.Remove f) (cond (eqb kind 63) (withOne Command.Lookup f)
     (cond (eqb kind 119) (withOne Command.Work f) Command.Unreadable))))
 

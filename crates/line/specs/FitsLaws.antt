@@ -11,14 +11,14 @@ use Rattle.line.specs.declared.Number.{Number}
 use Rattle.line.specs.declared.Fields.{Fields}
 use Rattle.line.specs.declared.Command.{Command}
 use Rattle.line.specs.Words.{words, isDigit, maxNumber, valueFrom, numberOf}
-use Rattle.line.specs.Command.{addNumber, fieldsFrom, withOne, withTwo, withThree, commandOf, commandFrom}
+use Rattle.line.specs.Command.{addNumber, fieldsFrom, withOne, withThree, commandOf, commandFrom}
 use Rattle.line.specs.Command.{maxLine, readLine}
 
 abbrev pub Fits32 : ℕ → Type 0
 Fits32 n = n < 2 ^ 32
 
 abbrev pub CommandFits : Command → Type 0
-CommandFits (Command.Format n fill) = Fits32 n × Fits32 fill
+CommandFits (Command.Format n fill number) = Fits32 n × Fits32 fill × Fits32 number
 CommandFits (Command.Insert h b o) = Fits32 h × Fits32 b × Fits32 o
 CommandFits (Command.Remove h b o) = Fits32 h × Fits32 b × Fits32 o
 CommandFits (Command.Lookup h) = Fits32 h
@@ -90,13 +90,6 @@ one-fits make k (Fields.Two a b) h = tt
 one-fits make k (Fields.Three a b c) h = tt
 one-fits make k Fields.Wrong h = tt
 
-two-fits : (f : Fields) → FieldsFit f → CommandFits (withTwo Command.Format f)
-two-fits Fields.None h = tt
-two-fits (Fields.One a) h = tt
-two-fits (Fields.Two a b) h = h
-two-fits (Fields.Three a b c) h = tt
-two-fits Fields.Wrong h = tt
-
 three-fits : (make : ℕ → ℕ → ℕ → Command)
     → ((a b c : ℕ) → Fits32 a × Fits32 b × Fits32 c → CommandFits (make a b c)) → (f : Fields) → FieldsFit f
     → CommandFits (withThree make f)
@@ -108,7 +101,7 @@ three-fits make k Fields.Wrong h = tt
 
 command-fits : (kind : ℕ) (f : Fields) → FieldsFit f → CommandFits (commandOf kind f)
 command-fits kind f h =
-    cond-fits (eqb kind 102) _ _ (two-fits f h)
+    cond-fits (eqb kind 102) _ _ (three-fits Command.Format (λ a b c k. k) f h)
     (cond-fits (eqb kind 43) _ _ (three-fits Command.Insert (λ a b c k. k) f h)
     (cond-fits (eqb kind 45) _ _ (three-fits Command.Remove (λ a b c k. k) f h)
     (cond-fits (eqb kind 63) _ _ (one-fits Command.Lookup (λ a k. k) f h)

@@ -4,13 +4,17 @@ use crate::Fields;
 use crate::words::read_fields;
 ghost use mathlib.Core.Path.{_≡_};
 ghost use Rattle.line.specs.declared.Command.{Command as command};
-ghost use Rattle.line.specs.Command.{withOne, withTwo, withThree, commandOf, readLine};
+ghost use Rattle.line.specs.Command.{withOne, withThree, commandOf, readLine};
 
 fn format_of(fields: Fields) -> Command
-    ensures { λ r. ⌜ r ≡ withTwo command.Format fields ⌝ }
+    ensures { λ r. ⌜ r ≡ withThree command.Format fields ⌝ }
 {
     match fields {
-        Fields::Two(blocks, fill) => Command::Format { blocks, fill },
+        Fields::Three(blocks, fill, number) => Command::Format {
+            blocks,
+            fill,
+            number,
+        },
         _ => Command::Unreadable,
     }
 }

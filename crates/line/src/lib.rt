@@ -19,7 +19,7 @@ pub enum Fields {
 
 // A line of the script.
 pub enum Command {
-    Format { blocks: u32, fill: u32 },
+    Format { blocks: u32, fill: u32, number: u32 },
     Insert { hash: u32, block: u32, offset: u32 },
     Remove { hash: u32, block: u32, offset: u32 },
     Lookup { hash: u32 },

@@ -26,7 +26,7 @@ heads m =
 
 module _ (m : Meta) (narrow : m .fill < 2 ^ 16) where
   tail : List ℕ
-  tail = bind (m .spares) le32 ++ replicate 388 0
+  tail = bind (m .spares) le32 ++ (le32 (m .number) ++ replicate 384 0)
 
   front-words : metaFront m ≡ bind (heads m) le32 ++ tail
   unfolding metaFront tail le16 le32
@@ -36,19 +36,20 @@ module _ (m : Meta) (narrow : m .fill < 2 ^ 16) where
       ++ (le32 (m .point) ++ (le32 (m .free) ++ (le32 (m .size) ++ tail)))))))))) (sym (le32-half (m .fill) narrow))
 
   pub front-sets : (l : List ℕ) → length l ≡ 512 → length (m .spares) ≡ 16
-      → sets (sets (sets l 0 (bind (heads m) le32)) 40 (bind (m .spares) le32)) 104 (replicate 388 0)
-      ≡ metaFront m ++ drop 492 l
+      → sets (sets (sets (sets l 0 (bind (heads m) le32)) 40 (bind (m .spares) le32)) 104 (le32 (m .number)))
+      108 (replicate 384 0) ≡ metaFront m ++ drop 492 l
   unfolding tail le32
   front-sets l full sixteen =
       let hs : List ℕ = bind (heads m) le32 in
       let ws : List ℕ = bind (m .spares) le32 in
-      let zs : List ℕ = replicate 388 0 in
+      let zs : List ℕ = le32 (m .number) ++ replicate 384 0 in
       let whole : length (metaFront m) ≡ 492 = length-metaFront m sixteen in
       let sum = ap length front-words ∙ length-append hs (ws ++ zs) in
-      let mid : length ws ≡ 64 = omega (arith, sum, length-append ws zs, length-replicate {A = ℕ} 388 0) in
+      let mid : length ws ≡ 64 = omega (arith, sum, length-append ws zs, length-replicate {A = ℕ} 384 0) in
       let at : 104 ≡ 40 + length ws = omega arith in
       let end : 0 + length (hs ++ (ws ++ zs)) ≡ 492 = omega (arith, ap length front-words) in
-      ap (λ (k : ℕ). sets (sets (sets l 0 hs) 40 ws) k zs) at
+      sets-append (le32 (m .number)) (replicate 384 0) (sets (sets l 0 hs) 40 ws) 104
+      ∙ ap (λ (k : ℕ). sets (sets (sets l 0 hs) 40 ws) k zs) at
       ∙ sets-append ws zs (sets l 0 hs) 40
       ∙ sets-append hs (ws ++ zs) l 0
       ∙ sets-eq (hs ++ (ws ++ zs)) l 0 (omega arith)

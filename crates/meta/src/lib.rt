@@ -53,6 +53,7 @@ pub fn read_meta(part: &[u8]) -> Meta
         free: get_u32(part, 32),
         size: get_u32(part, 36),
         spares,
+        number: get_u32(part, 104),
     }
 }
 
@@ -89,7 +90,8 @@ pub fn put_meta(part: &mut [u8], m: Meta)
     let spares = m.spares;
     put_words(part, 0, &head);
     put_words(part, 40, &spares);
-    zero_bytes(part, 104, 492);
+    put_u32(part, 104, m.number);
+    zero_bytes(part, 108, 492);
 }
 
 // Rule 1, of the bytes of a meta block in a store of `size` blocks.
@@ -109,7 +111,7 @@ pub fn check_front(part: &[u8], size: u32) -> bool
     if !is_zero(part, 14, 16) {
         return false;
     }
-    is_zero(part, 104, 492)
+    is_zero(part, 108, 492)
 }
 
 // Whether the spares from 1 to `s` do not fall.

@@ -88,3 +88,11 @@ begun (puts p) n = n
 begun (takes p) n = n
 begun leaves n = n
 begun (hasSteps budget) n = n
+
+-- the store number after an accepted call
+abbrev pub numberAfter : Effect → ℕ → ℕ
+numberAfter (empties o) n = o .number
+numberAfter (puts p) n = n
+numberAfter (takes p) n = n
+numberAfter leaves n = n
+numberAfter (hasSteps budget) n = n

@@ -31,6 +31,10 @@ sizeOk n = leb 4 n && leb n maxBlocks
 abbrev pub fillOk : ℕ → Bool
 fillOk fill = leb 1 fill && leb fill 40
 
+-- a fill and a store number, as format takes them
+abbrev pub orderOf : (fill number : ℕ) → Order
+orderOf fill number = record { fill = fill; number = number }
+
 -- the numbers of a format
 abbrev pub formatOk : Order → Bool
 formatOk o = fillOk (o .fill)
@@ -51,6 +55,7 @@ format n o =
     record {
       size = n;
       fill = o .fill;
+      number = o .number;
       maxBucket = 1;
       spares = 0 ∷ 1 ∷ [];
       job = idle;

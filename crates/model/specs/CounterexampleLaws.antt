@@ -6,6 +6,7 @@ use Prim.Native.Nat.{ℕ, _*_}
 use native.Mathlib.Omega.{arith}
 use lib.IntN.{subℕ}
 use Rattle.address.specs.Address.{splitFrom}
+use Rattle.model.specs.declared.Order.{Order}
 use Rattle.model.specs.declared.Refusal.{Refusal}
 use Rattle.model.specs.declared.Answer.{Answer}
 use Rattle.model.specs.declared.LookupAnswer.{LookupAnswer}
@@ -46,4 +47,6 @@ wrong = record { State = ℕ; run = wrongRun; step = λ s. next s; stored = λ s
 -- standing gives phase copying before any begin
 pub wrong-fails : (index : ℕ → Index) → Demand3 wrong index → ⊥
 wrong-fails index d =
-    let none : phaseAt wrong 1 ≡ Phase.None = d 1 (record { fill = 1 }) refl [] tt .0 .0 .splits in never (cc)
+    let order : Order = record { fill = 1; number = 0 } in
+    let none : phaseAt wrong 1 ≡ Phase.None = d 1 order (omega arith, omega arith) refl [] tt .0 .0 .splits in
+    never (cc)

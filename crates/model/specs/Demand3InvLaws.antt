@@ -48,28 +48,29 @@ stir x y (since c m k) e u = tt
 
 -- ---- a format, an insert, a removal
 
-pub start-inv : (x : Index) (o : Order) → sizeOk (x .size) ≡ true → formatOk o ≡ true
+pub start-inv : (x : Index) (o : Order) → CallFits (formatting o) → sizeOk (x .size) ≡ true → formatOk o ≡ true
     → Inv (start onIndex (format (x .size) o) o)
 unfolding format
-start-inv x o s f =
+start-inv x o fits s f =
     record {
-      wf = format-wf (x .size) o s f;
+      wf = format-wf (x .size) o fits s f;
       set = refl;
-      agree = λ p. sym (format-held (x .size) o s f p);
+      agree = λ p. sym (format-held (x .size) o fits s f p);
       newest = refl;
       fill = refl;
       track = refl;
     }
 
-pub format-inv : (x : Index) (o : Order) → accepted (runIndex (formatting o) x .reply) ≡ true
+pub format-inv : (x : Index) (o : Order) → CallFits (formatting o)
+    → accepted (runIndex (formatting o) x .reply) ≡ true
     → Inv (start onIndex (runIndex (formatting o) x .state) o)
 unfolding runIndex formatted
-format-inv x o h = go (sizeOk (x .size)) (formatOk o) refl refl h
+format-inv x o fits h = go (sizeOk (x .size)) (formatOk o) refl refl h
   where
     go : (s f : Bool) → sizeOk (x .size) ≡ s → formatOk o ≡ f
         → accepted (settled x (formatIn s f (format (x .size) o)) .reply) ≡ true
         → Inv (start onIndex (settled x (formatIn s f (format (x .size) o)) .state) o)
-    go true true e k h = start-inv x o e k
+    go true true e k h = start-inv x o fits e k
     go true false e k h = never (cc)
     go false f e k h = never (cc)
 

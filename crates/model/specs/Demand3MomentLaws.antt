@@ -80,7 +80,7 @@ after-inv c fits t i = go (run-view c fits (t .state))
         → let a = accepted (r .reply) in
         Inv (marked onIndex a e (lastOf onIndex t (within onIndex a e t)) (r .state))
     go (refuses {e = e} {r = r} h) = refusal (accepted r) e h
-    go (formats {o = o} s f) = start-inv (t .state) o s f
+    go (formats {o = o} small s f) = start-inv (t .state) o small s f
     go (inserts {p = p} {y = y} f e) = insert-inv p y f t i e
     go (removes {p = p} {y = y} e) = remove-inv p y t i e
     go (reads {r = r}) = reading (accepted r)
@@ -95,6 +95,6 @@ history-inv (c ∷ cs) fits t i =
     (j, history-inv cs (fits .1) (after onIndex c t) j)
 
 pub always-inv : Always onIndex Inv
-always-inv x o ok cs fits =
-    let i = format-inv x o ok in
+always-inv x o small ok cs fits =
+    let i = format-inv x o small ok in
     (i, history-inv cs fits (start onIndex (runIndex (formatting o) x .state) o) i)

@@ -16,6 +16,7 @@ use Rattle.model.specs.declared.Order.{Order}
 use Rattle.model.specs.Index.{noChain, chain, bucket}
 use Rattle.model.specs.Held.{held}
 use Rattle.model.specs.Calls.{sizeOk, formatOk, format}
+use Rattle.model.specs.Machine.{formatting, CallFits}
 use Rattle.address.specs.Limits.{maxBlocks}
 use Rattle.model.specs.WellFormed.{unmovedAt, movedAt, PlacedIn, Laid, WF}
 use Rattle.model.specs.HeldIn.{heldIn}
@@ -23,7 +24,7 @@ use Rattle.model.specs.PlacedLaws.{idle-copying}
 use Rattle.model.specs.ChainOkLaws.{noChain-ok}
 use Rattle.model.specs.HeldLaws.{held-is}
 
-module _ (n : ℕ) (o : Order) (so : sizeOk n ≡ true) (oo : formatOk o ≡ true) where
+module _ (n : ℕ) (o : Order) (fits : CallFits (formatting o)) (so : sizeOk n ≡ true) (oo : formatOk o ≡ true) where
   format-spares : SparesOk (0 ∷ 1 ∷ []) (point 1) n
   format-spares =
       rw point-first
@@ -39,6 +40,7 @@ module _ (n : ℕ) (o : Order) (so : sizeOk n ≡ true) (oo : formatOk o ≡ tru
   unfolding format
   format-laid =
       record {
+        number = fits .1;
         size = leb-true n maxBlocks (and-right (leb 4 n) (leb n maxBlocks) so);
         fillLow = leb-true 1 (o .fill) (and-left (leb 1 (o .fill)) (leb (o .fill) 40) oo);
         fillHigh = leb-true (o .fill) 40 (and-right (leb 1 (o .fill)) (leb (o .fill) 40) oo);

@@ -1,7 +1,8 @@
--- Size, fill, max bucket and job after each call and step; when a step stops.
+-- Size, fill, store number, max bucket and job after each call and step; when a step stops.
 use mathlib.Core.Path.{_≡_, refl, sym, subst}
 use mathlib.Core.Logic.{_≢_, _↔_}
 use mathlib.Core.Bool.{Bool, true, false}
+use mathlib.Core.List.{List}
 use mathlib.Core.Option.{some}
 use Prim.Native.Nat.{ℕ, suc}
 use native.Mathlib.Omega.{arith}
@@ -9,7 +10,7 @@ use lib.Dec.{eqb}
 use Rattle.page.specs.declared.Pair.{Pair}
 use Rattle.page.specs.declared.Entry.{Entry}
 use Rattle.model.specs.declared.Stop.{Stop}
-use Rattle.model.specs.Index.{Job, idle, copying, clearing, Index, bucket, newBucket}
+use Rattle.model.specs.Index.{Chain, Job, idle, copying, clearing, Index, bucket, newBucket}
 use Rattle.model.specs.Pages.{cut}
 use Rattle.model.specs.Held.{wanted}
 use Rattle.model.specs.Steps.{Step, next, stopped, step}
@@ -23,9 +24,22 @@ use Rattle.model.specs.BeginLaws.{begin-widens}
 pub record Framed (x y : Index) : Type 0 where
   pub size : y .size ≡ x .size
   pub fill : y .fill ≡ x .fill
+  pub number : y .number ≡ x .number
   pub maxBucket : y .maxBucket ≡ x .maxBucket
 
--- and not in its job
+-- an index made of x, with other spares, job and chains
+framed : {x : Index} {spares : List ℕ} {job : Job} {chains : List Chain} → Framed x (record {
+  size = x .size;
+  fill = x .fill;
+  number = x .number;
+  maxBucket = x .maxBucket;
+  spares = spares;
+  job = job;
+  chains = chains;
+})
+framed = record { size = refl; fill = refl; number = refl; maxBucket = refl }
+
+-- framed, and with the same job
 pub record SameJob (x y : Index) : Type 0 where
   pub frame : Framed x y
   pub job : y .job ≡ x .job
@@ -34,7 +48,7 @@ put-frame : {x : Index} {b : ℕ} {e : Entry} {y : Index} → Putting x b e (som
 put-frame {x} v =
     let a = put-as v in
     subst (SameJob x) (sym (a .index))
-    (record { frame = record { size = refl; fill = refl; maxBucket = refl }; job = refl })
+    (record { frame = framed; job = refl })
 
 pub insert-frame : (x : Index) (q : Pair) (y : Index) → insert x q ≡ done y → SameJob x y
 insert-frame x q y h = go (rw h at (insert-view x q))
@@ -47,10 +61,10 @@ unfolding cut
 remove-frame x q y h = go (rw h at (remove-view x q))
   where
     cuts : (j : Job) (b : Bool) → SameJob x (cutHeld j x q b)
-    cuts idle b = record { frame = record { size = refl; fill = refl; maxBucket = refl }; job = refl }
-    cuts clearing b = record { frame = record { size = refl; fill = refl; maxBucket = refl }; job = refl }
-    cuts copying true = record { frame = record { size = refl; fill = refl; maxBucket = refl }; job = refl }
-    cuts copying false = record { frame = record { size = refl; fill = refl; maxBucket = refl }; job = refl }
+    cuts idle b = record { frame = framed; job = refl }
+    cuts clearing b = record { frame = framed; job = refl }
+    cuts copying true = record { frame = framed; job = refl }
+    cuts copying false = record { frame = framed; job = refl }
 
     go : {z : Index} → Removing x q (done z) → SameJob x z
     go (removed k l) = cuts (x .job) (eqb (bucket x q) (newBucket x))
@@ -59,13 +73,14 @@ remove-frame x q y h = go (rw h at (remove-view x q))
 pub record Begun (x y : Index) : Type 0 where
   pub size : y .size ≡ x .size
   pub fill : y .fill ≡ x .fill
+  pub number : y .number ≡ x .number
   pub maxBucket : y .maxBucket ≡ suc (x .maxBucket)
   pub job : y .job ≡ copying
 
 pub begin-frame : (x y : Index) → x .job ≡ idle → step x ≡ next y → Begun x y
 begin-frame x y j h =
     let b = begin-widens x y j h in
-    subst (Begun x) (sym (b .1)) (record { size = refl; fill = refl; maxBucket = refl; job = refl })
+    subst (Begun x) (sym (b .1)) (record { size = refl; fill = refl; number = refl; maxBucket = refl; job = refl })
 
 pub job-frame : (x y : Index) → x .job ≢ idle → step x ≡ next y → Framed x y
 unfolding cut
@@ -74,9 +89,26 @@ job-frame x y j h = go (rw h at (step-view x))
     go : {z : Index} → Stepping x (next z) → Framed x z
     go (began i k v) = absurd (j i)
     go (copied i e k v) = put-frame v .frame
-    go (copiedAll i k) = record { size = refl; fill = refl; maxBucket = refl }
-    go (cleared i e k) = record { size = refl; fill = refl; maxBucket = refl }
-    go (clearedAll i k) = record { size = refl; fill = refl; maxBucket = refl }
+    go (copiedAll i k) = framed
+    go (cleared i e k) = framed
+    go (clearedAll i k) = framed
+
+-- ---- N and the store number stay
+
+pub record SameStore (x y : Index) : Type 0 where
+  pub size : y .size ≡ x .size
+  pub number : y .number ≡ x .number
+
+pub step-store : (x y : Index) → step x ≡ next y → SameStore x y
+step-store x y e = go (x .job) refl
+  where
+    busy : x .job ≢ idle → SameStore x y
+    busy ne = let f = job-frame x y ne e in record { size = f .size; number = f .number }
+
+    go : (j : Job) → x .job ≡ j → SameStore x y
+    go idle q = let f = begin-frame x y q e in record { size = f .size; number = f .number }
+    go copying q = busy (λ r. let z : _≡_ {A = ℕ} 0 1 = cc in omega arith)
+    go clearing q = busy (λ r. let z : _≡_ {A = ℕ} 0 1 = cc in omega arith)
 
 -- ---- stops
 

@@ -98,9 +98,10 @@ module _ (M : Machine) where
   abbrev pub start : State → Order → Moment
   start s o = record { state = s; book = []; fill = o .fill; begins = 0; split = noSplit }
 
-  -- a claim at the start, when a format was accepted, and at every moment of every list of calls that follows
+  -- a claim at the start, when a format was accepted, and at every moment of every list of calls that follows; the
+  -- numbers of all of them come as u32
   abbrev pub Always : (Moment → Type 0) → Type 0
   Always P =
-      (s : State) (o : Order) → accepted (M .run (formatting o) s .reply) ≡ true
+      (s : State) (o : Order) → CallFits (formatting o) → accepted (M .run (formatting o) s .reply) ≡ true
       → (cs : List Call) → Each CallFits cs
       → let t = start (M .run (formatting o) s .state) o in Each P (t ∷ history cs t)

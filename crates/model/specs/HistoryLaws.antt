@@ -15,9 +15,9 @@ use Rattle.model.specs.History.{Moment, phaseAt, stepAt, stepped, stages
 use Rattle.model.specs.History.{start, Always}
 
 pub always-map : {M : Machine} (P Q : Moment M → Type 0) → ((t : Moment M) → P t → Q t) → Always M P → Always M Q
-always-map {M} P Q f d s o ok cs fits =
+always-map {M} P Q f d s o small ok cs fits =
     let t = start M (M .run (formatting o) s .state) o in
-    each-map P Q f (t ∷ history M cs t) (d s o ok cs fits)
+    each-map P Q f (t ∷ history M cs t) (d s o small ok cs fits)
 
 -- ---- the moment after a call
 

@@ -21,10 +21,12 @@ pub record Chain : Type 0 where
 pub data Job : Type 0 where
   idle copying clearing : Job
 
--- `spares` are spares[0..s]; `chains` has the chain of each bucket, from 0 to the max bucket.
+-- `number` is the store number; `spares` are spares[0..s]; `chains` has the chain of each bucket, from 0 to the max
+-- bucket.
 pub record Index : Type 0 where
   pub size : ℕ
   pub fill : ℕ
+  pub number : ℕ
   pub maxBucket : ℕ
   pub spares : List ℕ
   pub job : Job
@@ -66,6 +68,7 @@ setChain x sp b c =
     record {
       size = x .size;
       fill = x .fill;
+      number = x .number;
       maxBucket = x .maxBucket;
       spares = sp;
       job = x .job;
@@ -77,6 +80,7 @@ setJob x j =
     record {
       size = x .size;
       fill = x .fill;
+      number = x .number;
       maxBucket = x .maxBucket;
       spares = x .spares;
       job = j;

@@ -47,6 +47,7 @@ module _ (x : Index) (l : Laid x) (b : ℕ) (fits : b < length (x .chains)) wher
       → ChainOk c → Laid (setChain x sp b c)
   set-laid sp c so once made ok =
       record {
+        number = l .number;
         size = l .size;
         fillLow = l .fillLow;
         fillHigh = l .fillHigh;
@@ -168,6 +169,7 @@ module _ (x : Index) (l : Laid x) where
 pub job-laid : (x : Index) (j : Job) → Laid x → Laid (setJob x j)
 job-laid x j l =
     record {
+      number = l .number;
       size = l .size;
       fillLow = l .fillLow;
       fillHigh = l .fillHigh;
@@ -194,6 +196,7 @@ widen-laid : (x : Index) (sp : List ℕ) → Laid x → SparesOk sp (point (suc 
     → topBit x ≤ getD sp (point (suc (x .maxBucket))) 0 → Laid (widen x sp)
 widen-laid x sp l so le =
     record {
+      number = l .number;
       size = l .size;
       fillLow = l .fillLow;
       fillHigh = l .fillHigh;

@@ -39,6 +39,7 @@ pub mod BookLaws
 pub mod MachineLaws
 pub mod CounterexampleLaws
 pub mod RunLaws
+pub mod NumberLaws
 pub mod HistoryLaws
 pub mod EventLaws
 pub mod Demand3AnswerLaws

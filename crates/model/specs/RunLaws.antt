@@ -30,7 +30,7 @@ refused-no (Refusal.OutputShort n) = refl
 
 pub data Running (x : Index) : Effect → Ran Index → Type 0 where
   refuses : {e : Effect} {r : Reply} → accepted r ≡ false → Running x e (record { reply = r; state = x })
-  formats : {o : Order} → sizeOk (x .size) ≡ true → formatOk o ≡ true
+  formats : {o : Order} → CallFits (formatting o) → sizeOk (x .size) ≡ true → formatOk o ≡ true
       → Running x (empties o) (record { reply = plain Answer.Done; state = format (x .size) o })
   inserts : {p : Pair} {y : Index} → CallFits (inserting p) → insert x p ≡ done y
       → Running x (puts p) (record { reply = plain Answer.Done; state = y })
@@ -46,7 +46,7 @@ run-view (formatting o) fits x = go (sizeOk (x .size)) (formatOk o) refl refl
   where
     go : (s f : Bool) → sizeOk (x .size) ≡ s → formatOk o ≡ f
         → Running x (empties o) (settled x (formatIn s f (format (x .size) o)))
-    go true true e k = formats e k
+    go true true e k = formats fits e k
     go true false e k = refuses refl
     go false f e k = refuses refl
 run-view (inserting p) fits x = go (insert x p) refl
@@ -71,7 +71,8 @@ run-view asking fits x = reads
 
 -- format, insert, remove and each step keep P
 pub record Keeps (P : Index → Type 0) : Type 0 where
-  pub formats : (x : Index) (o : Order) → sizeOk (x .size) ≡ true → formatOk o ≡ true → P x → P (format (x .size) o)
+  pub formats : (x : Index) (o : Order) → CallFits (formatting o) → sizeOk (x .size) ≡ true → formatOk o ≡ true → P x
+      → P (format (x .size) o)
   pub inserts : (x : Index) (p : Pair) (y : Index) → P x → CallFits (inserting p) → insert x p ≡ done y → P y
   pub removes : (x : Index) (p : Pair) (y : Index) → P x → remove x p ≡ done y → P y
   pub steps : (x y : Index) → P x → step x ≡ next y → P y
@@ -82,7 +83,7 @@ run-keeps P k c fits x h = go (run-view c fits x)
   where
     go : {e : Effect} {r : Ran Index} → Running x e r → P (r .state)
     go (refuses d) = h
-    go (formats {o = o} s f) = k .formats x o s f h
+    go (formats {o = o} fits s f) = k .formats x o fits s f h
     go (inserts {p = p} {y = y} f e) = k .inserts x p y h f e
     go (removes {p = p} {y = y} e) = k .removes x p y h e
     go reads = h

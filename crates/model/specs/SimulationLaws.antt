@@ -90,8 +90,8 @@ module _ (M L : Machine) (R : L .State → M .State → Type 0) where
     -- L's work calls are made of its own steps (`iterate-works`)
     pub works : (s : L .State) (x : M .State) → R s x → (budget : ℕ) → budget ≤ 65535 → WorkIs L s budget
     -- whatever L formats, some state of M formats to a related one
-    pub formats : (s : L .State) (o : Order) → accepted (L .run (formatting o) s .reply) ≡ true
-        → Formats s o
+    pub formats : (s : L .State) (o : Order) → CallFits (formatting o)
+        → accepted (L .run (formatting o) s .reply) ≡ true → Formats s o
 
 -- moments with related states that know the same
 module _ {M L : Machine} (R : L .State → M .State → Type 0) where
@@ -185,11 +185,11 @@ module _ {M L : Machine} (R : L .State → M .State → Type 0) where
 pub carry : {M L : Machine} (R : L .State → M .State → Type 0) → Simulates M L R
     → (Q : Moment M → Type 0) (P : Moment L → Type 0) → ((t : Moment L) (u : Moment M) → Beside R t u → Q u → P t)
     → Always M Q → Always L P
-carry {M} {L} R sim Q P f d s o ok cs fits =
-    both-each P Q f (also b (history-beside R sim cs t u fits b)) (d (g .from) o (g .taken) cs fits)
+carry {M} {L} R sim Q P f d s o small ok cs fits =
+    both-each P Q f (also b (history-beside R sim cs t u fits b)) (d (g .from) o small (g .taken) cs fits)
   where
     g : Formats M L R s o
-    g = sim .formats s o ok
+    g = sim .formats s o small ok
 
     t : Moment L
     t = start L (L .run (formatting o) s .state) o

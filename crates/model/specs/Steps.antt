@@ -31,6 +31,7 @@ widen x sp =
     record {
       size = x .size;
       fill = x .fill;
+      number = x .number;
       maxBucket = suc (x .maxBucket);
       spares = sp;
       job = copying;

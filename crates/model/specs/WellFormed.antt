@@ -4,7 +4,7 @@ use mathlib.Core.Path.{_≡_}
 use mathlib.Core.Logic.{_≢_}
 use mathlib.Core.Bool.{true, false, not, _&&_}
 use mathlib.Core.List.{List}
-use Prim.Native.Nat.{ℕ, suc, _+_, _≤_, _<_}
+use Prim.Native.Nat.{ℕ, suc, _+_, _^_, _≤_, _<_}
 use lib.Dec.{eqb}
 use lib.ListN.{length}
 use Rattle.lists.specs.Lists.{tally, Each}
@@ -48,7 +48,8 @@ uses n x = tally (eqb n) (bitsUsed x)
 
 -- rules 1 to 5, but for pairs that stand twice
 pub record Laid (x : Index) : Type 0 where
-  -- rule 1: N; 2: fill, "max bucket at least 1", the spares, "made blocks at most N"
+  -- the store number has its width; rule 1: N; 2: fill, "max bucket at least 1", the spares, "made blocks at most N"
+  pub number : x .number < 2 ^ 32
   pub size : x .size ≤ maxBlocks
   pub fillLow : 1 ≤ x .fill
   pub fillHigh : x .fill ≤ 40

@@ -2,9 +2,10 @@
 // specs/Answers.antt.
 pub mod numbers; // numbers.rt: the numbers of answers, in code
 
-// The numbers that a caller gives format. N is none of them: it is the store's length.
+// The numbers that a caller gives format: the fill, and the store number. N is none of them: it is the store's length.
 pub struct Order {
     pub fill: u32,
+    pub number: u32,
 }
 
 // Why a call was refused, with what the refusal gives besides.

@@ -2,13 +2,14 @@
 use mathlib.Core.Path.{_≡_, refl, ap, ap₂, _∙_}
 use mathlib.Core.Bool.{Bool, true, _&&_}
 use mathlib.Core.List.{List, [], _∷_, _++_, map}
-use Prim.Native.Nat.{ℕ, zero, suc, _+_, _*_, _/_, _%_, _<_}
+use Prim.Native.Nat.{ℕ, zero, suc, _+_, _*_, _/_, _%_, _^_, _<_}
 use native.Mathlib.Omega.{arith}
-use borrow.Author.Tests.{eq-eqb}
-use lib.Dec.{eqb}
+use borrow.Author.Tests.{eq-eqb, leb-true}
+use lib.Dec.{leb, eqb}
 use lib.IntN.{ℤ, pos}
 use lib.ListN.{length, getD, drop, replicate}
 use Rattle.lists.specs.Lists.{upFrom, Each}
+use Rattle.lists.specs.ListsLaws.{and-right}
 use Rattle.lists.specs.Block.{blocks, block}
 use Rattle.endian.specs.Endian.{le16, le32, u16At, u32At}
 use Rattle.address.specs.Address.{bucketsAt, maskDigits, highMask, lowMask, bucketOf, bitLength, splitFrom}
@@ -21,7 +22,7 @@ use Rattle.model.specs.Index.{Index}
 use Rattle.model.specs.Pages.{freeBit, firstFree, takePage, put, cut}
 use Rattle.model.specs.Held.{sources, held, matches, count, slack, wanted}
 use Rattle.model.specs.Steps.{begin, step}
-use Rattle.model.specs.Calls.{sizeOk, formatOk, format, insert, remove, lookup, standing, work}
+use Rattle.model.specs.Calls.{sizeOk, fillOk, orderOf, formatOk, format, insert, remove, lookup, standing, work}
 use Rattle.model.specs.Machine.{Call, formatting, inserting, removing, looking, working, asking, CallFits}
 use Rattle.model.specs.Machine.{Reply, plain, replyNo, runIndex, onIndex}
 use Rattle.model.specs.FormatLaws.{format-wf}
@@ -35,7 +36,7 @@ use Rattle.image.specs.EncodeLaws.{block-encode}
 use Rattle.image.specs.EncodePagesLaws.{meta-encode, point-encode, spares-encode}
 use Rattle.image.specs.SoundStore.{Encodes}
 use Rattle.outcomes.specs.OutcomeMachineLaws.{simulates}
-use Rattle.outcomes.specs.Cards.{stateAfter, replies, orderOf, cardPair, evens, replyNumbers, slackIn, hashesOn, Card}
+use Rattle.outcomes.specs.Cards.{stateAfter, replies, cardPair, evens, replyNumbers, slackIn, hashesOn, Card}
 use Rattle.outcomes.specs.Cards.{cardStore, nos, cards, Bench}
 
 -- ---- a store and the index whose bytes it is
@@ -95,13 +96,17 @@ infixr 5 _also_
 abbrev _also_ : {A B : Type 0} → A → B → A × B
 a also b = (a, b)
 
-module _ (fresh : ℕ → List ℕ) (e : (n : ℕ) → length (fresh n) ≡ 512 * n) where
-  refused-C : nos fresh 3 (formatting (orderOf 10) ∷ []) ≡ 1 ∷ []
+module _ (fresh : ℕ → List ℕ) (e : (n : ℕ) → length (fresh n) ≡ 512 * n) (number : ℕ) (fits : number < 2 ^ 32) where
+  refused-C : nos fresh 3 (formatting (orderOf 10 number) ∷ []) ≡ 1 ∷ []
   unfolding runStore
-  refused-C = ap (λ (c : Changed). replyNo (plain (c .answer)) ∷ []) (format-is (fresh 3) 3 (orderOf 10) (e 3))
+  refused-C =
+      ap (λ (c : Changed). replyNo (plain (c .answer)) ∷ []) (format-is (fresh 3) 3 (orderOf 10 number) (e 3))
 
   -- an accepted format
-  module _ (n : ℕ) (o : Order) (a : sizeOk n ≡ true) (b : formatOk o ≡ true) where
+  module _ (n fill : ℕ) (a : sizeOk n ≡ true) (b : fillOk fill ≡ true) where
+    abbrev o : Order
+    o = orderOf fill number
+
     start : List ℕ
     start = runStore (formatting o) (fresh n) .state
 
@@ -111,7 +116,9 @@ module _ (fresh : ℕ → List ℕ) (e : (n : ℕ) → length (fresh n) ≡ 512 
 
     format-encodes : Encodes start (format n o)
     unfolding start runStore
-    format-encodes = (format-wf n o a b, ap (λ (c : Changed). c .store) format-accepted)
+    format-encodes =
+        let few = leb-true fill 40 (and-right (leb 1 fill) (leb fill 40) b) in
+        (format-wf n o (omega (arith, few), fits) a b, ap (λ (c : Changed). c .store) format-accepted)
 
     -- then k inserts, and more
     module _ (k : ℕ) (h : k < 1000) (more : List Call) (f : Each CallFits more) where
@@ -136,7 +143,7 @@ module _ (fresh : ℕ → List ℕ) (e : (n : ℕ) → length (fresh n) ≡ 512 
           simulates .reply c g (cardStore fresh n (formatting o ∷ cs)) (stateAfter onIndex cs (format n o)) store-is
 
   -- cards C to K: E and F are the stores after those cards' calls, each with its index; G to J are what calls get
-  calls : Each (λ (c : Card). c .gives ≡ c .said) (drop 3 (cards fresh))
+  calls : Each (λ (c : Card). c .gives ≡ c .said) (drop 3 (cards fresh number))
   unfolding cards
       bucketsAt maskDigits highMask lowMask bucketOf bitLength splitFrom point bucketPoint bucketBlock bitBlock made
       freeBit firstFree takePage put cut sources held matches count slack wanted begin step
@@ -144,19 +151,22 @@ module _ (fresh : ℕ → List ℕ) (e : (n : ℕ) → length (fresh n) ≡ 512 
       metaOf padded mapFront roleOf encodeBlock sealedBlock image paged blank sealed covered trailer
       le16 le32 u16At u32At encodeEntry encodePage readEntry entryAt entriesFrom entriesOf
   calls =
-      let E = store-is 5 (orderOf 40) refl refl 41 (omega arith) [] tt in
-      let F = store-is 5 (orderOf 40) refl refl 41 (omega arith) (removing (cardPair 80) ∷ []) (omega arith) in
+      let E = store-is 5 40 refl refl 41 (omega arith) [] tt in
+      let F = store-is 5 40 refl refl 41 (omega arith) (removing (cardPair 80) ∷ []) (omega arith) in
       let F₂ =
-      store-is 5 (orderOf 40) refl refl 41 (omega arith) (removing (cardPair 80) ∷ inserting (cardPair 82) ∷ []) (omega arith) in
-      let G = reply-is 6 (orderOf 1) refl refl 3 (omega arith) [] tt in
-      let H = reply-is 5 (orderOf 1) refl refl 3 (omega arith) [] tt in
-      let I = reply-is 6 (orderOf 1) refl refl 3 (omega arith) (working 2 ∷ []) (omega arith) in
-      let I₂ = reply-is 6 (orderOf 1) refl refl 3 (omega arith) (working 2 ∷ removing (cardPair 2) ∷ []) (omega arith) in
-      let J = reply-is 4 (orderOf 1) refl refl 0 (omega arith) [] tt in
-      ap (map pos) (nos-are 4 (orderOf 10) refl refl 0 (omega arith) [] tt)
+      store-is 5 40 refl refl 41 (omega arith) (removing (cardPair 80) ∷ inserting (cardPair 82) ∷ [])
+      (omega arith) in
+      let G = reply-is 6 1 refl refl 3 (omega arith) [] tt in
+      let H = reply-is 5 1 refl refl 3 (omega arith) [] tt in
+      let I = reply-is 6 1 refl refl 3 (omega arith) (working 2 ∷ []) (omega arith) in
+      let I₂ =
+      reply-is 6 1 refl refl 3 (omega arith) (working 2 ∷ removing (cardPair 2) ∷ []) (omega arith) in
+      let J = reply-is 4 1 refl refl 0 (omega arith) [] tt in
+      ap (map pos) (nos-are 4 10 refl refl 0 (omega arith) [] tt)
       also ap (map pos) refused-C
-      also ap (map pos) (nos-are 4 (orderOf 40) refl refl 41 (omega arith) (inserting (cardPair 1) ∷ []) (omega arith))
-      also ap (map pos) (nos-are 5 (orderOf 40) refl refl 41 (omega arith) [] tt)
+      also ap (map pos)
+      (nos-are 4 40 refl refl 41 (omega arith) (inserting (cardPair 1) ∷ []) (omega arith))
+      also ap (map pos) (nos-are 5 40 refl refl 41 (omega arith) [] tt)
       also ap page (block-is E 4 (omega arith))
       also ap (λ (m : Meta). pos (getD (m .spares) 1 0) ∷ []) (meta-is E)
       also ap page (block-is F 4 (omega arith))
@@ -183,4 +193,4 @@ module _ (fresh : ℕ → List ℕ) (e : (n : ℕ) → length (fresh n) ≡ 512 
 
 pub bench : Bench
 unfolding cards bucketsAt maskDigits highMask lowMask bucketOf bucketPoint bucketBlock bitBlock
-bench fresh e = (refl, (refl, (refl, calls fresh e)))
+bench fresh e number fits = (refl, (refl, (refl, calls fresh e number fits)))

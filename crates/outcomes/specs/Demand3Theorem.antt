@@ -26,12 +26,13 @@ demand3-stores =
     transfer Encodes simulates (λ x. x) decode (λ s x r. ap decode (r .1) ∙ encoding-is-sound x (r .0) .read) demand3
 
 -- the store that format leaves, and every store of the list, is sound and as long as the first
-pub history-length : (s : List ℕ) (o : Order) → accepted (runStore (formatting o) s .reply) ≡ true
+pub history-length : (s : List ℕ) (o : Order) → CallFits (formatting o)
+    → accepted (runStore (formatting o) s .reply) ≡ true
     → (cs : List Call) → Each CallFits cs
     → let t = start onStore (runStore (formatting o) s .state) o in
     Each (λ (u : Moment onStore). StaysSound s (u .state)) (t ∷ history onStore cs t)
 unfolding runStore
-history-length s o e cs f =
+history-length s o fits e cs f =
     let t = start onStore (runStore (formatting o) s .state) o in
-    let h = format-sound s o e in
+    let h = format-sound s o fits e in
     (h, history-keeps onStore (StaysSound s) (keeps-call s) (keeps-step s) cs f t h)

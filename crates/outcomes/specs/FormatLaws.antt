@@ -35,20 +35,20 @@ use Rattle.outcomes.specs.Format.{formatMeta, formatBlock}
 use Rattle.lists.specs.TestLaws.{bind-cong}
 
 module _ (n : ℕ) (o : Order) where
-  meta-format : encodeBlock (format n o) 0 ≡ formatBlock n (o .fill) 0
+  meta-format : encodeBlock (format n o) 0 ≡ formatBlock n o 0
   unfolding encodeBlock image roleOf format formatBlock formatMeta metaFront metaOf padded count firstFree freeBit
       highMask maskDigits lowMask le32 le16
   meta-format = rw point-first
 
-  first-format : encodeBlock (format n o) 1 ≡ formatBlock n (o .fill) 1
+  first-format : encodeBlock (format n o) 1 ≡ formatBlock n o 1
   unfolding encodeBlock image format formatBlock bucketImage flagsOf lastSplit encodePage le16
   first-format = ap (image (format n o)) role-first
 
-  second-format : encodeBlock (format n o) 2 ≡ formatBlock n (o .fill) 2
+  second-format : encodeBlock (format n o) 2 ≡ formatBlock n o 2
   unfolding encodeBlock image format formatBlock bucketImage flagsOf lastSplit encodePage le16
   second-format = ap (image (format n o)) role-second
 
-  bitmap-format : encodeBlock (format n o) 3 ≡ formatBlock n (o .fill) 3
+  bitmap-format : encodeBlock (format n o) 3 ≡ formatBlock n o 3
   unfolding encodeBlock image format formatBlock mapFront
   bitmap-format = ap (image (format n o)) role-bitmap ∙ rw point-first
 
@@ -56,7 +56,7 @@ module _ (n : ℕ) (o : Order) where
   unfolding encodeBlock image format
   past k h = ap (image (format n o)) (role-past k h)
 
-  pub format-block : (k : ℕ) → encodeBlock (format n o) k ≡ formatBlock n (o .fill) k
+  pub format-block : (k : ℕ) → encodeBlock (format n o) k ≡ formatBlock n o k
   unfolding formatBlock
   format-block zero = meta-format
   format-block (suc zero) = first-format
@@ -64,11 +64,11 @@ module _ (n : ℕ) (o : Order) where
   format-block (suc (suc (suc zero))) = bitmap-format
   format-block (suc (suc (suc (suc k)))) = past (suc (suc (suc (suc k)))) (omega arith)
 
-  pub format-unused : (k : ℕ) → 4 ≤ k → formatBlock n (o .fill) k ≡ blank
+  pub format-unused : (k : ℕ) → 4 ≤ k → formatBlock n o k ≡ blank
   format-unused k h = sym (format-block k) ∙ past k h
 
-  pub format-bytes : encode (format n o) ≡ bind (upFrom 0 n) (λ k. sealed (formatBlock n (o .fill) k))
+  pub format-bytes : encode (format n o) ≡ bind (upFrom 0 n) (λ k. sealed (o .number) k (formatBlock n o k))
   unfolding encode sealedBlock format
   format-bytes =
-      bind-cong (sealedBlock (format n o)) (λ k. sealed (formatBlock n (o .fill) k)) (upFrom 0 n)
-      (λ k. ap sealed (format-block k))
+      bind-cong (sealedBlock (format n o)) (λ k. sealed (o .number) k (formatBlock n o k)) (upFrom 0 n)
+      (λ k. ap (sealed (o .number) k) (format-block k))

@@ -5,9 +5,11 @@ pub mod FormatLaws
 pub mod OutcomeLaws
 pub mod OutcomeIndexLaws
 pub mod OutcomeSoundLaws
+pub mod NumberLaws
 pub mod OutcomeHistoryLaws
 pub mod OutcomeMachineLaws
 pub mod Demand3Theorem
 pub mod Cards
 pub mod CardsLaws
 pub mod StoreExamples
+pub mod NumberExamples

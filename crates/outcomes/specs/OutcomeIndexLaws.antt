@@ -167,7 +167,7 @@ pub run-wf : (c : Call) → CallFits c → (x : Index) → WF x → WF (runIndex
 run-wf =
     run-keeps WF
     (record {
-      formats = λ x o s f w. format-wf (x .size) o s f;
+      formats = λ x o g s f w. format-wf (x .size) o g s f;
       inserts = insert-wf;
       removes = remove-wf;
       steps = step-wf;

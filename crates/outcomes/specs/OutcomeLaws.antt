@@ -110,7 +110,7 @@ module _ (c : Call) (t : Tests (effect c)) (s : List ℕ) where
 -- it leaves the store or is accepted.
 pub data StoreRun (c : Call) (s : List ℕ) : Ran (List ℕ) → Type 0 where
   refuses : {r : Reply} → accepted r ≡ false → StoreRun c s (record { reply = r; state = s })
-  formats : (o : Order) → lengthOk s ≡ true → formatOk o ≡ true
+  formats : (o : Order) → c ≡ formatting o → lengthOk s ≡ true → formatOk o ≡ true
       → StoreRun c s (record { reply = plain Answer.Done; state = encode (format (blocks s) o) })
   reads : {r : Reply} {x : Index} → tested (callNumbersOk (effect c)) s ≡ passed x
       → StoreRun c s (record { reply = r; state = s })
@@ -131,7 +131,7 @@ store-view (formatting o) s = go (lengthOk s) (formatOk o) refl refl
         StoreRun (formatting o) s (record { reply = plain (d .answer); state = d .store })
     go false f e k = refuses refl
     go true false e k = refuses refl
-    go true true e k = formats o e k
+    go true true e k = formats o refl e k
 store-view (inserting p) s = go (tested (pairOk p) s) refl
   where
     go : (t : Tested) → tested (pairOk p) s ≡ t
@@ -168,7 +168,7 @@ refusal-leaves c s e = go (store-view c s) e
   where
     go : {r : Ran (List ℕ)} → StoreRun c s r → accepted (r .reply) ≡ false → r .state ≡ s
     go (refuses h) e = refl
-    go (formats o h k) e = never (cc)
+    go (formats o i h k) e = never (cc)
     go (reads k) e = refl
     go (accepts k h) e = never (cc)
 

@@ -10,7 +10,7 @@ use Rattle.model.specs.declared.Order.{Order}
 use Rattle.model.specs.declared.Answer.{Answer}
 use Rattle.model.specs.Index.{Index}
 use Rattle.model.specs.Calls.{format, formatIn, formatted}
-use Rattle.model.specs.Machine.{formatting, plain, accepted, Ran, settled, runIndex, onIndex}
+use Rattle.model.specs.Machine.{formatting, CallFits, plain, accepted, Ran, settled, runIndex, onIndex}
 use Rattle.model.specs.WellFormed.{WF}
 use Rattle.model.specs.SimulationLaws.{Formats, Simulates}
 use Rattle.image.specs.Layout.{encode}
@@ -22,10 +22,10 @@ use Rattle.image.specs.SoundStore.{Encodes}
 use Rattle.outcomes.specs.OutcomeIndexLaws.{tested-encode, step-alike, run-encode, run-wf}
 
 -- a store that format accepts becomes the bytes of what the model's format gives
-formats : (s : List ℕ) (o : Order) → accepted (runStore (formatting o) s .reply) ≡ true
+formats : (s : List ℕ) (o : Order) → CallFits (formatting o) → accepted (runStore (formatting o) s .reply) ≡ true
     → Formats onIndex onStore Encodes s o
 unfolding runStore runIndex formatted format
-formats s o e =
+formats s o fits e =
     record {
       from = y;
       taken = ap (λ (a : Ran Index). accepted (a .reply)) ran;
@@ -36,7 +36,7 @@ formats s o e =
     }
   where
     f : Formatted s o
-    f = format-done s o e
+    f = format-done s o fits e
 
     y : Index
     y = format (blocks s) o

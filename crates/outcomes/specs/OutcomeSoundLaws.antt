@@ -1,6 +1,5 @@
 -- "After every accepted call and every step the store is sound" (docs/RULES.md 6.11), and as long as it was.
 use mathlib.Core.Path.{_≡_, refl, sym, ap, ap₂, _∙_, subst}
-use mathlib.Core.Logic.{_≢_}
 use mathlib.Core.Bool.{Bool, true, false}
 use mathlib.Core.List.{List}
 use Prim.Native.Nat.{ℕ, _%_}
@@ -13,13 +12,13 @@ use Rattle.lists.specs.Bytes.{Bytes}
 use Rattle.lists.specs.Block.{blocks}
 use Rattle.model.specs.declared.Order.{Order}
 use Rattle.model.specs.declared.Answer.{Answer}
-use Rattle.model.specs.Index.{Job, idle, copying, clearing, Index}
+use Rattle.model.specs.Index.{Index}
 use Rattle.model.specs.Steps.{Step, next, stopped, step}
 use Rattle.model.specs.Calls.{sizeOk, formatOk, format}
-use Rattle.model.specs.Machine.{Call, CallFits, plain, accepted, Ran, runIndex}
+use Rattle.model.specs.Machine.{Call, formatting, CallFits, plain, accepted, Ran, runIndex}
 use Rattle.model.specs.Book.{effect}
 use Rattle.model.specs.WellFormed.{WF}
-use Rattle.model.specs.FrameLaws.{insert-frame, remove-frame, begin-frame, job-frame}
+use Rattle.model.specs.FrameLaws.{insert-frame, remove-frame, step-store}
 use Rattle.model.specs.StepLaws.{step-wf}
 use Rattle.model.specs.RunLaws.{run-keeps}
 use Rattle.model.specs.FormatLaws.{format-wf}
@@ -37,26 +36,15 @@ use Rattle.outcomes.specs.OutcomeIndexLaws.{step-encode, run-encode, run
 
 -- ---- the size stays
 
-step-size : (x y : Index) → step x ≡ next y → y .size ≡ x .size
-step-size x y e = go (x .job) refl
-  where
-    busy : x .job ≢ idle → y .size ≡ x .size
-    busy ne = job-frame x y ne e .size
-
-    go : (j : Job) → x .job ≡ j → y .size ≡ x .size
-    go idle q = begin-frame x y q e .size
-    go copying q = busy (λ r. never (cc))
-    go clearing q = busy (λ r. never (cc))
-
 pub run-size : (c : Call) → CallFits c → (x : Index) → runIndex c x .state .size ≡ x .size
 unfolding format
 run-size c f x =
     run-keeps (λ (y : Index). y .size ≡ x .size)
     (record {
-      formats = λ y o s k h. h;
+      formats = λ y o g s k h. h;
       inserts = λ y p z h k e. insert-frame y p z e .frame .size ∙ h;
       removes = λ y p z h e. remove-frame y p z e .frame .size ∙ h;
-      steps = λ y z h e. step-size y z e ∙ h;
+      steps = λ y z h e. step-store y z e .size ∙ h;
     })
     c f x refl
 
@@ -87,9 +75,10 @@ pub record Formatted (s : List ℕ) (o : Order) : Type 0 where
   pub outcome : formatOutcome s o ≡ record { answer = Answer.Done; store = encode (format (blocks s) o) }
   pub wf : WF (format (blocks s) o)
 
-pub format-done : (s : List ℕ) (o : Order) → accepted (plain (formatOutcome s o .answer)) ≡ true → Formatted s o
+pub format-done : (s : List ℕ) (o : Order) → CallFits (formatting o)
+    → accepted (plain (formatOutcome s o .answer)) ≡ true → Formatted s o
 unfolding formatOutcome
-format-done s o e = go (lengthOk s) refl (formatOk o) refl e
+format-done s o fits e = go (lengthOk s) refl (formatOk o) refl e
   where
     t : List ℕ
     t = encode (format (blocks s) o)
@@ -103,14 +92,15 @@ format-done s o e = go (lengthOk s) refl (formatOk o) refl e
           legal = h;
           numbers = k;
           outcome = ap₂ (λ (l f : Bool). formatOn l f s t) h k;
-          wf = format-wf (blocks s) o (legal-size s h) k;
+          wf = format-wf (blocks s) o fits (legal-size s h) k;
         }
 
-pub format-sound : (s : List ℕ) (o : Order) → accepted (plain (formatOutcome s o .answer)) ≡ true
+pub format-sound : (s : List ℕ) (o : Order) → CallFits (formatting o)
+    → accepted (plain (formatOutcome s o .answer)) ≡ true
     → StaysSound s (formatOutcome s o .store)
 unfolding format
-format-sound s o e =
-    let f = format-done s o e in
+format-sound s o fits e =
+    let f = format-done s o fits e in
     encoded s (formatOutcome s o .store) (format (blocks s) o) (f .legal)
     (f .wf, ap (λ (c : Changed). c .store) (f .outcome)) refl
 
@@ -144,8 +134,9 @@ module _ (s : List ℕ) (b : Bytes s) where
       go : {r : Ran (List ℕ)} → StoreRun c s r → accepted (r .reply) ≡ true → runStore c s ≡ r
           → StaysSound s (r .state)
       go (refuses h) e q = never (cc)
-      go (formats o h k) e q =
-          encoded s _ (format (blocks s) o) h (format-wf (blocks s) o (legal-size s h) k, refl) refl
+      go (formats o i h k) e q =
+          let w = format-wf (blocks s) o (subst CallFits i f) (legal-size s h) k in
+          encoded s _ (format (blocks s) o) h (w, refl) refl
       go (reads {x = x} k) e q = passing x k q
       go (accepts {x = x} k h) e q = passing x k q
 
@@ -158,5 +149,6 @@ module _ (s : List ℕ) (b : Bytes s) where
 
       go : (a : Step Index) → step x ≡ a → stepOn a ≡ next t → StaysSound s t
       go (next y) k q =
-          let z : encode y ≡ t = cc in encoded s t y h (step-wf x y (r .0) k, sym z) (step-size x y k ∙ size-is x r)
+          let z : encode y ≡ t = cc in
+          encoded s t y h (step-wf x y (r .0) k, sym z) (step-store x y k .size ∙ size-is x r)
       go (stopped c) k q = never (cc)

@@ -16,6 +16,7 @@ fieldsWith m count max high low point free spares =
       free = free;
       size = m .size;
       spares = spares;
+      number = m .number;
     }
 
 -- m with another count, first free and spares

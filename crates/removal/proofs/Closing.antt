@@ -139,7 +139,7 @@ module _ {s : List ℕ} {m : Meta} {c : Change} {images : List ℕ} {held : ℕ}
       shown j h = go (ℕ-discrete j 0) (ℕ-discrete j k)
         where
           i : j < blocks s
-          i = omega (arith, h, e .size, reads-size (e .reads))
+          i = omega (arith, h, e .same .size, reads-size (e .reads))
 
           go : Dec (j ≡ 0) → Dec (j ≡ k) → covered (block (setBlock (b .d′) 0 new) j) ≡ encodeBlock y j
           go (yes q) _ =
@@ -163,7 +163,7 @@ module _ {s : List ℕ} {m : Meta} {c : Change} {images : List ℕ} {held : ℕ}
       unfolding last
       planned t =
           let js = e .js ++ (0 ∷ b .sketch .ks) in
-          plans-of (e .reads) sketched y (e .laid) (e .size) js
+          plans-of (e .reads) sketched y (e .laid) (e .same) js
           (λ j o. e .frame j (each-left (λ (i : ℕ). j ≢ i) (e .js) _ o))
           (λ j o. each-right (λ (i : ℕ). j ≢ i) (e .js) _ o)
           (each-all (λ (j : ℕ). j < y .size → covered (block (setBlock (b .d′) 0 new) j) ≡ encodeBlock y j) 0 js

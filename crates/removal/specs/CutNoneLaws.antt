@@ -30,6 +30,7 @@ module _ (x : Index) (l : Laid x) (b : ℕ) (p : Pair) (none : any (is p) (entri
       ∙ ap (λ (cs : List Chain). record {
         size = x .size;
         fill = x .fill;
+        number = x .number;
         maxBucket = x .maxBucket;
         spares = x .spares;
         job = x .job;

@@ -14,6 +14,7 @@ use Rattle.image.specs.Decode.{decode}
 use Rattle.frame.specs.Frame.{Apart, mapBlock}
 use Rattle.draft.specs.Draft.{Listed}
 use Rattle.view.specs.Reads.{Reads}
+use Rattle.model.specs.FrameLaws.{SameStore}
 use Rattle.plan.specs.Fields.{fieldsAfter}
 use Rattle.plan.specs.Shape.{Shaped}
 use Rattle.plan.specs.Sketch.{Sketch}
@@ -41,7 +42,7 @@ pub record Ending (s : List ℕ) (m : Meta) (c : Change) (images : List ℕ) (he
   pub reads : Reads s m
   pub sketches : Sketches s c images 6 y
   pub laid : Laid y
-  pub size : y .size ≡ decode s .size
+  pub same : SameStore (decode s) y
   pub map : mapBlock y ≡ mapBlock (decode s)
   pub below : Below f × Below g
   pub bits : (i : ℕ) → mapBit y i ≡ clears g (clears f (mapBit (decode s))) i

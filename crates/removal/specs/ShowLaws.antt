@@ -54,6 +54,7 @@ module _ {w x : Index} {b : ℕ} (l : Like w b x) where
       sym (λ t. placeImage (record {
         size = 0;
         fill = 0;
+        number = 0;
         maxBucket = l .max t;
         spares = l .spares t;
         job = l .job t;
@@ -65,6 +66,7 @@ module _ {w x : Index} {b : ℕ} (l : Like w b x) where
       sym (λ t. placeBlock (record {
         size = 0;
         fill = 0;
+        number = 0;
         maxBucket = l .max t;
         spares = l .spares t;
         job = idle;
@@ -77,6 +79,7 @@ module _ {w x : Index} {b : ℕ} (l : Like w b x) where
       sym (λ t. let c : Chain = l .chain t in cond (any (is p) (entriesIn c)) (Found.At (placeBlock (record {
         size = 0;
         fill = 0;
+        number = 0;
         maxBucket = l .max t;
         spares = l .spares t;
         job = idle;

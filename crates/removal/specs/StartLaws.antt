@@ -90,7 +90,7 @@ module _ {s : List ℕ} {m : Meta} (r : Reads s m) (p : Pair) where
           reads = r;
           sketches = sketches-wider g 6 (omega arith);
           laid = cut-laid x l b i p;
-          size = refl;
+          same = record { size = refl; number = refl };
           map = refl;
           below = (subst Below (sym e) (cut-below x l b i p once), tt);
           bits = λ j. cut-bits x l b i p once j ∙ ap (λ (f : Freed). clears f (mapBit x) j) (sym e);
@@ -148,7 +148,7 @@ module _ {s : List ℕ} {m : Meta} (r : Reads s m) (p : Pair) where
           reads = r;
           sketches = k;
           laid = cut-laid z laid-z n range-z p;
-          size = unfold cut in refl;
+          same = unfold cut in record { size = refl; number = refl };
           map = unfold cut in refl;
           below = (
             subst Below (sym e) (cut-below x l o i p once),

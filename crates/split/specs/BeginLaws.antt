@@ -35,6 +35,7 @@ use Rattle.image.specs.BoundLaws.{max-under}
 use Rattle.image.specs.EncodeLaws.{bucket-inside}
 use Rattle.frame.specs.BeginLaws.{Stays, stays-point, stays-more}
 use Rattle.chain.specs.FindLaws.{isSome}
+use Rattle.model.specs.FrameLaws.{SameStore}
 use Rattle.plan.specs.Fields.{fieldsWith}
 
 module _ (x : Index) (l : Laid x) where
@@ -151,8 +152,12 @@ module _ (x : Index) (l : Laid x) where
     pub next-laid : Laid y
     next-laid = begin-laid x l begins
 
-    pub next-size : y .size ≡ x .size
-    next-size = ap (λ (z : Index). z .size) (widens begins)
+    pub next-same : SameStore x y
+    next-same =
+        record {
+          size = ap (λ (z : Index). z .size) (widens begins);
+          number = ap (λ (z : Index). z .number) (widens begins);
+        }
 
     -- the fields of the meta block, where f are those of x
     pub next-meta : (f : Meta) → f ≡ metaOf x → count y ≡ count x
@@ -190,7 +195,7 @@ module _ (x : Index) (l : Laid x) where
           arith,
           bucket-inside y next-laid (suc m) (omega (arith, ap (λ (z : Index). z .maxBucket) (widens begins))),
           stays begins .newest,
-          next-size,
+          next-same .size,
         )
 
     pub pages-apart : bucketBlock (x .spares) (splitFrom (suc (x .maxBucket))) ≢ bucketBlock (x .spares)

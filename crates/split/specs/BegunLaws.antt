@@ -53,7 +53,7 @@ use Rattle.split.specs.Job.{bucketAt}
 use Rattle.split.specs.JobLaws.{at-inside}
 use Rattle.split.specs.Begin.{nextBucket, parentBucket, newPage, madeDraft, oldLinked, linkedDraft, oldPage}
 use Rattle.split.specs.Begin.{begunDraft, Begun}
-use Rattle.split.specs.BeginLaws.{padded-new, field-next, next-laid, next-size, new-inside, pages-apart}
+use Rattle.split.specs.BeginLaws.{padded-new, field-next, next-laid, next-same, new-inside, pages-apart}
 
 -- ---- whether there is a next index
 
@@ -224,7 +224,7 @@ module _ {s : List ℕ} {m : Meta} (r : Reads s m) (y : Index) (b : begin (decod
     plans-begun job t =
         let l = reads-laid r in
         let v : Beginning x (some y) = rw b at (begin-view x) in
-        plans-of r fields-sketch y (next-laid x l y b) (next-size x l y b) (beginBlocks x)
+        plans-of r fields-sketch y (next-laid x l y b) (next-same x l y b) (beginBlocks x)
         (λ k a. frame-begin x l job v k a)
         (λ k a. (a .0, (a .1 .1 .0, (a .1 .1 .0, (a .1 .0, tt))))) (
           (λ h. ap covered (sketch-here (u .sketch) 0 zero-at metaPage meta-full) ∙ shaped-covered meta-length meta-new

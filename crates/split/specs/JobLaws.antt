@@ -118,7 +118,8 @@ module _ {s : List ℕ} {m : Meta} (r : Reads s m) where
         → Plans s c′ images′ (setJob (decode s) clearing)
     plans-copied g t =
         let y : Index = setJob x clearing in
-        plans-of r g y (job-laid x clearing (reads-laid r)) refl (bucketAt s old ∷ bucketAt s new ∷ [])
+        plans-of r g y (job-laid x clearing (reads-laid r)) (record { size = refl; number = refl })
+        (bucketAt s old ∷ bucketAt s new ∷ [])
         (frame-all clearing busy (step-copies x job left) (bucketAt s old ∷ bucketAt s new ∷ [])
         (λ k a.
         frame-copied x (reads-laid r) k (
@@ -181,7 +182,8 @@ module _ {s : List ℕ} {m : Meta} (r : Reads s m) where
         → Sketch s c images (clearedDraft s old) 1 (bucketAt s old ∷ []) → Trimmed s (clearedDraft s old) c′ images′
         → Plans s c′ images′ (setJob (decode s) idle)
     plans-cleared g t =
-        plans-of r g (setJob x idle) (job-laid x idle (reads-laid r)) refl (bucketAt s old ∷ [])
+        plans-of r g (setJob x idle) (job-laid x idle (reads-laid r)) (record { size = refl; number = refl })
+        (bucketAt s old ∷ [])
         (frame-all idle busy (step-clears x job left) (bucketAt s old ∷ [])
         (λ k a. frame-cleared x (reads-laid r) job k (a .0, ((λ q. a .1 .0 (q ∙ ap (bucketAt s) (sym is-old))), tt))))
         (λ k a. a)

@@ -12,8 +12,8 @@ copies s at b zero = s
 copies s at b (suc n) = setBlock (copies s at b n) (at n) (b n)
 
 -- the images after the first n are sealed
-unfoldable pub seals : List ℕ → ℕ → List ℕ
-seals images n = copies images (λ j. j) (λ j. sealed (block images j)) n
+unfoldable pub seals : (number : ℕ) → (numbers images : List ℕ) → ℕ → List ℕ
+seals number numbers images n = copies images (λ j. j) (λ j. sealed number (getD numbers j 0) (block images j)) n
 
 -- the store after the j-th block store
 unfoldable pub stored : List ℕ → List ℕ → List ℕ → ℕ → List ℕ

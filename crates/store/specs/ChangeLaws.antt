@@ -23,40 +23,47 @@ use Rattle.store.specs.CopyLaws.{
 
 -- ---- sealed images
 
-module _ (images : List ℕ) (n : ℕ) (fits : 512 * n ≤ length images) where
-  sealing : Copying images (λ j. j) (λ j. sealed (block images j)) n
+module _ (number : ℕ) (numbers images : List ℕ) (n : ℕ) (fits : 512 * n ≤ length images) where
+  sealing : Copying images (λ j. j) (λ j. sealed number (getD numbers j 0) (block images j)) n
   sealing =
       record {
         inside = λ j h. omega arith;
-        whole = λ j h. length-sealed (block images j) (omega (arith, length-block images j (omega arith)));
+        whole =
+            λ j h.
+            length-sealed number (getD numbers j 0) (block images j)
+            (omega (arith, length-block images j (omega arith)));
         apart = λ i j h k e. omega arith;
       }
 
-  pub length-seals : length (seals images n) ≡ length images
+  pub length-seals : length (seals number numbers images n) ≡ length images
   unfolding seals
   length-seals = length-copies sealing n (omega arith)
 
-  pub block-seals : (j : ℕ) → j < n → block (seals images n) j ≡ sealed (block images j)
+  pub block-seals : (j : ℕ) → j < n
+      → block (seals number numbers images n) j ≡ sealed number (getD numbers j 0) (block images j)
   unfolding seals
   block-seals j h = block-copies sealing n j (omega arith) h
 
   -- from the n-th on they are as they were
-  pub block-seals-rest : (j : ℕ) → n ≤ j → 512 * j + 512 ≤ length images → block (seals images n) j ≡ block images j
+  pub block-seals-rest : (j : ℕ) → n ≤ j → 512 * j + 512 ≤ length images
+      → block (seals number numbers images n) j ≡ block images j
   unfolding seals
   block-seals-rest j h b = block-copies-rest sealing n j (omega arith) b (λ i lt e. omega arith)
 
-pub seals-zero : (images : List ℕ) → seals images 0 ≡ images
-unfolding seals
-seals-zero images = copies-zero images (λ j. j) (λ j. sealed (block images j))
+module _ (number : ℕ) (numbers images : List ℕ) where
+  pub seals-zero : seals number numbers images 0 ≡ images
+  unfolding seals
+  seals-zero = copies-zero images (λ j. j) (λ j. sealed number (getD numbers j 0) (block images j))
 
--- one image more, sealed in its place
-pub seals-suc : (images : List ℕ) (n : ℕ) → 512 * n + 512 ≤ length images
-    → setBlock (seals images n) n (sealed (block (seals images n) n)) ≡ seals images (n + 1)
-unfolding seals
-seals-suc images n h =
-    ap (λ (b : List ℕ). setBlock (seals images n) n (sealed b))
-    (block-seals-rest images n (omega arith) n (omega arith) h)
-    ∙ copies-suc images (λ j. j) (λ j. sealed (block images j)) n
+  -- one image more, sealed in its place
+  pub seals-suc : (n : ℕ) → 512 * n + 512 ≤ length images
+      → let made = seals number numbers images n in
+      setBlock made n (sealed number (getD numbers n 0) (block made n)) ≡ seals number numbers images (n + 1)
+  unfolding seals
+  seals-suc n h =
+      ap (λ (b : List ℕ). setBlock (seals number numbers images n) n (sealed number (getD numbers n 0) b))
+      (block-seals-rest number numbers images n (omega arith) n (omega arith) h)
+      ∙ copies-suc images (λ j. j) (λ j. sealed number (getD numbers j 0) (block images j)) n
 
 -- ---- a change
 

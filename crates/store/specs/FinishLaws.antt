@@ -12,11 +12,11 @@ use Rattle.lists.specs.Bytes.{Bytes}
 use Rattle.lists.specs.Block.{blocks, block}
 use Rattle.lists.specs.BlockLaws.{length-block, length-bind, block-bind}
 use Rattle.store.specs.declared.Change.{Change}
-use Rattle.store.specs.Store.{sealed, checked}
+use Rattle.store.specs.Store.{sealed, numberAt, checked}
 use Rattle.store.specs.Change.{commits, seals}
 use Rattle.store.specs.CheckLaws.{length-sealed, block-checked}
 use Rattle.store.specs.ChangeLaws.{commits-zero}
-use Rattle.store.specs.Finish.{finished, resealed, Sealed}
+use Rattle.store.specs.Finish.{finishedAs, finished, resealed, Sealed}
 
 -- ---- n images, one after the other
 
@@ -61,24 +61,25 @@ module _ (f : ℕ → List ℕ) (n : ℕ) (whole : (k : ℕ) → k < n → lengt
 
 -- ---- the store with every check written anew
 
-module _ (d : List ℕ) (whole : length d ≡ 512 * blocks d) where
-  full : (k : ℕ) → k < blocks d → length (sealed (block d k)) ≡ 512
-  full k h = length-sealed (block d k) (omega (arith, length-block d k (omega arith)))
+module _ (number : ℕ) (d : List ℕ) (whole : length d ≡ 512 * blocks d) where
+  full : (k : ℕ) → k < blocks d → length (sealed number k (block d k)) ≡ 512
+  full k h = length-sealed number k (block d k) (omega (arith, length-block d k (omega arith)))
 
-  pub length-resealed : length (resealed d) ≡ 512 * blocks d
+  pub length-resealed : length (resealed number d) ≡ 512 * blocks d
   unfolding resealed
-  length-resealed = length-images (λ k. sealed (block d k)) (blocks d) full
+  length-resealed = length-images (λ k. sealed number k (block d k)) (blocks d) full
 
-  pub block-resealed : (k : ℕ) → k < blocks d → block (resealed d) k ≡ sealed (block d k)
+  pub block-resealed : (k : ℕ) → k < blocks d → block (resealed number d) k ≡ sealed number k (block d k)
   unfolding resealed
-  block-resealed k h = block-images (λ k. sealed (block d k)) (blocks d) full k h
+  block-resealed k h = block-images (λ k. sealed number k (block d k)) (blocks d) full k h
 
 -- ---- a change of no block
 
 pub finished-none : (s : List ℕ) (c : Change) (images : List ℕ) → c .count ≡ 0 → finished s c images ≡ s
-unfolding finished
+unfolding finished finishedAs
 finished-none s c images e =
-    ap (commits s (c .numbers) (seals images (c .count))) e ∙ commits-zero s (c .numbers) (seals images (c .count))
+    let made = seals (numberAt s) (c .numbers) images (c .count) in
+    ap (commits s (c .numbers) made) e ∙ commits-zero s (c .numbers) made
 
 -- ---- a store of bytes whose checks are right
 pub sealed-checked : (s : List ℕ) → Bytes s → length s ≡ 512 * blocks s

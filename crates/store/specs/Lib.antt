@@ -7,3 +7,5 @@ pub mod CopyLaws
 pub mod ChangeLaws
 pub mod Finish
 pub mod FinishLaws
+pub mod InjectiveLaws
+pub mod CheckExamples

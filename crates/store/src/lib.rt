@@ -3,7 +3,7 @@
 pub mod flags; // flags.rt: the flags, the page id and "none" by name
 
 use crate::flags::PAGE_ID;
-use crc32c::crc32c;
+use crc32c::crc32c_after;
 use endian::get_u16;
 use endian::get_u32;
 use endian::put_u16;
@@ -15,9 +15,9 @@ ghost use lib.ListN.{length, getD};
 ghost use lib.Seq.{sets};
 ghost use Rattle.lists.specs.Block.{block, setBlock};
 ghost use Rattle.store.specs.Store.{prevAt, nextAt, bucketAt, flagsAt, idAt, trailer};
-ghost use Rattle.store.specs.Store.{checkOf, sealed, checks};
+ghost use Rattle.store.specs.Store.{checkOf, sealed, checks, numberAt};
 ghost use Rattle.store.specs.Change.{Fits, commits, stored, seals};
-ghost use Rattle.store.specs.Finish.{finished};
+ghost use Rattle.store.specs.Finish.{finishedAs, finished};
 
 // Block `k`, as a part of the store.
 pub fn block_at(store: &[u8], k: usize) -> &[u8]
@@ -86,28 +86,36 @@ pub fn put_trailer(image: &mut [u8], prev: u32, next: u32, bucket: u32, flags: u
     put_u16(image, 506, PAGE_ID);
 }
 
-// The check that a block should have.
-fn check_of(part: &[u8]) -> u32
-    requires { ⌜ length (now part) ≡ 512 ⌝ }
-    ensures { λ r. ⌜ r ≡ checkOf (now (part .entry)) ⌝ }
+// The number of a store.
+pub fn number_at(store: &[u8]) -> u32
+    requires { ⌜ 512 ≤ length (now store) ⌝ }
+    ensures { λ r. ⌜ r ≡ numberAt (now (store .entry)) ⌝ }
 {
-    crc32c(&part[..508])
+    get_u32(block_at(store, 0), 104)
+}
+
+// The check that block `k` of the store with this number should have.
+fn check_of(part: &[u8], number: u32, k: u32) -> u32
+    requires { ⌜ length (now part) ≡ 512 ⌝ }
+    ensures { λ r. ⌜ r ≡ checkOf number k (now (part .entry)) ⌝ }
+{
+    crc32c_after(number, k, &part[..508])
 }
 
 // Whether a block's check is right.
-pub fn check_block(part: &[u8]) -> bool
+pub fn check_block(part: &[u8], number: u32, k: u32) -> bool
     requires { ⌜ length (now part) ≡ 512 ⌝ }
-    ensures { λ r. ⌜ r ≡ checks (now (part .entry)) ⌝ }
+    ensures { λ r. ⌜ r ≡ checks number k (now (part .entry)) ⌝ }
 {
-    get_u32(part, 508) == check_of(part)
+    get_u32(part, 508) == check_of(part, number, k)
 }
 
 // Writes a block's check.
-fn seal_block(image: &mut [u8])
+fn seal_block(image: &mut [u8], number: u32, k: u32)
     requires { ⌜ length (now image) ≡ 512 ⌝ }
-    ensures { λ _. ⌜ now (image .exit) ≡ sealed (now (image .entry)) ⌝ }
+    ensures { λ _. ⌜ now (image .exit) ≡ sealed number k (now (image .entry)) ⌝ }
 {
-    let check = check_of(image);
+    let check = check_of(image, number, k);
     put_u32(image, 508, check);
 }
 
@@ -118,24 +126,26 @@ pub struct Change {
     pub numbers: [u32; 8],
 }
 
-// Writes the check of image `n`.
-fn seal_one(images: &mut [u8], n: usize)
+// Writes the check of image `n`, which becomes block `k`.
+fn seal_one(images: &mut [u8], n: usize, number: u32, k: u32)
     requires { ⌜ 512 * n + 512 ≤ length (now images) ⌝ }
-    ensures { λ _. ⌜ now (images .exit) ≡ setBlock (now (images .entry)) n (sealed (block (now (images .entry)) n)) ⌝ }
+    ensures { λ _. ⌜ now (images .exit)
+        ≡ setBlock (now (images .entry)) n (sealed number k (block (now (images .entry)) n)) ⌝ }
 {
     let from = 512 * n;
-    seal_block(&mut images[from..from + 512]);
+    seal_block(&mut images[from..from + 512], number, k);
 }
 
 // Writes the checks of a change's images.
-fn seal_change(change: Change, images: &mut [u8])
+fn seal_change(change: Change, images: &mut [u8], number: u32)
     requires { ⌜ (change .count ≤ 8) × (length (now images) ≡ 4096) ⌝ }
-    ensures { λ _. ⌜ now (images .exit) ≡ seals (now (images .entry)) (change .count) ⌝ }
+    ensures { λ _. ⌜ now (images .exit) ≡ seals number (change .numbers) (now (images .entry)) (change .count) ⌝ }
 {
     let count = change.count;
+    let numbers = change.numbers;
     let mut n = 0;
     while n < count {
-        seal_one(images, n);
+        seal_one(images, n, number, numbers[n]);
         n += 1;
     }
 }
@@ -165,12 +175,22 @@ fn commit(store: &mut [u8], change: Change, images: &[u8])
     }
 }
 
-// Writes the checks of a change's images, and the images to the store.
-pub fn finish(store: &mut [u8], change: Change, images: &mut [u8])
+// Writes the checks of a change's images, as of the store with this number, and the images to the store.
+pub fn finish_as(store: &mut [u8], change: Change, images: &mut [u8], number: u32)
     requires { ⌜ Fits (now store) (change .numbers) (change .count) ⌝ }
     requires { ⌜ length (now images) ≡ 4096 ⌝ }
+    ensures { λ _. ⌜ now (store .exit) ≡ finishedAs number (now (store .entry)) change (now (images .entry)) ⌝ }
+{
+    seal_change(change, images, number);
+    commit(store, change, images);
+}
+
+// The same with the number that the store has.
+pub fn finish(store: &mut [u8], change: Change, images: &mut [u8])
+    requires { ⌜ Fits (now store) (change .numbers) (change .count) ⌝ }
+    requires { ⌜ (512 ≤ length (now store)) × (length (now images) ≡ 4096) ⌝ }
     ensures { λ _. ⌜ now (store .exit) ≡ finished (now (store .entry)) change (now (images .entry)) ⌝ }
 {
-    seal_change(change, images);
-    commit(store, change, images);
+    let number = number_at(store);
+    finish_as(store, change, images, number);
 }

@@ -14,6 +14,7 @@ use shape::links::check_links;
 use shape::roles::check_roles;
 use store::block_at;
 use store::check_block;
+use store::number_at;
 ghost use mathlib.Core.Path.{_≡_};
 ghost use mathlib.Core.Bool.{true};
 ghost use Rattle.image.specs.Rules.{rule1, lowestBroken, verdict};
@@ -82,10 +83,12 @@ fn judge(store: &[u8]) -> Verdict
     ensures { λ r. ⌜ r ≡ verdictOf (verdict (now (store .entry))) ⌝ }
 {
     let size = store.len() / 512;
+    let number = number_at(store);
     let mut k = 0;
     while k < size {
-        if !check_block(block_at(store, k)) {
-            return Verdict::Damaged { block: k as u32 };
+        let block = k as u32;
+        if !check_block(block_at(store, k), number, block) {
+            return Verdict::Damaged { block };
         }
         k += 1;
     }

@@ -24,6 +24,9 @@ slice-aggregate-put-words-2 c = search needs
 put-words-requires-2 : tie.Need-put-words-requires-2
 put-words-requires-2 c κs = omega (arith, sixteen (c .before .before .before .before .before .before .before .before .before .before))
 
+put-u32-requires : tie.Need-put-u32-requires
+put-u32-requires c κs = search needs
+
 zero-bytes-requires : tie.Need-zero-bytes-requires
 zero-bytes-requires c κs = search needs
 
@@ -32,7 +35,8 @@ same-length c = search needs
 
 returns : tie.Need-returns
 returns c =
-    let s = c .before .before .before .before .before .before .before .before .before .before .before .before .before .before .before .before .before in
+    let p = c .before .before .before .before .before .before .before .before .before .before .before in
+    let s = p .before .before .before .before .before .before .before .before .before .before in
     cc (front-sets (s .args .m) (search needs) (s .args .part .now) (s .pre) (sixteen s))
 
 pub put-meta-spec : {M : Type 1} → statement M
@@ -44,6 +48,7 @@ put-meta-spec =
     put-words-requires
     slice-aggregate-put-words-2
     put-words-requires-2
+    put-u32-requires
     zero-bytes-requires
     same-length
     returns)

@@ -31,6 +31,9 @@ get-u32-requires-6 c κs = search needs
 get-u32-requires-7 : tie.Need-get-u32-requires-7
 get-u32-requires-7 c κs = search needs
 
+get-u32-requires-8 : tie.Need-get-u32-requires-8
+get-u32-requires-8 c κs = search needs
+
 returns : tie.Need-returns
 unfolding readMeta
 returns c = cc
@@ -48,4 +51,5 @@ read-meta-spec =
     get-u32-requires-5
     get-u32-requires-6
     get-u32-requires-7
+    get-u32-requires-8
     returns)

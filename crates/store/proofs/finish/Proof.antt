@@ -3,11 +3,11 @@ use Rattle.store.specs.Finish.{finished}
 use Rattle.store.proofs.finish.Statement.{statement}
 use Rattle.store.proofs.finish.Tie as tie
 
-seal-change-requires : tie.Need-seal-change-requires
-seal-change-requires c κs = search needs
+number-at-requires : tie.Need-number-at-requires
+number-at-requires c κs = search needs
 
-commit-requires : tie.Need-commit-requires
-commit-requires c κs = search needs
+finish-as-requires : tie.Need-finish-as-requires
+finish-as-requires c κs = search needs
 
 same-length : tie.Need-same-length
 same-length c = search needs
@@ -21,4 +21,4 @@ returns c = cc
 
 pub finish-spec : {M : Type 1} → statement M
 finish-spec =
-    tie.close (tie.spec seal-change-requires commit-requires same-length same-length-2 returns)
+    tie.close (tie.spec number-at-requires finish-as-requires same-length same-length-2 returns)

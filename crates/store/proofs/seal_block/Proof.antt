@@ -15,7 +15,7 @@ same-length c = search needs
 returns : tie.Need-returns
 returns c =
     let s = c .before .before .before .before .before .before .before in
-    cc (sets-check (s .args .image .now) (s .pre))
+    cc (sets-check (s .args .number) (s .args .k) (s .args .image .now) (s .pre))
 
 pub seal-block-spec : {M : Type 1} → statement M
 seal-block-spec = tie.close (tie.spec check-of-requires put-u32-requires same-length returns)

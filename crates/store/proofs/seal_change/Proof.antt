@@ -8,14 +8,22 @@ use Rattle.store.proofs.seal_change.Statement.{statement}
 use Rattle.store.proofs.seal_change.Tie as tie
 
 abbrev Inv-loop : tie.InvT-loop
-Inv-loop images₀ count n₀ images n =
-    (n ≤ count) × (length images ≡ length images₀) × (images ≡ seals images₀ n)
+Inv-loop images₀ number count numbers n₀ images n =
+    (n ≤ count) × (length images ≡ length images₀) × (images ≡ seals number numbers images₀ n)
 
 abbrev μ-loop : tie.MeasureT-loop
-μ-loop images₀ count n₀ images n = count - n
+μ-loop images₀ number count numbers n₀ images n = count - n
 
 loop-holds : tie.Need-loop-holds Inv-loop μ-loop
-loop-holds c = (omega arith, refl, sym (seals-zero (c .before .args .images .now)))
+loop-holds c =
+    let a = c .before .before .args in
+    (omega arith, refl, sym (seals-zero (a .number) (a .change .numbers) (a .images .now)))
+
+mul-seal-one : tie.Need-mul-seal-one Inv-loop μ-loop
+mul-seal-one c = omega arith
+
+array-read-seal-one : tie.Need-array-read-seal-one Inv-loop μ-loop
+array-read-seal-one c = omega arith
 
 seal-one-requires : tie.Need-seal-one-requires Inv-loop μ-loop
 seal-one-requires c κs = omega arith
@@ -30,8 +38,8 @@ loop-again : tie.Need-loop-again Inv-loop μ-loop
 loop-again c =
     let p = c .before .before .seal-one in
     let l = c .before .before .before .before .before .loop in
-    let a = c .before .before .before .before .before .before .before .args in
-    let next = seals-suc (a .images .now) (l .n) (omega arith) in
+    let a = c .before .before .before .before .before .before .before .before .args in
+    let next = seals-suc (a .number) (a .change .numbers) (a .images .now) (l .n) (omega arith) in
     (omega arith, p .kept .0 ∙ l .inv .1, cc)
 
 same-length : tie.Need-same-length Inv-loop μ-loop
@@ -40,9 +48,9 @@ same-length c = c .before .loop .inv .1
 returns : tie.Need-returns Inv-loop μ-loop
 returns c =
     let l = c .before .loop in
-    let a = c .before .before .before .args in
+    let a = c .before .before .before .before .args in
     let full : l .n ≡ a .change .count = omega arith in
-    l .inv .2 ∙ ap (seals (a .images .now)) full
+    l .inv .2 ∙ ap (seals (a .number) (a .change .numbers) (a .images .now)) full
 
 pub seal-change-spec : {M : Type 1} → statement M
 seal-change-spec =
@@ -51,6 +59,8 @@ seal-change-spec =
     Inv-loop
     μ-loop
     loop-holds
+    mul-seal-one
+    array-read-seal-one
     seal-one-requires
     add-n
     loop-less

@@ -32,7 +32,8 @@ returns c =
     let a = c .before .before .before .before .before .args in
     let p = c .before .before .seal-block in
     put-block (a .images .now) (a .n) (p .last .0)
-    ∙ ap (setBlock (a .images .now) (a .n)) (p .ensures ∙ ap sealed (part-block (a .images .now) (a .n)))
+    ∙ ap (setBlock (a .images .now) (a .n))
+    (p .ensures ∙ ap (sealed (a .number) (a .k)) (part-block (a .images .now) (a .n)))
 
 pub seal-one-spec : {M : Type 1} → statement M
 seal-one-spec =

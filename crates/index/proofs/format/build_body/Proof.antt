@@ -23,30 +23,30 @@ returns : tie.Need-returns
 unfolding formatBlock
 returns c =
     let a = c .before .before .args in
-    c .build-meta .ensures ∙ ap (formatBlock (a .size) (a .fill)) (sym (c .before .match .keys1))
+    c .build-meta .ensures ∙ ap (formatBlock (a .size) (a .order)) (sym (c .before .match .keys1))
 
 returns-2 : tie.Need-returns-2
 unfolding formatBlock
 returns-2 c =
     let a = c .before .before .args in
-    c .build-bucket .ensures ∙ ap (formatBlock (a .size) (a .fill)) (sym (c .before .match .keys2))
+    c .build-bucket .ensures ∙ ap (formatBlock (a .size) (a .order)) (sym (c .before .match .keys2))
 
 returns-3 : tie.Need-returns-3
 unfolding formatBlock
 returns-3 c =
     let a = c .before .before .args in
-    c .build-bucket2 .ensures ∙ ap (formatBlock (a .size) (a .fill)) (sym (c .before .match .keys3))
+    c .build-bucket2 .ensures ∙ ap (formatBlock (a .size) (a .order)) (sym (c .before .match .keys3))
 
 returns-4 : tie.Need-returns-4
 unfolding formatBlock
 returns-4 c =
     let a = c .before .before .args in
-    c .build-bitmap .ensures ∙ ap (formatBlock (a .size) (a .fill)) (sym (c .before .match .keys4))
+    c .build-bitmap .ensures ∙ ap (formatBlock (a .size) (a .order)) (sym (c .before .match .keys4))
 
 returns-5 : tie.Need-returns-5
 returns-5 c =
     let a = c .before .args in
-    covered-zeros ∙ sym (format-unused (a .size) (record { fill = a .fill }) (a .k) (omega arith))
+    covered-zeros ∙ sym (format-unused (a .size) (a .order) (a .k) (omega arith))
 
 pub build-body-spec : {M : Type 1} → statement M
 build-body-spec =

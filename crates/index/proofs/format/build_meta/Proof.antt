@@ -13,6 +13,9 @@ use borrow.Author.Needs.{needs}
 use Rattle.index.proofs.format.build_meta.Statement.{statement}
 use Rattle.index.proofs.format.build_meta.Tie as tie
 
+cast-fill : tie.Need-cast-fill
+cast-fill c = search needs
+
 array-write-spares : tie.Need-array-write-spares
 array-write-spares c = search needs
 
@@ -31,16 +34,17 @@ put-trailer-requires c κs = search needs
 returns : tie.Need-returns
 unfolding metaFront formatMeta le16 le32
 returns c =
-    let a = c .before .before .before .before .before .before .args in
+    let a = c .before .before .before .before .before .before .before .args in
     ap covered (c .before .put-trailer .ensures)
     ∙ ap (λ (x : List ℕ). covered (sets x 492 (trailer noLink noLink noLink 8)))
     (c .before .before .before .before .put-meta .ensures)
-    ∙ covered-trailer (formatMeta (a .size) (a .fill)) (replicate 20 0) noLink noLink noLink 8 refl refl
+    ∙ covered-trailer (formatMeta (a .size) (a .order)) (replicate 20 0) noLink noLink noLink 8 refl refl
 
 pub build-meta-spec : {M : Type 1} → statement M
 build-meta-spec =
     tie.close
     (tie.spec
+    cast-fill
     array-write-spares
     slice-aggregate-put-meta
     put-meta-requires

@@ -1,6 +1,5 @@
 use mathlib.Core.Path.{_≡_, refl, sym, _∙_}
 use mathlib.Core.Bool.{true, false}
-use native.Mathlib.Omega.{arith}
 use borrow.Author.Tests.{leb-true, not-true, not-false}
 use lib.Dec.{leb}
 use Rattle.lists.specs.ListsLaws.{and-right}
@@ -47,14 +46,13 @@ returns-2 c =
     sym (c .before .check-fill .ensures) ∙ not-true _ (c .if2 .taken) in
     rw (legal (c .before .before), no) (refl, refl)
 
-cast-format-blocks : tie.Need-cast-format-blocks
-cast-format-blocks c =
-    let e = c .before .before in
-    let fill = e .before .before .before .before .before .before .args .order .fill in
-    omega (arith, leb-true fill 40 (and-right (leb 1 fill) (leb fill 40) (numbers e)))
-
 format-blocks-requires : tie.Need-format-blocks-requires
-format-blocks-requires c κs = lengthOk-sized _ (legal (c .before .before .before .before))
+format-blocks-requires c κs =
+    let e = c .before in
+    let fill = e .before .before .before .before .before .before .args .order .fill in (
+      lengthOk-sized _ (legal (e .before .before)),
+      leb-true fill 40 (and-right (leb 1 fill) (leb fill 40) (numbers e)),
+    )
 
 same-length-3 : tie.Need-same-length-3
 same-length-3 c = search needs
@@ -62,7 +60,7 @@ same-length-3 c = search needs
 returns-3 : tie.Need-returns-3
 unfolding formatOutcome
 returns-3 c =
-    let e = c .before .before .before .before .before in
+    let e = c .before .before .before .before in
     let a = e .before .before .before .before .before .before .args in
     rw (legal (e .before .before), numbers e)
     (refl, c .before .before .format-blocks .ensures ∙ sym (format-bytes (blocks (a .store .now)) (a .order)))
@@ -77,7 +75,6 @@ format-spec =
     check-fill-requires
     same-length-2
     returns-2
-    cast-format-blocks
     format-blocks-requires
     same-length-3
     returns-3)

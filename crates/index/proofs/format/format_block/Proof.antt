@@ -19,13 +19,13 @@ slice-aggregate-put-block-2 c = search needs
 put-block-requires : tie.Need-put-block-requires
 put-block-requires c κs = search needs
 
-slice-aggregate-finish : tie.Need-slice-aggregate-finish
-slice-aggregate-finish c = search needs
+slice-aggregate-finish-as : tie.Need-slice-aggregate-finish-as
+slice-aggregate-finish-as c = search needs
 
-finish-requires : tie.Need-finish-requires
-finish-requires c κs =
+finish-as-requires : tie.Need-finish-as-requires
+finish-as-requires c κs =
     let s = c .before .before .before .before .before .before .before .before in
-    (fits-one _ _ (s .pre), search needs)
+    (fits-one _ _ (s .pre .0), search needs)
 
 same-length : tie.Need-same-length
 same-length c = search needs
@@ -35,10 +35,11 @@ returns c =
     let p = c .before .before .before .before .before .before .before in
     let b = p .before .before .before in
     let a = b .before .before .args in
-    c .before .before .before .finish .ensures
-    ∙ finished-one (a .store .now) _ (replicate 4096 0) (b .build-body .result) _ refl (search needs)
+    c .before .before .before .finish-as .ensures
+    ∙ finished-one (a .order .number) (a .store .now) _ (replicate 4096 0) (b .build-body .result) _ refl (search needs)
     (p .put-block .ensures)
-    ∙ ap (setBlock (a .store .now) (a .k)) (sealed-body (b .build-body .result) _ (b .build-body .ensures))
+    ∙ ap (setBlock (a .store .now) (a .k))
+    (sealed-body (a .order .number) (a .k) (b .build-body .result) _ (b .build-body .ensures))
 
 pub format-block-spec : {M : Type 1} → statement M
 format-block-spec =
@@ -48,7 +49,7 @@ format-block-spec =
     slice-aggregate-put-block
     slice-aggregate-put-block-2
     put-block-requires
-    slice-aggregate-finish
-    finish-requires
+    slice-aggregate-finish-as
+    finish-as-requires
     same-length
     returns)

@@ -1,8 +1,7 @@
-use mathlib.Core.Path.{_≡_, refl, sym, subst}
-use native.Mathlib.Omega.{arith}
+use mathlib.Core.Path.{refl, sym, subst}
 use borrow.Author.Needs.{needs}
 use Rattle.view.specs.Reads.{Reads}
-use Rattle.index.specs.SoundLaws.{settles-fits, settles-changed}
+use Rattle.index.specs.SoundLaws.{sound-first, settles-fits, settles-changed}
 use Rattle.index.proofs.sound.insert_sound.Statement.{statement}
 use Rattle.index.proofs.sound.insert_sound.Tie as tie
 
@@ -22,7 +21,12 @@ slice-aggregate-finish : tie.Need-slice-aggregate-finish
 slice-aggregate-finish c = search needs
 
 finish-requires : tie.Need-finish-requires
-finish-requires c κs = (settles-fits (c .before .before .before .plan-insert .ensures), c .before .before .before .plan-insert .kept .1 .1 .1 .0)
+finish-requires c κs =
+    let p = c .before .before .before in
+    let s = p .before .before .before .before .before .before in (
+      settles-fits (p .plan-insert .ensures),
+      (sound-first (s .pre .0), p .plan-insert .kept .1 .1 .1 .0),
+    )
 
 same-length : tie.Need-same-length
 same-length c = search needs

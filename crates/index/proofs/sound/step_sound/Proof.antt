@@ -1,7 +1,7 @@
 use mathlib.Core.Path.{refl, sym, _∙_, subst}
 use borrow.Author.Needs.{needs}
 use Rattle.view.specs.Reads.{Reads}
-use Rattle.index.specs.SoundLaws.{advances-fits, advances-stepped, advances-from}
+use Rattle.index.specs.SoundLaws.{sound-first, advances-fits, advances-stepped, advances-from}
 use Rattle.index.proofs.sound.step_sound.Statement.{statement}
 use Rattle.index.proofs.sound.step_sound.Tie as tie
 
@@ -18,7 +18,7 @@ finish-requires : tie.Need-finish-requires
 finish-requires c κs =
     let p = c .before .before .before .before .before in
     let s = p .before .before .before .before .before .before .before in
-    (advances-fits (p .plan-step .ensures .0), p .plan-step .kept .1 .1 .1 .0 ∙ s .pre .1)
+    (advances-fits (p .plan-step .ensures .0), (sound-first (s .pre .0 .0), p .plan-step .kept .1 .1 .1 .0 ∙ s .pre .1))
 
 same-length : tie.Need-same-length
 same-length c = search needs

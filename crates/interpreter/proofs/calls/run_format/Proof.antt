@@ -4,11 +4,12 @@ use Prim.Native.Nat.{ℕ, _*_}
 use native.Mathlib.Omega.{arith}
 use lib.ListN.{length, take, drop, take-append-drop}
 use lib.Seq.{length-take-le}
+use Rattle.model.specs.Calls.{orderOf}
 use Rattle.text.specs.Text.{refusedText}
 use Rattle.text.specs.TextLaws.{wrote-as}
 use Rattle.interpreter.specs.Runs.{Stands}
 use Rattle.interpreter.specs.RunsLaws.{stands-kept, stands-made, runs-as}
-use Rattle.interpreter.specs.RunsLaws.{orderOf, format-done, format-refused, format-kept, format-large}
+use Rattle.interpreter.specs.RunsLaws.{format-done, format-refused, format-kept, format-large}
 use borrow.Author.Needs.{needs}
 use Rattle.interpreter.proofs.calls.run_format.Statement.{statement}
 use Rattle.interpreter.proofs.calls.run_format.Tie as tie
@@ -31,7 +32,9 @@ returns c =
     let t = c .before .before .before .before in
     let s = t .before .before .before in
     let a = s .args in
-    runs-as (format-large (a .line) (a .blocks) (a .fill) (take (512 * a .standing) (a .store .now)) (t .if1 .taken))
+    runs-as
+    (format-large (a .line) (a .blocks) (a .fill) (a .number) (take (512 * a .standing) (a .store .now))
+    (t .if1 .taken))
     (record { store = stands-kept (s .pre); text = c .before .before .put-refused .ensures })
 
 mul-end : tie.Need-mul-end
@@ -74,7 +77,7 @@ returns-2 c =
     let e = f .before .before in
     let a = e .before .before .before .args in
     runs-as
-    (format-done (take (512 * a .blocks) (a .store .now)) (a .line) (a .blocks) (a .fill)
+    (format-done (take (512 * a .blocks) (a .store .now)) (a .line) (a .blocks) (a .fill) (a .number)
     (take (512 * a .standing) (a .store .now)) (part e) (e .if1 .left)
     (sym (f .format .ensures .0) ∙ k .enum-told .given .1))
     (record {
@@ -101,9 +104,12 @@ returns-3 c =
     let now = take (512 * a .blocks) old in
     let no = sym (f .format .ensures .0) ∙ k .answer .given .1 in
     let kept : f .format .last .0 ++ drop (512 * a .blocks) old ≡ old =
-    ap (λ (x : List ℕ). x ++ drop (512 * a .blocks) old) (f .format .ensures .1 ∙ format-kept now (orderOf (a .fill)) _ no)
+    ap (λ (x : List ℕ). x ++ drop (512 * a .blocks) old)
+    (f .format .ensures .1 ∙ format-kept now (orderOf (a .fill) (a .number)) _ no)
     ∙ take-append-drop (512 * a .blocks) old in
-    runs-as (format-refused now (a .line) (a .blocks) (a .fill) (take (512 * a .standing) old) (part e) (e .if1 .left) _ no)
+    runs-as
+    (format-refused now (a .line) (a .blocks) (a .fill) (a .number) (take (512 * a .standing) old) (part e)
+    (e .if1 .left) _ no)
     (record {
       store = subst (λ (x : List ℕ). Stands (take (512 * a .standing) old) old x (a .standing)) (sym kept)
           (stands-kept (s .pre));
