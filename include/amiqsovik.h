@@ -1,4 +1,5 @@
-/* Amiqsovik's hash index: the calls for C, in target/staticlib/libamiqsovik.a (`rt staticlib amiqsovik`), for x86-64 Linux.
+/* Amiqsovik's hash index: the calls for C, in target/staticlib/libamiqsovik.a (`rt staticlib amiqsovik`), for x86-64
+ * Linux.
  *
  * An index is a store: one byte array of N blocks of 512 bytes, N from 4 to 128, that the caller owns. It holds
  * pairs of a 32-bit hash code and a reading's place: a block number (32 bits) and an offset (16 bits). A pair is
@@ -30,14 +31,17 @@ extern "C" {
 #endif
 
 /* The version of this header, and of the archive made from the same sources. 1.0.0 is document 01, whole; 1.0.1 is
- * quicker (request 2026-02). The first number goes up when a program that was right may have to change: a call's
- * arguments, the answer to a call that was accepted, the bytes of a store. The second goes up when calls are added, the
- * third when neither is so. */
-#define AMIQSOVIK_VERSION_MAJOR 1
+ * quicker (request 2026-02); 2.0.0 has a store number (request 2026-03). The first number goes up when a program that
+ * was right may have to change: a call's arguments, the answer to a call that was accepted, the bytes of a store. The
+ * second goes up when calls are added, the third when neither is so.
+ *
+ * A store that was sound for 1.0.0 or 1.0.1 is DAMAGED for 2.0.0, with block 0: the old check of that block is never
+ * the new one. No call converts it: a host formats a new store and inserts the pairs again, from its own records. */
+#define AMIQSOVIK_VERSION_MAJOR 2
 #define AMIQSOVIK_VERSION_MINOR 0
-#define AMIQSOVIK_VERSION_PATCH 1
+#define AMIQSOVIK_VERSION_PATCH 0
 #define AMIQSOVIK_VERSION (AMIQSOVIK_VERSION_MAJOR * 10000 + AMIQSOVIK_VERSION_MINOR * 100 + AMIQSOVIK_VERSION_PATCH)
-#define AMIQSOVIK_VERSION_TEXT "1.0.1"
+#define AMIQSOVIK_VERSION_TEXT "2.0.0"
 
 /* A word that nobody looks at may be a refusal: compilers that can do so warn. */
 #if defined(__GNUC__)
@@ -89,8 +93,16 @@ static inline uint32_t amiqsovik_gives(uint64_t word) { return (uint32_t)(word >
 AMIQSOVIK_MUST_USE uint64_t amiqsovik_verify(const uint8_t *store, size_t store_length);
 
 /* Makes a store new, whatever its bytes are: two buckets, no pairs. `fill`, 1..40, is how many pairs a bucket is to
- * hold on average: with more, a split is wanted. DONE, LENGTH or NUMBER. */
-AMIQSOVIK_MUST_USE uint64_t amiqsovik_format(uint8_t *store, size_t store_length, uint32_t fill);
+ * hold on average: with more, a split is wanted. DONE, LENGTH or NUMBER.
+ *
+ * `store_number` is any value: give each store another one. It stands in block 0, and the check of every block covers
+ * it, the block's own number and the block's bytes. So, after block 0, a block that was right at the same place of a
+ * store with another number is DAMAGED, and so is one that was right at another place of this store. One from another
+ * place of a store with another number passes for at most one value of that number. The number in block 0 is the one
+ * that counts: where a right block 0 comes from a store with another number, it passes, and block 1 is DAMAGED. Stores
+ * with the same number are not told apart, nor is an older block at its own place. */
+AMIQSOVIK_MUST_USE uint64_t amiqsovik_format(uint8_t *store, size_t store_length, uint32_t fill,
+                                             uint32_t store_number);
 
 /* Puts a pair in. `offset` is 1..65535 and `block` is not 4294967295, else NUMBER. DONE, LENGTH, NUMBER, DAMAGED,
  * NOT_AN_INDEX, HELD_ALREADY or NO_ROOM. */

@@ -54,7 +54,7 @@ int main(void)
     uint32_t cell, reading;
     uint64_t word;
 
-    if (!done("format", amiqsovik_format(store, sizeof store, 2)))
+    if (!done("format", amiqsovik_format(store, sizeof store, 2, 20260316)))
         return 1;
     /* The cell's number serves as its hash code here; a host hashes its keys. */
     for (cell = 0; cell < 6; cell++)

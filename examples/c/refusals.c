@@ -1,5 +1,5 @@
-/* Tests what the header says of refusals, of standing's result, of names and of the version. It is C and C++; `try`
- * builds and runs it. It exits with 0 if all of it holds.
+/* Tests what the header says of refusals, of store numbers, of standing's result, of names and of the version. It is C
+ * and C++; `try` builds and runs it. It exits with 0 if all of it holds.
  */
 #include <stdio.h>
 #include <string.h>
@@ -46,11 +46,11 @@ static void version(void)
 }
 
 /* Three pairs at fill 1: the slack is -1. */
-static void make(uint8_t *store)
+static void make(uint8_t *store, uint32_t number)
 {
     uint32_t hash;
 
-    same("format", amiqsovik_format(store, BYTES, 1), word(AMIQSOVIK_DONE, 0));
+    same("format", amiqsovik_format(store, BYTES, 1, number), word(AMIQSOVIK_DONE, 0));
     for (hash = 0; hash < 3; hash++)
         same("insert", amiqsovik_insert(store, BYTES, hash, 7, 1), word(AMIQSOVIK_DONE, 0));
 }
@@ -114,7 +114,7 @@ static void refusals(const uint8_t *sound)
     memset(output, MARK, ROOM);
     memset(blank, MARK, ROOM);
     same("verify", amiqsovik_verify(store, 7), word(AMIQSOVIK_LENGTH, 0));
-    same("format", amiqsovik_format(store, BYTES, 41), word(AMIQSOVIK_NUMBER, 0));
+    same("format", amiqsovik_format(store, BYTES, 41, 1), word(AMIQSOVIK_NUMBER, 0));
     same("insert", amiqsovik_insert(store, BYTES, 0, 7, 65536), word(AMIQSOVIK_NUMBER, 0));
     same("insert", amiqsovik_insert(store, BYTES, 0, 7, 1), word(AMIQSOVIK_HELD_ALREADY, 0));
     same("remove", amiqsovik_remove(store, BYTES, 0, 7, 2), word(AMIQSOVIK_NOT_HELD, 0));
@@ -131,7 +131,7 @@ static void no_room(void)
     uint8_t store[4 * AMIQSOVIK_BLOCK_BYTES], before[sizeof store];
     uint32_t reading;
 
-    same("format", amiqsovik_format(store, sizeof store, 40), word(AMIQSOVIK_DONE, 0));
+    same("format", amiqsovik_format(store, sizeof store, 40, 0), word(AMIQSOVIK_DONE, 0));
     for (reading = 0; reading < 40; reading++)
         same("insert", amiqsovik_insert(store, sizeof store, 2, reading, 1), word(AMIQSOVIK_DONE, 0));
     memcpy(before, store, sizeof store);
@@ -139,15 +139,46 @@ static void no_room(void)
     same("the full store", memcmp(store, before, sizeof store) == 0, 1);
 }
 
+/* The store with a block of its own or of another store put in place of block `to` is damaged. */
+static void misplaced(const char *what, const uint8_t *sound, const uint8_t *source, size_t from, size_t to,
+                      uint32_t damaged)
+{
+    uint8_t store[BYTES];
+
+    memcpy(store, sound, BYTES);
+    memcpy(store + to * AMIQSOVIK_BLOCK_BYTES, source + from * AMIQSOVIK_BLOCK_BYTES, AMIQSOVIK_BLOCK_BYTES);
+    same(what, amiqsovik_verify(store, BYTES), word(AMIQSOVIK_DAMAGED, damaged));
+    same(what, amiqsovik_insert(store, BYTES, 3, 7, 1), word(AMIQSOVIK_DAMAGED, damaged));
+}
+
+/* Blocks at the wrong place, and blocks of a store that differs in its number alone. */
+static void wrong_blocks(const uint8_t *sound)
+{
+    uint8_t other[BYTES];
+    uint32_t block;
+
+    make(other, UINT32_MAX);
+    same("number 4294967295", amiqsovik_verify(other, BYTES), word(AMIQSOVIK_DONE, 0));
+    for (block = 1; block < BLOCKS; block++)
+        misplaced("a block of another store", sound, other, block, block, block);
+    /* The number in block 0 is the store's: with another store's block 0, it is the others that are wrong. */
+    misplaced("block 0 of another store", sound, other, 0, 0, 1);
+    misplaced("block 1 in place of 2", sound, sound, 1, 2, 2);
+    misplaced("block 4 in place of 1", sound, sound, 4, 1, 1);
+    misplaced("block 0 in place of 4", sound, sound, 0, 4, 4);
+    misplaced("block 2 in place of 0", sound, sound, 2, 0, 0);
+}
+
 int main(void)
 {
     uint8_t sound[BYTES];
 
-    make(sound);
+    make(sound, 7);
     names();
     version();
     standings(sound);
     refusals(sound);
     no_room();
+    wrong_blocks(sound);
     return wrong;
 }

@@ -12,7 +12,7 @@ pub enum Refusal {
     /// 2: an offset of 0 or above 65535, a reading block of 4294967295, a fill outside 1..=40, or a budget above
     /// 65535.
     Number,
-    /// 3: a block's check is wrong.
+    /// 3: a block's check is wrong: for its bytes, for its place, or for the store's number.
     Damaged {
         /// The lowest such block.
         block: u32,

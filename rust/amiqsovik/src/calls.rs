@@ -25,6 +25,14 @@ pub fn verify(store: &[u8]) -> Result<(), Refusal> {
 /// Makes a store of any bytes an empty index. `fill`, 1 to 40, is the number of pairs a bucket above which buckets
 /// split.
 ///
+/// `number` is the store number, any value: give each store another one. It stands in block 0, and the check of every
+/// block covers it, the block's own number and the block's bytes. So, after block 0, a block that was right at the same
+/// place of a store with another number is [`Damaged`](Refusal::Damaged), and so is one that was right at another place
+/// of this store. One from another place of a store with another number passes for at most one value of that number.
+/// The number in block 0 is the one that counts: where a right block 0 comes from a store with another number, it
+/// passes, and block 1 is damaged. Stores with the same number are not told apart, nor is an older block at its own
+/// place.
+///
 /// # Errors
 ///
 /// [`Length`](Refusal::Length) or [`Number`](Refusal::Number).
@@ -32,13 +40,17 @@ pub fn verify(store: &[u8]) -> Result<(), Refusal> {
 /// # Examples
 ///
 /// ```
-/// let mut store = [0; 8 * 512];
-/// amiqsovik::format(&mut store, 30)?;
-/// assert_eq!(amiqsovik::standing(&store)?.slack, 60);
+/// use amiqsovik::{format, standing, verify, Refusal};
+/// let (mut store, mut other) = ([0; 8 * 512], [0; 8 * 512]);
+/// format(&mut store, 30, 1)?;
+/// format(&mut other, 30, 2)?;
+/// assert_eq!(standing(&store)?.slack, 60);
+/// store[3 * 512..4 * 512].copy_from_slice(&other[3 * 512..4 * 512]);
+/// assert_eq!(verify(&store), Err(Refusal::Damaged { block: 3 }));
 /// # Ok::<(), amiqsovik::Refusal>(())
 /// ```
-pub fn format(store: &mut [u8], fill: u32) -> Result<(), Refusal> {
-    Word(foreign::format(store, fill)).done().map(drop)
+pub fn format(store: &mut [u8], fill: u32, number: u32) -> Result<(), Refusal> {
+    Word(foreign::format(store, fill, number)).done().map(drop)
 }
 
 /// Puts in the pair of a hash code and a reading's place. An offset that does not fit 16 bits is refused, as 0 is.
@@ -53,7 +65,7 @@ pub fn format(store: &mut [u8], fill: u32) -> Result<(), Refusal> {
 ///
 /// ```
 /// # let mut store = [0; 8 * 512];
-/// # amiqsovik::format(&mut store, 30)?;
+/// # amiqsovik::format(&mut store, 30, 7)?;
 /// use amiqsovik::{insert, Refusal};
 /// assert_eq!(insert(&mut store, 5, 7, 1), Ok(()));
 /// assert_eq!(insert(&mut store, 5, 7, 1), Err(Refusal::HeldAlready));
@@ -75,7 +87,7 @@ pub fn insert(store: &mut [u8], hash: u32, block: u32, offset: u32) -> Result<()
 ///
 /// ```
 /// # let mut store = [0; 8 * 512];
-/// # amiqsovik::format(&mut store, 30)?;
+/// # amiqsovik::format(&mut store, 30, 7)?;
 /// use amiqsovik::{remove, Refusal};
 /// assert_eq!(remove(&mut store, 5, 7, 1), Err(Refusal::NotHeld));
 /// # Ok::<(), amiqsovik::Refusal>(())
@@ -96,7 +108,7 @@ pub fn remove(store: &mut [u8], hash: u32, block: u32, offset: u32) -> Result<()
 ///
 /// ```
 /// # let mut store = [0; 8 * 512];
-/// # amiqsovik::format(&mut store, 30)?;
+/// # amiqsovik::format(&mut store, 30, 7)?;
 /// use amiqsovik::{insert, lookup, Reading, Refusal};
 /// insert(&mut store, 5, 7, 1)?;
 /// insert(&mut store, 5, 3, 2)?;
@@ -126,7 +138,7 @@ pub fn lookup<'o>(store: &[u8], hash: u32, output: &'o mut [u8]) -> Result<Match
 /// ```
 /// # let mut store = [0; 8 * 512];
 /// use amiqsovik::{format, insert, work, Stop, Worked};
-/// format(&mut store, 1)?;
+/// format(&mut store, 1, 7)?;
 /// for hash in [0, 2, 4] {
 ///     insert(&mut store, hash, 9, 1)?;
 /// }
@@ -150,7 +162,7 @@ pub fn work(store: &mut [u8], budget: u32) -> Result<Worked, Refusal> {
 /// ```
 /// # let mut store = [0; 8 * 512];
 /// use amiqsovik::{format, standing, Phase, Standing};
-/// format(&mut store, 10)?;
+/// format(&mut store, 10, 7)?;
 /// let now = Standing { count: 0, buckets: 2, phase: Phase::None, slack: 20 };
 /// assert_eq!(standing(&store)?, now);
 /// # Ok::<(), amiqsovik::Refusal>(())

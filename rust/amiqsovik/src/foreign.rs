@@ -7,7 +7,7 @@ mod c {
 
     extern "C" {
         pub fn amiqsovik_verify(store: *const u8, len: usize) -> u64;
-        pub fn amiqsovik_format(store: *mut u8, len: usize, fill: u32) -> u64;
+        pub fn amiqsovik_format(store: *mut u8, len: usize, fill: u32, number: u32) -> u64;
         pub fn amiqsovik_insert(store: *mut u8, len: usize, hash: u32, block: u32, offset: u32) -> u64;
         pub fn amiqsovik_remove(store: *mut u8, len: usize, hash: u32, block: u32, offset: u32) -> u64;
         pub fn amiqsovik_lookup(store: *const u8, len: usize, hash: u32, out: *mut u8, out_len: usize) -> u64;
@@ -26,9 +26,9 @@ pub fn verify(store: &[u8]) -> u64 {
     unsafe { c::amiqsovik_verify(store.as_ptr(), store.len()) }
 }
 
-pub fn format(store: &mut [u8], fill: u32) -> u64 {
+pub fn format(store: &mut [u8], fill: u32, number: u32) -> u64 {
     // SAFETY: the store is lent to be changed, and nothing else.
-    unsafe { c::amiqsovik_format(store.as_mut_ptr(), store.len(), fill) }
+    unsafe { c::amiqsovik_format(store.as_mut_ptr(), store.len(), fill, number) }
 }
 
 pub fn insert(store: &mut [u8], hash: u32, block: u32, offset: u32) -> u64 {

@@ -10,7 +10,7 @@
 //! ```
 //! use amiqsovik::{Reading, Store};
 //! let mut bytes = vec![0; 16 * 512];
-//! let mut store = Store::formatted(&mut bytes, 10)?;
+//! let mut store = Store::formatted(&mut bytes, 10, 7)?;
 //! store.insert(0xC0FFEE, Reading::new(7, 1))?;
 //! let mut output = [0; 60];
 //! let found: Vec<Reading> = store.lookup(0xC0FFEE, &mut output)?.collect();

@@ -10,7 +10,7 @@ use core::fmt;
 /// ```
 /// use amiqsovik::{Reading, Store};
 /// let mut bytes = vec![0; 16 * 512];
-/// let mut store = Store::formatted(&mut bytes, 10)?;
+/// let mut store = Store::formatted(&mut bytes, 10, 7)?;
 /// store.insert(5, Reading::new(7, 1))?;
 /// store.insert(5, Reading::new(3, 2))?;
 /// store.remove(5, Reading::new(7, 1))?;
@@ -25,13 +25,13 @@ pub struct Store<'a> {
 }
 
 impl<'a> Store<'a> {
-    /// Formats the bytes; see [`format`](crate::format).
+    /// Formats the bytes, with a fill and the store's number; see [`format`](crate::format).
     ///
     /// # Errors
     ///
     /// As [`format`](crate::format) has them.
-    pub fn formatted(bytes: &'a mut [u8], fill: u32) -> Result<Self, Refusal> {
-        calls::format(bytes, fill)?;
+    pub fn formatted(bytes: &'a mut [u8], fill: u32, number: u32) -> Result<Self, Refusal> {
+        calls::format(bytes, fill, number)?;
         Ok(Store { bytes })
     }
 
@@ -108,7 +108,7 @@ impl<'a> Store<'a> {
 ///
 /// ```
 /// let mut bytes = [0; 16 * 512];
-/// let store = amiqsovik::Store::formatted(&mut bytes, 10)?;
+/// let store = amiqsovik::Store::formatted(&mut bytes, 10, 7)?;
 /// let shown = "Store { blocks: 16, standing: Standing { count: 0, buckets: 2, phase: None, slack: 20 }, .. }";
 /// assert_eq!(format!("{store:?}"), shown);
 /// # Ok::<(), amiqsovik::Refusal>(())

@@ -1,16 +1,18 @@
 //! The proved index and the ordinary one, side by side.
 //!
 //! The tests in `tests/` make calls through [`twin::Twin`], which makes each on both and compares answers, stores and
-//! outputs to the byte. Everything else here is aid: a generator of numbers, stores built or spoilt from outside, the
-//! book of demand 3, and what the benchmark measures.
+//! outputs to the byte. Everything else here is aid: a generator of numbers, the check bit by bit, stores built or
+//! spoilt from outside, the book of demand 3, and what the benchmark measures.
 
 #![forbid(unsafe_code)]
 
 pub mod book;
 pub mod build;
 pub mod lists;
+pub mod numbered;
 pub mod random;
 pub mod rows;
+pub mod seal;
 pub mod sha256;
 pub mod side;
 pub mod spoil;

@@ -40,6 +40,12 @@ impl Random {
         things[self.below(things.len() as u32) as usize]
     }
 
+    /// A store's number: one at the ends, or any.
+    pub fn store_number(&mut self) -> u32 {
+        let numbers = [0, 1, u32::MAX, self.number()];
+        self.pick(&numbers)
+    }
+
     pub fn shuffle<T>(&mut self, things: &mut [T]) {
         for i in (1..things.len()).rev() {
             things.swap(i, self.below(i as u32 + 1) as usize);

@@ -1,4 +1,4 @@
-//! SHA-256, for the digests in tests/vectors/stores.txt.
+//! SHA-256, for the digests in tests/vectors.
 
 /// The first 32 bits of the cube roots' fractions of the first 64 primes, and of the square roots' of the first 8.
 fn constants() -> ([u32; 64], [u32; 8]) {

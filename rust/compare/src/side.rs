@@ -34,7 +34,7 @@ pub struct State {
 /// An implementation of the index.
 pub trait Side {
     fn verify(store: &[u8]) -> Reply;
-    fn format(store: &mut [u8], fill: u32) -> Reply;
+    fn format(store: &mut [u8], fill: u32, number: u32) -> Reply;
     fn insert(store: &mut [u8], hash: u32, block: u32, offset: u32) -> Reply;
     fn remove(store: &mut [u8], hash: u32, block: u32, offset: u32) -> Reply;
     fn lookup(store: &[u8], hash: u32, output: &mut [u8]) -> Reply;
@@ -57,8 +57,8 @@ impl Side for Proved {
         proved(amiqsovik::verify(store))
     }
 
-    fn format(store: &mut [u8], fill: u32) -> Reply {
-        proved(amiqsovik::format(store, fill))
+    fn format(store: &mut [u8], fill: u32, number: u32) -> Reply {
+        proved(amiqsovik::format(store, fill, number))
     }
 
     fn insert(store: &mut [u8], hash: u32, block: u32, offset: u32) -> Reply {
@@ -113,8 +113,8 @@ impl Side for Ordinary {
         ordinary(ordinary::verify(store))
     }
 
-    fn format(store: &mut [u8], fill: u32) -> Reply {
-        ordinary(ordinary::format(store, fill))
+    fn format(store: &mut [u8], fill: u32, number: u32) -> Reply {
+        ordinary(ordinary::format(store, fill, number))
     }
 
     fn insert(store: &mut [u8], hash: u32, block: u32, offset: u32) -> Reply {

@@ -7,6 +7,8 @@ use crate::random::Random;
 pub const EACH: u32 = 28;
 /// The hash code of the stores with one hash code alone.
 pub const CODE: u32 = 2;
+/// The number of the stores.
+const NUMBER: u32 = 0x5EC0_11E7;
 
 /// As many buckets as `blocks` blocks have room for, `each` random pairs in each, four to a hash code, and fill `each`.
 /// If `splitting`, the last split is in the midst of its copying.
@@ -16,7 +18,7 @@ pub fn even(blocks: u32, each: u32, splitting: bool) -> Vec<u8> {
     let mut spares = [0; 16];
     spares[1..point as usize].fill(1);
     spares[point as usize] = blocks - (1 << point) - 1;
-    let layout = Layout { blocks, max: (1 << point) - 1, point, spares };
+    let layout = Layout { blocks, max: (1 << point) - 1, point, spares, number: NUMBER };
     let (old, new) = (layout.max ^ (1 << layout.max.ilog2()), layout.max);
     let mut buckets = vec![Entries::new(); layout.max as usize + 1];
     for _ in 0..each * (layout.max + 1) / 4 {
@@ -98,7 +100,7 @@ fn copied(
     let old = new - 2;
     let mut spares = [0; 16];
     spares[1..3].copy_from_slice(&[64, 64 + 39]);
-    let layout = Layout { blocks, max: new, point: 2, spares };
+    let layout = Layout { blocks, max: new, point: 2, spares, number: NUMBER };
     let old_pages = interleaved(random, old_pairs.into_iter().map(|pair| (pair, false)).collect(), 64);
     let guests = old_pages.iter().flatten().filter(|(pair, _)| layout.bucket_of(pair.0) == new);
     let mut copies: Vec<_> = guests.map(|(&pair, _)| (pair, true)).collect();
@@ -122,7 +124,7 @@ pub fn wanting(blocks: u32) -> Vec<u8> {
     let mut spares = [0; 16];
     spares[1..point as usize].fill(1);
     spares[point as usize] = blocks / 2;
-    let layout = Layout { blocks, max: new - 1, point, spares };
+    let layout = Layout { blocks, max: new - 1, point, spares, number: NUMBER };
     let halves = (0..10 * blocks).map(|i| (of(&mut random, size, if i % 2 == 0 { old } else { new }), false)).collect();
     let mut pages = Some(interleaved(&mut random, halves, blocks / 2));
     let mut free = (1..layout.bits()).map(|bit| layout.bit_block(bit));
@@ -189,7 +191,7 @@ fn linked(
 fn lone(blocks: u32, pages: Vec<Entries>) -> Vec<u8> {
     let mut spares = [0; 16];
     spares[1] = pages.len() as u32;
-    let layout = Layout { blocks, max: 1, point: 1, spares };
+    let layout = Layout { blocks, max: 1, point: 1, spares, number: NUMBER };
     let mut free = (1..layout.bits()).map(|bit| layout.bit_block(bit));
     let chains = vec![linked(&layout, 0, pages, &mut free), linked(&layout, 1, vec![Entries::new()], &mut free)];
     encode(&layout, 40, 0, (0, 0), &chains)

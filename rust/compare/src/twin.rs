@@ -28,9 +28,9 @@ impl Twin {
         self.read("standing", Proved::standing, Ordinary::standing)
     }
 
-    pub fn format(&mut self, fill: u32) -> Reply {
-        let call = format!("format {fill}");
-        self.write(&call, |store| Proved::format(store, fill), |store| Ordinary::format(store, fill))
+    pub fn format(&mut self, fill: u32, number: u32) -> Reply {
+        let call = format!("format {fill} {number}");
+        self.write(&call, |store| Proved::format(store, fill, number), |store| Ordinary::format(store, fill, number))
     }
 
     pub fn insert(&mut self, hash: u32, block: u32, offset: u32) -> Reply {

@@ -7,10 +7,10 @@ use compare::twin::Twin;
 
 /// Runs a list; gives the numbers of splits counted to their end and of those disturbed.
 fn run(seed: u64, blocks: usize, fill: u32, calls: u32, maker: &mut Maker) -> (u32, u32) {
-    let mut twin = Twin::new(vec![0; blocks * 512], format!("seed {seed}, N {blocks}, fill {fill}"));
-    assert!(twin.format(fill).done());
-    let mut book = Book::new(fill);
     let mut random = Random::new(seed);
+    let mut twin = Twin::new(vec![0; blocks * 512], format!("seed {seed}, N {blocks}, fill {fill}"));
+    assert!(twin.format(fill, random.store_number()).done());
+    let mut book = Book::new(fill);
     book.check(&twin, &mut random);
     for _ in 0..calls {
         let call = maker.call();
@@ -18,7 +18,8 @@ fn run(seed: u64, blocks: usize, fill: u32, calls: u32, maker: &mut Maker) -> (u
         maker.note(call, reply);
     }
     // A format empties the book, whatever stood there.
-    book.call(&mut twin, Call::Format(fill), &mut random);
+    let number = random.store_number();
+    book.call(&mut twin, Call::Format(fill, number), &mut random);
     book.call(&mut twin, Call::Insert((7, 7, 7)), &mut random);
     (book.counted, book.disturbed)
 }

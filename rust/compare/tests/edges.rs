@@ -7,7 +7,7 @@ use compare::twin::Twin;
 
 fn filled(pairs: u32) -> Twin {
     let mut twin = Twin::new(vec![0; 12 * 512], "edges");
-    assert!(twin.format(40).done());
+    assert!(twin.format(40, 12).done());
     for i in 0..pairs {
         assert!(twin.insert(77, i, 1 + i).done());
     }
@@ -31,7 +31,7 @@ fn lengths() {
         assert_eq!(twin.lookup(1, 600).0, length);
         // A wrong length comes before a wrong number.
         for (good, bad) in [(1, 0), (40, 41), (7, u32::MAX)] {
-            assert_eq!((twin.format(good), twin.format(bad)), (length, length));
+            assert_eq!((twin.format(good, bad), twin.format(bad, good)), (length, length));
             assert_eq!((twin.insert(1, 1, good), twin.insert(1, 1, bad)), (length, length));
             assert_eq!((twin.remove(1, 1, good), twin.remove(1, u32::MAX, bad)), (length, length));
             assert_eq!((twin.work(good), twin.work(u32::MAX)), (length, length));
@@ -57,7 +57,7 @@ fn numbers() {
     }
     assert_eq!((twin.insert(77, u32::MAX, 1), twin.remove(77, u32::MAX, 1)), (number, number));
     for fill in [0, 41, 65_536 + 7, u32::MAX] {
-        assert_eq!(twin.format(fill), number);
+        assert_eq!((twin.format(fill, 0), twin.format(fill, u32::MAX)), (number, number));
     }
     for budget in [65_536, 65_537, u32::MAX] {
         assert_eq!(twin.work(budget), number);

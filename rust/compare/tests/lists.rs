@@ -1,18 +1,24 @@
 //! Random lists of calls on both sides: answers, stores and outputs are the same.
 
-use compare::lists::{Maker, Seen};
+use compare::lists::{Call, Maker, Seen};
 use compare::twin::Twin;
 
 fn run(seed: u64, blocks: usize, fill: u32, calls: u32, maker: &mut Maker, seen: &mut Seen) {
     let mut twin = Twin::new(vec![0x5A; blocks * 512], format!("seed {seed}, N {blocks}, fill {fill}"));
-    assert!(twin.format(fill).done());
-    for _ in 0..calls {
-        let call = maker.call();
-        let reply = call.make(&mut twin);
-        maker.note(call, reply);
-        seen.note(call, reply, &twin);
+    // Formatted again in the end, and under another number.
+    for calls in [calls, 30] {
+        let format = Call::Format(fill, maker.random.store_number());
+        let reply = format.make(&mut twin);
+        assert!(reply.done(), "{}: {format:?}", twin.label);
+        maker.note(format, reply);
+        for _ in 0..calls {
+            let call = maker.call();
+            let reply = call.make(&mut twin);
+            maker.note(call, reply);
+            seen.note(call, reply, &twin);
+        }
+        assert!(twin.verify().done(), "{}: not sound", twin.label);
     }
-    assert!(twin.verify().done());
 }
 
 #[test]

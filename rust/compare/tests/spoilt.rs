@@ -2,6 +2,7 @@
 
 use compare::build::sound;
 use compare::random::Random;
+use compare::seal::seal_all;
 use compare::side::Reply;
 use compare::spoil::{damage, spoil};
 use compare::twin::Twin;
@@ -23,7 +24,7 @@ fn calls(random: &mut Random, twin: &Twin, verdict: Reply) {
     assert_eq!(twin.clone().remove(hash, u32::MAX, 1), Reply::refused(2, 0), "{}", twin.label);
     assert_eq!(twin.clone().work(65_536), Reply::refused(2, 0), "{}", twin.label);
     if random.once_in(8) {
-        assert!(twin.clone().format(1).done(), "{}", twin.label);
+        assert!(twin.clone().format(1, random.store_number()).done(), "{}", twin.label);
     }
 }
 
@@ -78,7 +79,7 @@ fn any_bytes() {
         let blocks = random.within(4, 128) as usize;
         let mut store: Vec<u8> = (0..blocks * 512).map(|_| random.word() as u8).collect();
         if seed % 2 == 0 {
-            store.chunks_exact_mut(512).for_each(compare::spoil::seal);
+            seal_all(&mut store);
         }
         let twin = Twin::new(store, format!("noise {seed}"));
         let wanted = if seed % 2 == 0 { Reply::refused(4, 1) } else { Reply::refused(3, 0) };

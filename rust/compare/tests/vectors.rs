@@ -1,14 +1,36 @@
-//! tests/vectors/stores.txt, whole, on each side.
+//! The files of tests/vectors, whole, on each side.
 
-use compare::side::{Ordinary, Proved};
-use compare::vectors::{replay, stores};
+use compare::side::{Ordinary, Proved, Side};
+use compare::vectors::{file, replay_01, replay_02};
 
-#[test]
-fn stores_on_the_proved_side() {
-    assert!(replay::<Proved>(&stores()) > 1000);
+/// Document 01's stores have no number: they are replayed under several.
+fn stores_01<S: Side>() {
+    let text = file("stores.txt");
+    for number in [0, 1, u32::MAX, 0x8000_0000, 0x1D2C_3B4A] {
+        assert_eq!(replay_01::<S>(&text, number), 1510, "number {number}");
+    }
+}
+
+fn stores_02<S: Side>() {
+    assert_eq!(replay_02::<S>(&file("02/stores.txt")), 3343);
 }
 
 #[test]
-fn stores_on_the_ordinary_side() {
-    assert!(replay::<Ordinary>(&stores()) > 1000);
+fn stores_of_document_01_on_the_proved_side() {
+    stores_01::<Proved>();
+}
+
+#[test]
+fn stores_of_document_01_on_the_ordinary_side() {
+    stores_01::<Ordinary>();
+}
+
+#[test]
+fn stores_of_document_02_on_the_proved_side() {
+    stores_02::<Proved>();
+}
+
+#[test]
+fn stores_of_document_02_on_the_ordinary_side() {
+    stores_02::<Ordinary>();
 }

@@ -9,7 +9,7 @@ pub enum Refusal {
     Length,
     /// A number is outside its field.
     Number,
-    /// A block's check is wrong; the lowest such block.
+    /// A block's check is wrong for its bytes, its place and the store's number; the lowest such block.
     Damaged(u32),
     /// All checks are right, but a sound-store rule is broken; the lowest such rule.
     NotAnIndex(u32),

@@ -1,6 +1,6 @@
 //! One block: numbers in it, its trailer and its check.
 
-use crate::crc::crc32c;
+use crate::crc;
 
 pub type Block = [u8; 512];
 
@@ -103,14 +103,19 @@ pub fn set_flags(block: &mut Block, value: u16) {
     put16(block, CONTENT + 12, value);
 }
 
-/// Whether the block's check is right.
-pub fn intact(block: &Block) -> bool {
-    get32(block, CHECK) == crc32c(&block[..CHECK])
+/// The check that a block has to have at its place in the store with this number.
+fn check(number: u32, at: usize, block: &Block) -> u32 {
+    crc::check(number, at as u32, &block[..CHECK])
 }
 
-/// Writes the block's check.
-pub fn seal(block: &mut Block) {
-    let check = crc32c(&block[..CHECK]);
+/// Whether the check of block `at` is right in the store with this number.
+pub fn intact(number: u32, at: usize, block: &Block) -> bool {
+    get32(block, CHECK) == check(number, at, block)
+}
+
+/// Writes the check of block `at` in the store with this number.
+pub fn seal(number: u32, at: usize, block: &mut Block) {
+    let check = check(number, at, block);
     put32(block, CHECK, check);
 }
 

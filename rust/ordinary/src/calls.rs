@@ -35,19 +35,21 @@ pub fn verify(store: &[u8]) -> Result<(), Refusal> {
     sound(blocks(store)?).map(drop)
 }
 
-/// Makes any bytes of legal length an empty index.
-pub fn format(store: &mut [u8], fill: u32) -> Result<(), Refusal> {
+/// Makes any bytes of legal length an empty index. Every check in it covers `number`, which may be any.
+pub fn format(store: &mut [u8], fill: u32, number: u32) -> Result<(), Refusal> {
     let blocks = blocks_mut(store)?;
     if !(1..=40).contains(&fill) {
         return Err(Refusal::Number);
     }
     blocks.as_flattened_mut().fill(0);
-    Meta::fresh(blocks.len() as u32, fill as u16).write(&mut blocks[0]);
+    Meta::fresh(blocks.len() as u32, fill as u16, number).write(&mut blocks[0]);
     Trailer::new(1, NONE, 0, BUCKET).put(&mut blocks[1]);
     Trailer::new(1, NONE, 1, BUCKET).put(&mut blocks[2]);
     blocks[3][..256].fill(0xFF);
     Trailer::unlinked(BITMAP).put(&mut blocks[3]);
-    blocks.iter_mut().for_each(block::seal);
+    for (at, block) in blocks.iter_mut().enumerate() {
+        block::seal(number, at, block);
+    }
     Ok(())
 }
 

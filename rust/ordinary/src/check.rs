@@ -2,14 +2,15 @@
 
 use crate::answer::{Phase, Refusal};
 use crate::block::{self, Block, Trailer, BITMAP, BUCKET, CLEANUP, CONTENT, META, NONE, OVERFLOW, POPULATED, SPLIT};
-use crate::meta::{splits_from, Meta, Role, MOST};
+use crate::meta::{splits_from, store_number, Meta, Role, MOST};
 use crate::page::{self, Pair};
 use crate::view::View;
 use std::cell::OnceCell;
 
 /// The meta block of a sound store, or what is wrong with the store.
 pub fn sound(blocks: &[Block]) -> Result<Meta, Refusal> {
-    if let Some(damaged) = blocks.iter().position(|block| !block::intact(block)) {
+    let number = store_number(&blocks[0]);
+    if let Some(damaged) = (0..blocks.len()).find(|&at| !block::intact(number, at, &blocks[at])) {
         return Err(Refusal::Damaged(damaged as u32));
     }
     let meta = Meta::read(&blocks[0]);

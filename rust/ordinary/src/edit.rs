@@ -45,7 +45,8 @@ impl<'a> Edit<'a> {
             self.meta.write(&mut self.blocks[0]);
         }
         while self.touched != 0 {
-            block::seal(&mut self.blocks[self.touched.trailing_zeros() as usize]);
+            let at = self.touched.trailing_zeros() as usize;
+            block::seal(self.meta.number, at, &mut self.blocks[at]);
             self.touched &= self.touched - 1;
         }
     }

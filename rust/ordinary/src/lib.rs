@@ -1,12 +1,12 @@
-//! The hash index of document 01 in ordinary Rust.
+//! The hash index of document 01, with the store number of request 2026-03, in ordinary Rust.
 //!
 //! A store is a byte slice of 4 to 128 blocks of 512 bytes. Every call takes any bytes and any numbers, judges the
 //! whole store first, and either is done or gives a [`Refusal`] and leaves the store and the output as they were.
-//! This crate is written from the document alone, so that the proved index can be compared with it.
+//! This crate is written from the documents alone, so that the proved index can be compared with it.
 //!
 //! ```
 //! let mut store = vec![0; 16 * 512];
-//! ordinary::format(&mut store, 10)?;
+//! ordinary::format(&mut store, 10, 7)?;
 //! ordinary::insert(&mut store, 5, 7, 1)?;
 //! ordinary::insert(&mut store, 5, 3, 2)?;
 //! let mut output = [0; 12];

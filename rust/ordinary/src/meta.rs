@@ -7,7 +7,8 @@ pub const MOST: usize = 128;
 const MAGIC: u32 = 0x0644_0640;
 const EDITION: u32 = 512;
 const SPARES: usize = 40;
-const SPARES_END: usize = SPARES + 4 * 16;
+const NUMBER: usize = SPARES + 4 * 16;
+const NUMBER_END: usize = NUMBER + 4;
 
 /// What a block is for.
 #[derive(Debug, Clone, Copy, PartialEq, Eq)]
@@ -33,15 +34,21 @@ pub struct Meta {
     pub first_free: u32,
     pub blocks: u32,
     pub spares: [u32; 16],
+    pub number: u32,
+}
+
+/// The store's number: what stands in block 0, whatever else is in it.
+pub fn store_number(block: &Block) -> u32 {
+    get32(block, NUMBER)
 }
 
 impl Meta {
     /// The meta block of an empty index.
-    pub fn fresh(blocks: u32, fill: u16) -> Self {
+    pub fn fresh(blocks: u32, fill: u16, number: u32) -> Self {
         let mut spares = [0; 16];
         spares[1] = 1;
         let (high_mask, low_mask) = masks(1);
-        Meta { count: 0, fill, max_bucket: 1, high_mask, low_mask, point: 1, first_free: 1, blocks, spares }
+        Meta { count: 0, fill, max_bucket: 1, high_mask, low_mask, point: 1, first_free: 1, blocks, spares, number }
     }
 
     pub fn read(block: &Block) -> Self {
@@ -55,13 +62,15 @@ impl Meta {
             first_free: get32(block, 32),
             blocks: get32(block, 36),
             spares: std::array::from_fn(|i| get32(block, SPARES + 4 * i)),
+            number: store_number(block),
         }
     }
 
     pub fn write(&self, block: &mut Block) {
         block.fill(0);
         let fields = [(0, MAGIC), (4, EDITION), (8, self.count), (16, self.max_bucket), (20, self.high_mask)];
-        let more = [(24, self.low_mask), (28, self.point), (32, self.first_free), (36, self.blocks)];
+        let more =
+            [(24, self.low_mask), (28, self.point), (32, self.first_free), (36, self.blocks), (NUMBER, self.number)];
         for (at, value) in fields.into_iter().chain(more) {
             put32(block, at, value);
         }
@@ -78,7 +87,7 @@ impl Meta {
             && get32(block, 4) == EDITION
             && self.blocks as usize == blocks
             && zero(&block[14..16])
-            && zero(&block[SPARES_END..CONTENT])
+            && zero(&block[NUMBER_END..CONTENT])
     }
 
     /// Rule 2.
