@@ -9,7 +9,7 @@ use lib.Dec.{ltb}
 use lib.ListN.{length}
 use Rattle.model.specs.declared.Refusal.{Refusal}
 use Rattle.model.specs.declared.Refusal.the-variants.{Length, Number, Damaged, NotIndex}
-use Rattle.model.specs.declared.Refusal.the-variants.{HeldAlready, NotHeld, NoRoom, OutputShort}
+use Rattle.model.specs.declared.Refusal.the-variants.{HeldAlready, NotHeld, NoRoom, OutputShort, InUse}
 use Rattle.model.specs.declared.Answer.{Answer}
 use Rattle.model.specs.declared.LookupAnswer.{LookupAnswer}
 use Rattle.model.specs.declared.Stop.{Stop}
@@ -45,6 +45,7 @@ refusal-small HeldAlready = omega arith
 refusal-small NotHeld = omega arith
 refusal-small NoRoom = omega arith
 refusal-small (OutputShort matches) = omega arith
+refusal-small InUse = omega arith
 
 pub stop-small : (s : Stop) → stopNo s ≤ 255
 stop-small Stop.Spent = omega arith

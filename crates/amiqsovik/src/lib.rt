@@ -5,6 +5,7 @@ mod result; // result.rt: what standing writes
 use index::change::insert;
 use index::change::remove;
 use index::format::format;
+use index::in_use::in_use;
 use index::read::lookup;
 use index::read::standing;
 use index::work::work;
@@ -19,8 +20,8 @@ use words::verdict_word;
 use words::work_word;
 ghost use mathlib.Core.Path.{_≡_};
 ghost use Rattle.model.specs.Calls.{orderOf};
-ghost use Rattle.outcomes.specs.Outcomes.{verifyOutcome, formatOutcome, insertOutcome, removeOutcome};
-ghost use Rattle.outcomes.specs.Outcomes.{lookupOutcome, workOutcome};
+ghost use Rattle.outcomes.specs.Outcomes.{verifyOutcome, inUseOutcome, formatOutcome, insertOutcome};
+ghost use Rattle.outcomes.specs.Outcomes.{removeOutcome, lookupOutcome, workOutcome};
 ghost use Rattle.amiqsovik.specs.Words.{answerWord, lookupWord, workWord, verdictWord};
 ghost use Rattle.amiqsovik.specs.Result.{standingTold};
 
@@ -32,12 +33,28 @@ pub extern "C" fn amiqsovik_verify(store: &[u8]) -> u64
     verdict_word(verify(store))
 }
 
+// Whether a store is in use: 1; 12 if it is sound and its count is not 0; else 0, also if it is not sound, whatever it
+// holds. It is what a format with good numbers answers that does not overwrite.
 #[no_mangle]
-pub extern "C" fn amiqsovik_format(store: &mut [u8], fill: u32, number: u32) -> u64
-    ensures { λ r. ⌜ r ≡ answerWord (formatOutcome (now (store .entry)) (orderOf fill number) .answer) ⌝ }
-    ensures { λ _. ⌜ now (store .exit) ≡ formatOutcome (now (store .entry)) (orderOf fill number) .store ⌝ }
+pub extern "C" fn amiqsovik_in_use(store: &[u8]) -> u64
+    ensures { λ r. ⌜ r ≡ answerWord (inUseOutcome (now (store .entry))) ⌝ }
 {
-    answer_word(format(store, Order { fill, number }))
+    answer_word(in_use(store))
+}
+
+#[no_mangle]
+pub extern "C" fn amiqsovik_format(store: &mut [u8], fill: u32, number: u32, overwrite: u32) -> u64
+    ensures { λ r. ⌜ r ≡ answerWord (formatOutcome (now (store .entry)) (orderOf fill number overwrite) .answer) ⌝ }
+    ensures { λ _. ⌜ now (store .exit) ≡ formatOutcome (now (store .entry)) (orderOf fill number overwrite) .store ⌝ }
+{
+    answer_word(format(
+        store,
+        Order {
+            fill,
+            number,
+            overwrite,
+        },
+    ))
 }
 
 #[no_mangle]

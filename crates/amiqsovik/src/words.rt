@@ -25,7 +25,7 @@ fn refusal_word(refusal: Refusal) -> u64
     pack(refusal_number(refusal), refusal_gives(refusal))
 }
 
-// The word of a format, an insert or a removal.
+// The word of a format, an insert or a removal, or of whether a store is in use.
 pub fn answer_word(answer: Answer) -> u64
     ensures { λ r. ⌜ r ≡ answerWord answer ⌝ }
 {

@@ -21,12 +21,12 @@ abbrev pub askingIn : (short : Bool) → Option Call
 askingIn true = none
 askingIn false = some asking
 
--- Four numbers a call, the kind first: 0 format (fill, store number), 1 insert (hash, block, offset), 2 remove (hash,
--- block, offset), 3 lookup (hash, bytes), 4 work (budget), any other number standing (unused, bytes). A lookup and a
--- standing are lent so many bytes from the start of the output, or all of it.
+-- Four numbers a call, the kind first: 0 format (fill, store number, overwrite), 1 insert (hash, block, offset), 2
+-- remove (hash, block, offset), 3 lookup (hash, bytes), 4 work (budget), any other number standing (unused, bytes). A
+-- lookup and a standing are lent so many bytes from the start of the output, or all of it.
 unfoldable pub callOf : (kind a b c : ℕ) → (output : List ℕ) → Option Call
 callOf kind a b c out =
-    cond (eqb kind 0) (some (formatting (orderOf a b)))
+    cond (eqb kind 0) (some (formatting (orderOf a b c)))
     (cond (eqb kind 1) (some (inserting (record { hash = a; block = b; offset = c })))
     (cond (eqb kind 2) (some (removing (record { hash = a; block = b; offset = c })))
     (cond (eqb kind 3) (some (looking a (take b out)))

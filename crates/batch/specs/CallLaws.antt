@@ -32,11 +32,11 @@ fits-call kind a b c out ha hb hc =
     go (eqb kind 0) (eqb kind 1) (eqb kind 2) (eqb kind 3) (eqb kind 4) (ltb (length (take b out)) 28)
   where
     go : (p q r s t u : Bool)
-        → MayFit (cond p (some (formatting (orderOf a b)))
+        → MayFit (cond p (some (formatting (orderOf a b c)))
         (cond q (some (inserting (record { hash = a; block = b; offset = c })))
         (cond r (some (removing (record { hash = a; block = b; offset = c }))) (cond s (some (looking a (take b out)))
         (cond t (some (working a)) (askingIn u))))))
-    go true q r s t u = (ha, hb)
+    go true q r s t u = (ha, hb, hc)
     go false true r s t u = (ha, hb, hc)
     go false false true s t u = (ha, hb, hc)
     go false false false true t u = ha
@@ -74,11 +74,11 @@ module _ (s : List ℕ) (kind a b c : ℕ) (out : List ℕ) where
       → Batched (callOf kind a b c out) b s out w s′ out′
   of d e {w} {s′} {out′} r = subst (λ (d : Option Call). Batched d b s out w s′ out′) (sym e) r
 
-  pub ran-format : {w : ℕ} {s′ : List ℕ} → kind ≡ 0 → w ≡ answerWord (formatOutcome s (orderOf a b) .answer)
-      → s′ ≡ formatOutcome s (orderOf a b) .store → Batched (callOf kind a b c out) b s out w s′ out
+  pub ran-format : {w : ℕ} {s′ : List ℕ} → kind ≡ 0 → w ≡ answerWord (formatOutcome s (orderOf a b c) .answer)
+      → s′ ≡ formatOutcome s (orderOf a b c) .store → Batched (callOf kind a b c out) b s out w s′ out
   unfolding callOf runStore
   ran-format k e f =
-      of (some (formatting (orderOf a b))) (ap (λ (n : ℕ). callOf n a b c out) k)
+      of (some (formatting (orderOf a b c))) (ap (λ (n : ℕ). callOf n a b c out) k)
       (record { word = e; store = f; output = refl })
 
   pub ran-insert : {w : ℕ} {s′ : List ℕ} → kind ≡ 1

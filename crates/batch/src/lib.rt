@@ -50,7 +50,7 @@ fn run_call(store: &mut [u8], kind: u32, a: u32, b: u32, c: u32, output: &mut [u
         r (now (store .exit)) (now (output .exit)) ⌝ }
 {
     match kind {
-        0 => amiqsovik_format(store, a, b),
+        0 => amiqsovik_format(store, a, b, c),
         1 => amiqsovik_insert(store, a, b, c),
         2 => amiqsovik_remove(store, a, b, c),
         3 => run_lookup(store, a, b, output),

@@ -1,4 +1,5 @@
 // Format: a store made new, with no entries.
+use crate::in_use::is_protected;
 use endian::raw::copy_over;
 use image::Meta;
 use meta::check_fill;
@@ -23,6 +24,7 @@ ghost use Rattle.lists.specs.Lists.{bind, upFrom};
 ghost use Rattle.lists.specs.Block.{blocks, setBlock};
 ghost use Rattle.store.specs.Flags.{bucketFlags, bitmapFlags, metaFlags};
 ghost use Rattle.store.specs.Store.{covered, sealed};
+ghost use Rattle.model.specs.Calls.{formatOk};
 ghost use Rattle.image.specs.Layout.{paged};
 ghost use Rattle.store.specs.Flags.{noLink};
 ghost use Rattle.outcomes.specs.Format.{formatMeta, formatBlock};
@@ -123,7 +125,18 @@ fn format_blocks(store: &mut [u8], order: Order)
     }
 }
 
-// Makes a store new: two empty buckets, the bitmap, and all other blocks unused.
+// Refusal 2 of a format.
+pub fn check_format(order: Order) -> bool
+    ensures { λ r. ⌜ r ≡ formatOk order ⌝ }
+{
+    if !check_fill(order.fill) {
+        return false;
+    }
+    order.overwrite <= 1
+}
+
+// Makes a store new: two empty buckets, the bitmap, and all other blocks unused. A store in use is left, unless the
+// order overwrites.
 pub fn format(store: &mut [u8], order: Order) -> Answer
     ensures { λ r. ⌜ r ≡ formatOutcome (now (store .entry)) order .answer ⌝ }
     ensures { λ _. ⌜ now (store .exit) ≡ formatOutcome (now (store .entry)) order .store ⌝ }
@@ -131,8 +144,11 @@ pub fn format(store: &mut [u8], order: Order) -> Answer
     if !check_length(store) {
         return Answer::Refused(Refusal::Length);
     }
-    if !check_fill(order.fill) {
+    if !check_format(order) {
         return Answer::Refused(Refusal::Number);
+    }
+    if is_protected(store, order) {
+        return Answer::Refused(Refusal::InUse);
     }
     format_blocks(store, order);
     Answer::Done

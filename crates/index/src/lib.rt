@@ -1,4 +1,5 @@
 // The public calls of the index.
+pub mod in_use; // in_use.rt: whether a store is in use
 pub mod format; // format.rt: a store made new
 pub mod read; // read.rt: lookup and standing
 mod tests; // tests.rt: the tests before a call

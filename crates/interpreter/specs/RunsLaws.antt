@@ -1,17 +1,16 @@
 -- A line's turn, made in a lent store and output.
 use mathlib.Core.Path.{_≡_, refl, sym, ap, _∙_, subst}
-use mathlib.Core.Bool.{Bool, true, false, _&&_}
+use mathlib.Core.Bool.{Bool, true, false, not, _&&_}
 use mathlib.Core.List.{List, _++_}
 use Prim.Native.Nat.{ℕ, _+_, _*_, _/_, _%_, _≤_, _<_}
 use native.Mathlib.Omega.{arith}
 use borrow.Author.Tests.{leb-true, leb-false, le-leb, lt-leb}
 use lib.Dec.{eqb, leb}
-use lib.ListN.{length, take, drop, replicate, length-replicate, take-append-drop}
+use lib.ListN.{length, take, drop, replicate, length-append, length-drop, length-replicate, take-append-drop}
 use lib.Seq.{length-take-le}
 use Rattle.lists.specs.ListsLaws.{and-false}
 use Rattle.lists.specs.Block.{blocks}
 use Rattle.address.specs.Limits.{maxBlocks}
-use Rattle.line.specs.declared.Command.{Command}
 use Rattle.text.specs.Text.{storeText, refusedText}
 use Rattle.model.specs.declared.Order.{Order}
 use Rattle.model.specs.declared.Refusal.{Refusal}
@@ -20,13 +19,17 @@ use Rattle.model.specs.declared.LookupAnswer.{LookupAnswer}
 use Rattle.model.specs.Answers.{refusalNo}
 use Rattle.model.specs.Index.{Index}
 use Rattle.model.specs.Held.{matches}
-use Rattle.model.specs.Calls.{sizeOk, orderOf, formatOk, format, listed, lookup}
-use Rattle.image.specs.Layout.{encode}
-use Rattle.outcomes.specs.Outcomes.{Tested, passed, failed, tested, Changed, formatOn, formatOutcome}
+use Rattle.model.specs.Calls.{Result, done, refused, sizeOk, orderOf, formatOk, overwrites, format, formatIn, listed}
+use Rattle.model.specs.Calls.{lookup}
+use Rattle.model.specs.FormatLaws.{fill-ok}
+use Rattle.model.specs.MachineLaws.{never}
 use Rattle.image.specs.Rules.{lengthOk}
-use Rattle.outcomes.specs.Outcomes.{lookupOn, lookupOutcome}
-use Rattle.interpreter.specs.Script.{Turn, formatTurn, formatLine, runCommand}
-use Rattle.interpreter.specs.Feed.{over}
+use Rattle.outcomes.specs.Outcomes.{Tested, passed, failed, tested, storeInUse, inUseOutcome, Changed, refusing}
+use Rattle.outcomes.specs.Outcomes.{changed, formatReplacing, formatOutcome, lookupOn, lookupOutcome}
+use Rattle.outcomes.specs.OutcomeSoundLaws.{legal-is}
+use Rattle.outcomes.specs.InUseLaws.{format-length, format-inUse, format-accepted, in-use-is}
+use Rattle.interpreter.specs.Script.{Turn, formatTurn, formatLine}
+use Rattle.interpreter.specs.Feed.{storeBytes, over}
 use Rattle.interpreter.specs.Script.{scriptBlocks}
 use Rattle.interpreter.specs.Runs.{Stands, Runs, Room, Roomy}
 
@@ -56,6 +59,14 @@ stands-made {blocks} s t part few l e =
       bytes = over-part part s (512 * blocks) l ∙ ap (λ (x : List ℕ). over x s) e;
     }
 
+-- t was put over the first blocks, and the lent store kept its length
+pub stands-over : {blocks : ℕ} (s t new : List ℕ) → blocks ≤ scriptBlocks → storeBytes ≤ length s
+    → length new ≡ length s → new ≡ t ++ drop (512 * blocks) s → Stands t s new blocks
+stands-over {blocks} s t new few room l e =
+    let size : length t ≡ 512 * blocks =
+    omega (arith, few, room, l, ap length e, length-append t (drop (512 * blocks) s), length-drop (512 * blocks) s) in
+    record { few = few; size = size; bytes = e ∙ over-part t s (512 * blocks) size }
+
 pub runs-as : {t u : Turn} {old new : List ℕ} {blocks : ℕ} {before after : List ℕ} {written : ℕ} → t ≡ u
     → Runs t old new blocks before after written → Runs u old new blocks before after written
 runs-as {t} {u} {old} {new} {blocks} {before} {after} {written} e r =
@@ -80,86 +91,108 @@ lookup-roomy s h lent out r l m e = subst (λ (a : LookupAnswer). Roomy a out) e
     go (failed q) = tt
     go (passed x) = room x (leb (length (matches x h)) (length lent / 6)) refl
 
--- ---- format: what it makes goes by the length of the store alone
+-- ---- format: what it makes goes by the length of the new store alone
 
-format-turn : (s t : List ℕ) (line n : ℕ) (o : Order) (old : List ℕ) → length s ≡ length t
-    → formatTurn line n (o .fill) (formatOutcome s o .answer) old (formatOutcome s o .store)
-    ≡ formatTurn line n (o .fill) (formatOutcome t o .answer) old (formatOutcome t o .store)
-unfolding formatOutcome lengthOk blocks
-format-turn s t line n o old e =
-    both (lengthOk s) (formatOk o) (encode (format (blocks s) o))
-    ∙ ap (λ (k : ℕ). turn (eqb (k % 512) 0 && sizeOk (k / 512)) (formatOk o) t (encode (format (k / 512) o))) e
-  where
-    turn : (l f : Bool) → List ℕ → List ℕ → Turn
-    turn l f x y = let c = formatOn l f x y in formatTurn line n (o .fill) (c .answer) old (c .store)
-
-    both : (l f : Bool) (y : List ℕ) → turn l f s y ≡ turn l f t y
-    both false f y = refl
-    both true false y = refl
-    both true true y = refl
-
-module _ (s : List ℕ) (line n fill number : ℕ) (old : List ℕ) (size : length s ≡ 512 * n) (few : n ≤ scriptBlocks) where
+module _ (old new : List ℕ) (line n : ℕ) (o : Order) where
   abbrev d : Changed
-  d = formatOutcome s (orderOf fill number)
+  d = formatReplacing old new o
 
-  same : formatTurn line n fill (d .answer) old (d .store) ≡ runCommand (Command.Format n fill number) line old
-  unfolding runCommand
-  same =
-      format-turn s (replicate (512 * n) 0) line n (orderOf fill number) old (size ∙ sym (length-replicate (512 * n) 0))
-      ∙ ap (λ (b : Bool). formatLine b n (orderOf fill number) line old) (sym (le-leb n scriptBlocks few))
+  -- the turn of an f whose new store is any bytes
+  abbrev turn : List ℕ → Turn
+  turn t = let c = formatReplacing old t o in formatTurn line n (o .fill) (c .answer) old (c .store)
 
-  pub format-done : formatOutcome s (orderOf fill number) .answer ≡ Answer.Done
-      → record { text = storeText n fill; store = formatOutcome s (orderOf fill number) .store }
-      ≡ runCommand (Command.Format n fill number) line old
-  format-done e = sym (ap (λ (a : Answer). formatTurn line n fill a old (d .store)) e) ∙ same
+  turn-alike : (t : List ℕ) → length new ≡ length t → turn new ≡ turn t
+  unfolding formatReplacing lengthOk blocks
+  turn-alike t e =
+      both (lengthOk new) (formatOk o) (not (overwrites o) && storeInUse old) (format (blocks new) o)
+      ∙ ap (λ (k : ℕ). made (eqb (k % 512) 0 && sizeOk (k / 512)) (formatOk o) (not (overwrites o) && storeInUse old) t
+      (format (k / 512) o)) e
+    where
+      made : (l f p : Bool) → List ℕ → Index → Turn
+      made l f p t y = let c = changed t (formatIn l f p y) in formatTurn line n (o .fill) (c .answer) old (c .store)
 
-  pub format-refused : (r : Refusal) → formatOutcome s (orderOf fill number) .answer ≡ Answer.Refused r
-      → record { text = refusedText line (refusalNo r); store = old }
-      ≡ runCommand (Command.Format n fill number) line old
-  format-refused r e = sym (ap (λ (a : Answer). formatTurn line n fill a old (d .store)) e) ∙ same
+      both : (l f p : Bool) (y : Index) → made l f p new y ≡ made l f p t y
+      both false f p y = refl
+      both true false p y = refl
+      both true true true y = refl
+      both true true false y = refl
 
--- a refused one changes nothing
-pub format-kept : (s : List ℕ) (o : Order) (r : Refusal) → formatOutcome s o .answer ≡ Answer.Refused r
-    → formatOutcome s o .store ≡ s
-unfolding formatOutcome
-format-kept s o r e = go (lengthOk s) (formatOk o) (encode (format (blocks s) o)) e
-  where
-    go : (l f : Bool) (y : List ℕ) → formatOn l f s y .answer ≡ Answer.Refused r → formatOn l f s y .store ≡ s
-    go false f y q = refl
-    go true false y q = refl
-    go true true y q = let z : _≡_ {A = ℕ} 0 1 = cc in absurd (omega arith)
+  module _ (size : length new ≡ 512 * n) (few : n ≤ scriptBlocks) where
+    same : turn new ≡ formatLine (leb n scriptBlocks) n o line old
+    same =
+        turn-alike (replicate (512 * n) 0) (size ∙ sym (length-replicate (512 * n) 0))
+        ∙ ap (λ (b : Bool). formatLine b n o line old) (sym (le-leb n scriptBlocks few))
+
+    pub format-done : d .answer ≡ Answer.Done
+        → record { text = storeText n (o .fill); store = d .store } ≡ formatLine (leb n scriptBlocks) n o line old
+    format-done e = sym (ap (λ (a : Answer). formatTurn line n (o .fill) a old (d .store)) e) ∙ same
+
+    pub format-refused : (r : Refusal) → d .answer ≡ Answer.Refused r
+        → record { text = refusedText line (refusalNo r); store = old } ≡ formatLine (leb n scriptBlocks) n o line old
+    format-refused r e = sym (ap (λ (a : Answer). formatTurn line n (o .fill) a old (d .store)) e) ∙ same
+
+  -- a refused one changes nothing
+  pub format-kept : (r : Refusal) → d .answer ≡ Answer.Refused r → d .store ≡ new
+  unfolding formatReplacing
+  format-kept r e =
+      go (formatIn (lengthOk new) (formatOk o) (not (overwrites o) && storeInUse old) (format (blocks new) o)) e
+    where
+      go : (q : Result) → changed new q .answer ≡ Answer.Refused r → changed new q .store ≡ new
+      go (done y) e = never (cc)
+      go (refused q) e = refl
+
+-- in the first k bytes of a lent store
+pub refused-part : (old s : List ℕ) (k : ℕ) (o : Order) (r : Refusal)
+    → formatReplacing old (take k s) o ≡ refusing (take k s) r
+    → (Answer.Refused r ≡ formatReplacing old (take k s) o .answer)
+    × (s ≡ formatReplacing old (take k s) o .store ++ drop k s)
+refused-part old s k o r e = (
+  sym (ap (λ (c : Changed). c .answer) e),
+  sym (ap (λ (c : Changed). c .store ++ drop k s) e ∙ take-append-drop k s),
+)
+
+-- a store that passed the tests of a format is formatted with an order that overwrites
+pub format-overwriting : (old new : List ℕ) (o : Order) → lengthOk new ≡ true → formatOk o ≡ true
+    → (not (overwrites o) && storeInUse old) ≡ false
+    → formatOutcome new (orderOf (o .fill) (o .number) 1) ≡ formatReplacing old new o
+unfolding formatOutcome format
+format-overwriting old new o l f p =
+    format-accepted new new (orderOf (o .fill) (o .number) 1) l (ap (λ (b : Bool). b && true) (fill-ok o f)) refl
+    ∙ sym (format-accepted old new o l f p)
 
 -- N above the script's gets 1
-pub format-large : (line n fill number : ℕ) (old : List ℕ) → scriptBlocks < n
-    → record { text = refusedText line 1; store = old } ≡ runCommand (Command.Format n fill number) line old
-unfolding runCommand
-format-large line n fill number old h =
-    ap (λ (b : Bool). formatLine b n (orderOf fill number) line old) (sym (lt-leb n scriptBlocks h))
+pub format-large : (line n : ℕ) (o : Order) (old : List ℕ) → scriptBlocks < n
+    → record { text = refusedText line 1; store = old } ≡ formatLine (leb n scriptBlocks) n o line old
+format-large line n o old h = ap (λ (b : Bool). formatLine b n o line old) (sym (lt-leb n scriptBlocks h))
 
 -- With the largest N that the index has today the script's own test answers what format would.
-unfit : (n : ℕ) → scriptBlocks < n → lengthOk (replicate (512 * n) 0) ≡ false
-unfolding lengthOk blocks
-unfit n h =
-    let size : length (replicate {A = ℕ} (512 * n) 0) ≡ 512 * n = length-replicate (512 * n) 0 in
-    let count : length (replicate {A = ℕ} (512 * n) 0) / 512 ≡ n = omega arith in
-    rw (count, lt-leb n maxBlocks h, and-false (leb 4 n))
-    (and-false (eqb (length (replicate {A = ℕ} (512 * n) 0) % 512) 0))
-
-pub line-is-format : (line n fill number : ℕ) (old : List ℕ)
-    → let c = formatOutcome (replicate (512 * n) 0) (orderOf fill number) in
-    runCommand (Command.Format n fill number) line old ≡ formatTurn line n fill (c .answer) old (c .store)
-unfolding runCommand formatOutcome
-line-is-format line n fill number old = go (leb n scriptBlocks) refl
+pub line-is-format : (line n : ℕ) (o : Order) (old : List ℕ)
+    → let c = formatReplacing old (replicate (512 * n) 0) o in
+    formatLine (leb n scriptBlocks) n o line old ≡ formatTurn line n (o .fill) (c .answer) old (c .store)
+line-is-format line n o old = go (leb n scriptBlocks) refl
   where
-    z : List ℕ
-    z = replicate (512 * n) 0
+    unfit : scriptBlocks < n → lengthOk (replicate (512 * n) 0) ≡ false
+    unfit h =
+        legal-is (replicate (512 * n) 0) n (length-replicate (512 * n) 0)
+        ∙ rw (lt-leb n maxBlocks h) (and-false (leb 4 n))
 
-    outcome : Bool → Changed
-    outcome l = formatOn l (formatOk (orderOf fill number)) z (encode (format (blocks z) (orderOf fill number)))
-
-    turn : Bool → Turn
-    turn l = formatTurn line n fill (outcome l .answer) old (outcome l .store)
-
-    go : (t : Bool) → leb n scriptBlocks ≡ t → formatLine t n (orderOf fill number) line old ≡ turn (lengthOk z)
+    go : (t : Bool) → leb n scriptBlocks ≡ t
+        → let c = formatReplacing old (replicate (512 * n) 0) o in
+        formatLine t n o line old ≡ formatTurn line n (o .fill) (c .answer) old (c .store)
     go true e = refl
-    go false e = ap turn (sym (unfit n (leb-false n scriptBlocks e)))
+    go false e =
+        sym (ap (λ (c : Changed). formatTurn line n (o .fill) (c .answer) old (c .store))
+        (format-length old (replicate (512 * n) 0) o (unfit (leb-false n scriptBlocks e))))
+
+-- ---- refusal 12: "the store tested is the one that stands, with its own N"
+
+-- of a line f with legal numbers that is not told to overwrite
+pub line-in-use : (line n : ℕ) (o : Order) (old : List ℕ) → sizeOk n ≡ true → n ≤ scriptBlocks → formatOk o ≡ true
+    → overwrites o ≡ false → inUseOutcome old ≡ Answer.Refused Refusal.InUse
+    → formatLine (leb n scriptBlocks) n o line old ≡ record { text = refusedText line 12; store = old }
+line-in-use line n o old size few f w u =
+    let new : List ℕ = replicate (512 * n) 0 in
+    let long : length new ≡ 512 * n = length-replicate (512 * n) 0 in
+    sym (format-refused old new line n o long few Refusal.InUse
+    (ap (λ (c : Changed). c .answer)
+    (format-inUse old new o (legal-is new n long ∙ size) f w (in-use-is old u))))

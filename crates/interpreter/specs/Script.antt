@@ -14,7 +14,7 @@ use Rattle.model.specs.declared.LookupAnswer.{LookupAnswer}
 use Rattle.model.specs.declared.WorkAnswer.{WorkAnswer}
 use Rattle.model.specs.Answers.{refusalNo, stopNo}
 use Rattle.model.specs.Calls.{orderOf}
-use Rattle.outcomes.specs.Outcomes.{formatOutcome, insertOutcome, removeOutcome, lookupOutcome, workOutcome}
+use Rattle.outcomes.specs.Outcomes.{formatReplacing, insertOutcome, removeOutcome, lookupOutcome, workOutcome}
 
 -- ---- answers as text. "Each refusal is shown as in line 4 below"
 
@@ -46,10 +46,11 @@ formatTurn line n fill (Answer.Refused r) old new = record { text = refusedText 
 abbrev pub scriptBlocks : ℕ
 scriptBlocks = 128
 
--- an f, by whether N is at most that: "A number that is outside its field gets 2, N gets 1."
+-- an f, by whether N is at most that: "A number that is outside its field gets 2, N gets 1." For 12 "the store tested
+-- is the one that stands, with its own N".
 abbrev pub formatLine : (small : Bool) → (blocks : ℕ) → Order → (line : ℕ) → (store : List ℕ) → Turn
 formatLine true n o line s =
-    let c = formatOutcome (replicate (512 * n) 0) o in
+    let c = formatReplacing s (replicate (512 * n) 0) o in
     formatTurn line n (o .fill) (c .answer) s (c .store)
 formatLine false n o line s = record { text = refusedText line 1; store = s }
 
@@ -59,8 +60,8 @@ lent = 30000
 
 -- the call of a line on the store that stands; "Anything else .. is refusal 10"
 unfoldable pub runCommand : Command → (line : ℕ) → (store : List ℕ) → Turn
-runCommand (Command.Format n fill number) line s =
-    formatLine (leb n scriptBlocks) n (orderOf fill number) line s
+runCommand (Command.Format n fill number overwrite) line s =
+    formatLine (leb n scriptBlocks) n (orderOf fill number overwrite) line s
 runCommand (Command.Insert h b o) line s =
     let c = insertOutcome s (record { hash = h; block = b; offset = o }) in
     record { text = answerText line (c .answer); store = c .store }

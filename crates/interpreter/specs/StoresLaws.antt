@@ -1,7 +1,7 @@
 -- Each line of a script leaves a store that a script can have.
 use mathlib.Core.Path.{_≡_, refl, sym, ap, _∙_, subst}
 use mathlib.Core.Logic.{_≢_}
-use mathlib.Core.Bool.{Bool, true, false}
+use mathlib.Core.Bool.{Bool, true, false, not, _&&_}
 use mathlib.Core.List.{List, []}
 use Prim.Native.Nat.{ℕ, _*_, _≤_}
 use native.Mathlib.Omega.{arith}
@@ -14,7 +14,7 @@ use Rattle.line.specs.FitsLaws.{CommandFits}
 use Rattle.model.specs.declared.Order.{Order}
 use Rattle.model.specs.Index.{Job, idle, copying, clearing, Index}
 use Rattle.model.specs.Steps.{next, step}
-use Rattle.model.specs.Calls.{sizeOk, orderOf, formatOk, format}
+use Rattle.model.specs.Calls.{sizeOk, orderOf, formatOk, overwrites, format, formatIn}
 use Rattle.model.specs.Machine.{Call, formatting, inserting, removing, working, CallFits, Ran, runIndex}
 use Rattle.model.specs.FormatLaws.{format-wf}
 use Rattle.model.specs.FrameLaws.{SameJob, insert-frame, remove-frame, begin-frame, job-frame, step-store}
@@ -23,9 +23,8 @@ use Rattle.model.specs.RemoveLaws.{remove-wf}
 use Rattle.model.specs.StepLaws.{step-wf}
 use Rattle.model.specs.RunLaws.{run-keeps}
 use Rattle.model.specs.MachineLaws.{never}
-use Rattle.image.specs.Layout.{encode}
 use Rattle.image.specs.BridgeTheorem.{encoding-is-sound}
-use Rattle.outcomes.specs.Outcomes.{tested, formatOn, formatOutcome, insertOutcome, removeOutcome}
+use Rattle.outcomes.specs.Outcomes.{tested, storeInUse, changed, formatReplacing, insertOutcome, removeOutcome}
 use Rattle.image.specs.Rules.{lengthOk}
 use Rattle.outcomes.specs.Outcomes.{workOutcome, runStore}
 use Rattle.outcomes.specs.OutcomeIndexLaws.{run-encode}
@@ -98,16 +97,18 @@ call-store c f s (bytes x m) e =
 -- an accepted f makes one, and a refused one leaves what stands
 format-store : (line n fill : ℕ) (o : Order) → CallFits (formatting o) → (z s : List ℕ) → blocks z ≤ scriptBlocks
     → ScriptStore s
-    → let c = formatOutcome z o in ScriptStore (formatTurn line n fill (c .answer) s (c .store) .store)
-unfolding formatOutcome
-format-store line n fill o fits z s few p = go (lengthOk z) refl (formatOk o) refl
+    → let c = formatReplacing s z o in ScriptStore (formatTurn line n fill (c .answer) s (c .store) .store)
+unfolding formatReplacing
+format-store line n fill o fits z s few p =
+    go (lengthOk z) refl (formatOk o) refl (not (overwrites o) && storeInUse s)
   where
-    go : (l : Bool) → lengthOk z ≡ l → (f : Bool) → formatOk o ≡ f
-        → let c = formatOn l f z (encode (format (blocks z) o)) in
+    go : (l : Bool) → lengthOk z ≡ l → (f : Bool) → formatOk o ≡ f → (b : Bool)
+        → let c = changed z (formatIn l f b (format (blocks z) o)) in
         ScriptStore (formatTurn line n fill (c .answer) s (c .store) .store)
-    go false h f k = p
-    go true h false k = p
-    go true h true k = bytes (format (blocks z) o) (made-format (blocks z) o fits (legal-size z h) k few)
+    go false h f k b = p
+    go true h false k b = p
+    go true h true k true = p
+    go true h true k false = bytes (format (blocks z) o) (made-format (blocks z) o fits (legal-size z h) k few)
 
 -- N of the script's, or refusal 1
 line-store : (line n : ℕ) (o : Order) → CallFits (formatting o) → (s : List ℕ) → ScriptStore s
@@ -124,8 +125,8 @@ line-store line n o fits s p = go (leb n scriptBlocks) refl
 pub store-after : (c : Command) → CommandFits c → (line : ℕ) (s : List ℕ)
     → ScriptStore s → ScriptStore (runCommand c line s .store)
 unfolding runCommand runStore insertOutcome removeOutcome workOutcome tested lengthOk blocks
-store-after (Command.Format n fill number) f line s p =
-    line-store line n (orderOf fill number) (f .1, f .2) s p
+store-after (Command.Format n fill number overwrite) f line s p =
+    line-store line n (orderOf fill number overwrite) (f .1, f .2, f .3) s p
 store-after (Command.Insert h b o) f line s p =
     call-store (inserting (record { hash = h; block = b; offset = o })) f s p refl
 store-after (Command.Remove h b o) f line s p =

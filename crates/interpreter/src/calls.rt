@@ -6,26 +6,61 @@ use crate::answers::put_looked;
 use crate::answers::put_worked;
 use index::change::insert;
 use index::change::remove;
+use index::format::check_format;
 use index::format::format;
+use index::in_use::is_protected;
 use index::read::lookup;
 use index::work::work;
 use line::Command;
 use model::Answer;
 use model::Order;
+use model::Refusal;
 use model::numbers::refusal_number;
 use text::put_refused;
 use text::put_store;
 ghost use mathlib.Core.Path.{_≡_};
-ghost use Prim.Native.Nat.{_*_};
-ghost use lib.ListN.{take};
+ghost use mathlib.Core.List.{_++_};
+ghost use Prim.Native.Nat.{_*_, _≤_};
+ghost use lib.ListN.{length, take, drop};
 ghost use Rattle.line.specs.declared.Command.{Command as command};
-ghost use Rattle.interpreter.specs.Script.{runCommand};
+ghost use Rattle.outcomes.specs.Outcomes.{formatReplacing};
+ghost use Rattle.interpreter.specs.Script.{scriptBlocks, runCommand};
+ghost use Rattle.interpreter.specs.Feed.{storeBytes};
 ghost use Rattle.interpreter.specs.Runs.{Runs, Room};
+
+// Formats the first `blocks` blocks of the lent store in the place of the store that stands, its first `standing`
+// blocks, which is the one that is tested for use. Both share the lent bytes, so the test comes first.
+fn format_standing(store: &mut [u8], standing: u32, blocks: u32, order: Order) -> Answer
+    requires { ⌜ (blocks ≤ scriptBlocks) × (standing ≤ scriptBlocks) × (storeBytes ≤ length (now store)) ⌝ }
+    ensures { λ r. ⌜ r ≡ formatReplacing (take (512 * standing) (now (store .entry)))
+        (take (512 * blocks) (now (store .entry))) order .answer ⌝ }
+    ensures { λ _. ⌜ now (store .exit) ≡ formatReplacing (take (512 * standing) (now (store .entry)))
+        (take (512 * blocks) (now (store .entry))) order .store ++ drop (512 * blocks) (now (store .entry)) ⌝ }
+{
+    if blocks < 4 {
+        return Answer::Refused(Refusal::Length);
+    }
+    if !check_format(order) {
+        return Answer::Refused(Refusal::Number);
+    }
+    let stands = 512 * standing as usize;
+    if is_protected(&store[..stands], order) {
+        return Answer::Refused(Refusal::InUse);
+    }
+    let end = 512 * blocks as usize;
+    let over = Order {
+        fill: order.fill,
+        number: order.number,
+        overwrite: 1,
+    };
+    format(&mut store[..end], over)
+}
 
 fn run_format(
     blocks: u32,
     fill: u32,
     number: u32,
+    overwrite: u32,
     line: u64,
     standing: u32,
     store: &mut [u8],
@@ -33,7 +68,7 @@ fn run_format(
 ) -> LineEnd
     requires { ⌜ Room standing (now store) (now output) ⌝ }
     ensures { λ r. ⌜ Runs
-        (runCommand (command.Format blocks fill number) line (take (512 * standing) (now (store .entry))))
+        (runCommand (command.Format blocks fill number overwrite) line (take (512 * standing) (now (store .entry))))
         (now (store .entry)) (now (store .exit)) (r .blocks)
         (now (output .entry)) (now (output .exit)) (r .written) ⌝ }
 {
@@ -44,8 +79,12 @@ fn run_format(
             written,
         };
     }
-    let end = 512 * blocks as usize;
-    let answer = format(&mut store[..end], Order { fill, number });
+    let order = Order {
+        fill,
+        number,
+        overwrite,
+    };
+    let answer = format_standing(store, standing, blocks, order);
     match answer {
         Answer::Done => {
             let written = put_store(output, blocks, fill);
@@ -137,7 +176,8 @@ pub fn run_command(
             blocks: n,
             fill,
             number,
-        } => run_format(n, fill, number, line, blocks, store, output),
+            overwrite,
+        } => run_format(n, fill, number, overwrite, line, blocks, store, output),
         Command::Insert {
             hash,
             block,

@@ -16,7 +16,8 @@ abbrev pub add : Fields → ℕ → Fields
 add Fields.None n = Fields.One n
 add (Fields.One a) n = Fields.Two a n
 add (Fields.Two a b) n = Fields.Three a b n
-add (Fields.Three a b c) n = Fields.Wrong
+add (Fields.Three a b c) n = Fields.Four a b c n
+add (Fields.Four a b c d) n = Fields.Wrong
 add Fields.Wrong n = Fields.Wrong
 
 abbrev pub addNumber : Fields → Number → Fields
@@ -35,6 +36,7 @@ withOne make Fields.None = Command.Unreadable
 withOne make (Fields.One a) = make a
 withOne make (Fields.Two a b) = Command.Unreadable
 withOne make (Fields.Three a b c) = Command.Unreadable
+withOne make (Fields.Four a b c d) = Command.Unreadable
 withOne make Fields.Wrong = Command.Unreadable
 
 abbrev pub withThree : (ℕ → ℕ → ℕ → Command) → Fields → Command
@@ -42,12 +44,21 @@ withThree make Fields.None = Command.Unreadable
 withThree make (Fields.One a) = Command.Unreadable
 withThree make (Fields.Two a b) = Command.Unreadable
 withThree make (Fields.Three a b c) = make a b c
+withThree make (Fields.Four a b c d) = Command.Unreadable
 withThree make Fields.Wrong = Command.Unreadable
+
+abbrev pub withFour : (ℕ → ℕ → ℕ → ℕ → Command) → Fields → Command
+withFour make Fields.None = Command.Unreadable
+withFour make (Fields.One a) = Command.Unreadable
+withFour make (Fields.Two a b) = Command.Unreadable
+withFour make (Fields.Three a b c) = Command.Unreadable
+withFour make (Fields.Four a b c d) = make a b c d
+withFour make Fields.Wrong = Command.Unreadable
 
 -- by the first word's byte: f, +, -, ?, w
 abbrev pub commandOf : (kind : ℕ) → Fields → Command
 commandOf kind f =
-    cond (eqb kind 102) (withThree Command.Format f) (cond (eqb kind 43) (withThree Command.Insert f)
+    cond (eqb kind 102) (withFour Command.Format f) (cond (eqb kind 43) (withThree Command.Insert f)
     (cond (eqb kind 45) (withThree Command.Remove f) (cond (eqb kind 63) (withOne Command.Lookup f)
     (cond (eqb kind 119) (withOne Command.Work f) Command.Unreadable))))
 

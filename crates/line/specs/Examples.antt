@@ -16,8 +16,8 @@ row l c = record { line = l; command = c }
 
 table : List Row
 table =
-    -- `f 16 10 7`
-    row (102 ∷ 32 ∷ 49 ∷ 54 ∷ 32 ∷ 49 ∷ 48 ∷ 32 ∷ 55 ∷ []) (Command.Format 16 10 7) ∷
+    -- `f 16 10 7 0`
+    row (102 ∷ 32 ∷ 49 ∷ 54 ∷ 32 ∷ 49 ∷ 48 ∷ 32 ∷ 55 ∷ 32 ∷ 48 ∷ []) (Command.Format 16 10 7 0) ∷
     -- `+ 5 7 1`
     row (43 ∷ 32 ∷ 53 ∷ 32 ∷ 55 ∷ 32 ∷ 49 ∷ []) (Command.Insert 5 7 1) ∷
     -- `- 5 7 1`
@@ -46,12 +46,12 @@ table =
     row (119 ∷ []) Command.Unreadable ∷
     -- `? 5 6`
     row (63 ∷ 32 ∷ 53 ∷ 32 ∷ 54 ∷ []) Command.Unreadable ∷
-    -- `f 16 10`
-    row (102 ∷ 32 ∷ 49 ∷ 54 ∷ 32 ∷ 49 ∷ 48 ∷ []) Command.Unreadable ∷
-    -- `f 16 10 7 0`
-    row (102 ∷ 32 ∷ 49 ∷ 54 ∷ 32 ∷ 49 ∷ 48 ∷ 32 ∷ 55 ∷ 32 ∷ 48 ∷ []) Command.Unreadable ∷
-    -- `F 16 10 7`
-    row (70 ∷ 32 ∷ 49 ∷ 54 ∷ 32 ∷ 49 ∷ 48 ∷ 32 ∷ 55 ∷ []) Command.Unreadable ∷
+    -- `f 16 10 7`
+    row (102 ∷ 32 ∷ 49 ∷ 54 ∷ 32 ∷ 49 ∷ 48 ∷ 32 ∷ 55 ∷ []) Command.Unreadable ∷
+    -- `f 16 10 7 0 1`
+    row (102 ∷ 32 ∷ 49 ∷ 54 ∷ 32 ∷ 49 ∷ 48 ∷ 32 ∷ 55 ∷ 32 ∷ 48 ∷ 32 ∷ 49 ∷ []) Command.Unreadable ∷
+    -- `F 16 10 7 0`
+    row (70 ∷ 32 ∷ 49 ∷ 54 ∷ 32 ∷ 49 ∷ 48 ∷ 32 ∷ 55 ∷ 32 ∷ 48 ∷ []) Command.Unreadable ∷
     -- `?5`
     row (63 ∷ 53 ∷ []) Command.Unreadable ∷
     []

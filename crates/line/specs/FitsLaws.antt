@@ -11,14 +11,14 @@ use Rattle.line.specs.declared.Number.{Number}
 use Rattle.line.specs.declared.Fields.{Fields}
 use Rattle.line.specs.declared.Command.{Command}
 use Rattle.line.specs.Words.{words, isDigit, maxNumber, valueFrom, numberOf}
-use Rattle.line.specs.Command.{addNumber, fieldsFrom, withOne, withThree, commandOf, commandFrom}
+use Rattle.line.specs.Command.{addNumber, fieldsFrom, withOne, withThree, withFour, commandOf, commandFrom}
 use Rattle.line.specs.Command.{maxLine, readLine}
 
 abbrev pub Fits32 : ℕ → Type 0
 Fits32 n = n < 2 ^ 32
 
 abbrev pub CommandFits : Command → Type 0
-CommandFits (Command.Format n fill number) = Fits32 n × Fits32 fill × Fits32 number
+CommandFits (Command.Format n fill number overwrite) = Fits32 n × Fits32 fill × Fits32 number × Fits32 overwrite
 CommandFits (Command.Insert h b o) = Fits32 h × Fits32 b × Fits32 o
 CommandFits (Command.Remove h b o) = Fits32 h × Fits32 b × Fits32 o
 CommandFits (Command.Lookup h) = Fits32 h
@@ -62,6 +62,7 @@ FieldsFit Fields.None = Unit {0}
 FieldsFit (Fields.One a) = Fits32 a
 FieldsFit (Fields.Two a b) = Fits32 a × Fits32 b
 FieldsFit (Fields.Three a b c) = Fits32 a × Fits32 b × Fits32 c
+FieldsFit (Fields.Four a b c d) = Fits32 a × Fits32 b × Fits32 c × Fits32 d
 FieldsFit Fields.Wrong = Unit {0}
 
 add-fits : (f : Fields) (n : Number) → FieldsFit f → NumberFits n → FieldsFit (addNumber f n)
@@ -69,7 +70,8 @@ add-fits f Number.Wrong h k = tt
 add-fits Fields.None (Number.Value n) h k = k
 add-fits (Fields.One a) (Number.Value n) h k = (h, k)
 add-fits (Fields.Two a b) (Number.Value n) h k = (h .0, h .1, k)
-add-fits (Fields.Three a b c) (Number.Value n) h k = tt
+add-fits (Fields.Three a b c) (Number.Value n) h k = (h .0, h .1, h .2, k)
+add-fits (Fields.Four a b c d) (Number.Value n) h k = tt
 add-fits Fields.Wrong (Number.Value n) h k = tt
 
 fields-fit : (f : Fields) (ws : List (List ℕ)) → FieldsFit f → FieldsFit (fieldsFrom f ws)
@@ -88,6 +90,7 @@ one-fits make k Fields.None h = tt
 one-fits make k (Fields.One a) h = k a h
 one-fits make k (Fields.Two a b) h = tt
 one-fits make k (Fields.Three a b c) h = tt
+one-fits make k (Fields.Four a b c d) h = tt
 one-fits make k Fields.Wrong h = tt
 
 three-fits : (make : ℕ → ℕ → ℕ → Command)
@@ -97,11 +100,22 @@ three-fits make k Fields.None h = tt
 three-fits make k (Fields.One a) h = tt
 three-fits make k (Fields.Two a b) h = tt
 three-fits make k (Fields.Three a b c) h = k a b c h
+three-fits make k (Fields.Four a b c d) h = tt
 three-fits make k Fields.Wrong h = tt
+
+four-fits : (make : ℕ → ℕ → ℕ → ℕ → Command)
+    → ((a b c d : ℕ) → Fits32 a × Fits32 b × Fits32 c × Fits32 d → CommandFits (make a b c d)) → (f : Fields)
+    → FieldsFit f → CommandFits (withFour make f)
+four-fits make k Fields.None h = tt
+four-fits make k (Fields.One a) h = tt
+four-fits make k (Fields.Two a b) h = tt
+four-fits make k (Fields.Three a b c) h = tt
+four-fits make k (Fields.Four a b c d) h = k a b c d h
+four-fits make k Fields.Wrong h = tt
 
 command-fits : (kind : ℕ) (f : Fields) → FieldsFit f → CommandFits (commandOf kind f)
 command-fits kind f h =
-    cond-fits (eqb kind 102) _ _ (three-fits Command.Format (λ a b c k. k) f h)
+    cond-fits (eqb kind 102) _ _ (four-fits Command.Format (λ a b c d k. k) f h)
     (cond-fits (eqb kind 43) _ _ (three-fits Command.Insert (λ a b c k. k) f h)
     (cond-fits (eqb kind 45) _ _ (three-fits Command.Remove (λ a b c k. k) f h)
     (cond-fits (eqb kind 63) _ _ (one-fits Command.Lookup (λ a k. k) f h)

@@ -4,16 +4,17 @@ use crate::Fields;
 use crate::words::read_fields;
 ghost use mathlib.Core.Path.{_≡_};
 ghost use Rattle.line.specs.declared.Command.{Command as command};
-ghost use Rattle.line.specs.Command.{withOne, withThree, commandOf, readLine};
+ghost use Rattle.line.specs.Command.{withOne, withThree, withFour, commandOf, readLine};
 
 fn format_of(fields: Fields) -> Command
-    ensures { λ r. ⌜ r ≡ withThree command.Format fields ⌝ }
+    ensures { λ r. ⌜ r ≡ withFour command.Format fields ⌝ }
 {
     match fields {
-        Fields::Three(blocks, fill, number) => Command::Format {
+        Fields::Four(blocks, fill, number, overwrite) => Command::Format {
             blocks,
             fill,
             number,
+            overwrite,
         },
         _ => Command::Unreadable,
     }

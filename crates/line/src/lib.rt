@@ -14,15 +14,33 @@ pub enum Fields {
     One(u32),
     Two(u32, u32),
     Three(u32, u32, u32),
+    Four(u32, u32, u32, u32),
     Wrong,
 }
 
 // A line of the script.
 pub enum Command {
-    Format { blocks: u32, fill: u32, number: u32 },
-    Insert { hash: u32, block: u32, offset: u32 },
-    Remove { hash: u32, block: u32, offset: u32 },
-    Lookup { hash: u32 },
-    Work { budget: u32 },
+    Format {
+        blocks: u32,
+        fill: u32,
+        number: u32,
+        overwrite: u32,
+    },
+    Insert {
+        hash: u32,
+        block: u32,
+        offset: u32,
+    },
+    Remove {
+        hash: u32,
+        block: u32,
+        offset: u32,
+    },
+    Lookup {
+        hash: u32,
+    },
+    Work {
+        budget: u32,
+    },
     Unreadable,
 }

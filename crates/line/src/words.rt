@@ -70,7 +70,8 @@ fn add_value(fields: Fields, n: u32) -> Fields
         Fields::None => Fields::One(n),
         Fields::One(a) => Fields::Two(a, n),
         Fields::Two(a, b) => Fields::Three(a, b, n),
-        Fields::Three(_, _, _) => Fields::Wrong,
+        Fields::Three(a, b, c) => Fields::Four(a, b, c, n),
+        Fields::Four(_, _, _, _) => Fields::Wrong,
         Fields::Wrong => Fields::Wrong,
     }
 }

@@ -21,7 +21,7 @@ use Rattle.model.specs.Pages.{put, cut}
 use Rattle.model.specs.Held.{held, matches, count, slack}
 use Rattle.model.specs.Steps.{Worked, step, iterate}
 
--- ---- refusals 1 and 2
+-- ---- refusals 1, 2 and 12
 
 -- "N outside 4..128"
 abbrev pub sizeOk : ℕ → Bool
@@ -31,13 +31,21 @@ sizeOk n = leb 4 n && leb n maxBlocks
 abbrev pub fillOk : ℕ → Bool
 fillOk fill = leb 1 fill && leb fill 40
 
--- a fill and a store number, as format takes them
-abbrev pub orderOf : (fill number : ℕ) → Order
-orderOf fill number = record { fill = fill; number = number }
+-- a fill, a store number and whether to overwrite, as format takes them
+abbrev pub orderOf : (fill number overwrite : ℕ) → Order
+orderOf fill number overwrite = record { fill = fill; number = number; overwrite = overwrite }
 
--- the numbers of a format
+-- the numbers of a format; overwrite is "0 or 1", and any store number is good
 abbrev pub formatOk : Order → Bool
-formatOk o = fillOk (o .fill)
+formatOk o = fillOk (o .fill) && leb (o .overwrite) 1
+
+-- "its count isn't 0"
+abbrev pub inUse : Index → Bool
+inUse x = not (eqb (count x) 0)
+
+-- "unless it is told to overwrite"
+abbrev pub overwrites : Order → Bool
+overwrites o = eqb (o .overwrite) 1
 
 -- "offset 0; reading block 4294967295": an offset is a 16-bit number, so a larger one is outside its field
 abbrev pub pairOk : Pair → Bool
@@ -71,14 +79,15 @@ abbrev pub orNoRoom : Option Index → Result
 orNoRoom (some y) = done y
 orNoRoom none = refused Refusal.NoRoom
 
-abbrev pub formatIn : (size order : Bool) → Index → Result
-formatIn false f y = refused Refusal.Length
-formatIn true false y = refused Refusal.Number
-formatIn true true y = done y
+-- "Order for format: 1, 2, 12."
+abbrev pub formatIn : (length numbers protected : Bool) → Index → Result
+formatIn false n p y = refused Refusal.Length
+formatIn true false p y = refused Refusal.Number
+formatIn true true true y = refused Refusal.InUse
+formatIn true true false y = done y
 
--- "Format tests 1 and 2 only."
 unfoldable pub formatted : Index → Order → Result
-formatted x o = formatIn (sizeOk (x .size)) (formatOk o) (format (x .size) o)
+formatted x o = formatIn (sizeOk (x .size)) (formatOk o) (not (overwrites o) && inUse x) (format (x .size) o)
 
 abbrev pub insertIn : (numbers holds : Bool) → Index → Pair → Result
 insertIn false h x p = refused Refusal.Number

@@ -17,7 +17,7 @@ use Rattle.model.specs.declared.StandingAnswer.{StandingAnswer}
 use Rattle.model.specs.Index.{Index}
 use Rattle.model.specs.Steps.{next}
 use Rattle.model.specs.Machine.{Call, formatting, inserting, removing, looking, working, asking, plain, looked}
-use Rattle.model.specs.Machine.{worked, stands, Ran, Machine}
+use Rattle.model.specs.Machine.{worked, stands, CallFits, Ran, Machine}
 use Rattle.model.specs.MachineLaws.{never}
 use Rattle.model.specs.History.{phaseAt}
 use Rattle.model.specs.Demand.{Demand3}
@@ -47,6 +47,7 @@ wrong = record { State = ℕ; run = wrongRun; step = λ s. next s; stored = λ s
 -- standing gives phase copying before any begin
 pub wrong-fails : (index : ℕ → Index) → Demand3 wrong index → ⊥
 wrong-fails index d =
-    let order : Order = record { fill = 1; number = 0 } in
-    let none : phaseAt wrong 1 ≡ Phase.None = d 1 order (omega arith, omega arith) refl [] tt .0 .0 .splits in
+    let order : Order = record { fill = 1; number = 0; overwrite = 0 } in
+    let fits : CallFits (formatting order) = (omega arith, omega arith, omega arith) in
+    let none : phaseAt wrong 1 ≡ Phase.None = d 1 order fits refl [] tt .0 .0 .splits in
     never (cc)

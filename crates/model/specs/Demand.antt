@@ -8,7 +8,7 @@
 use mathlib.Core.Path.{_≡_}
 use mathlib.Core.Logic.{_≢_, _↔_, _⊎_}
 use mathlib.Core.Bool.{true, false}
-use mathlib.Core.List.{List, _++_}
+use mathlib.Core.List.{List, [], _++_}
 use mathlib.Core.Option.{Option, none, some}
 use Prim.Native.Nat.{ℕ, zero, suc, _+_, _*_, _/_, _≤_, _<_}
 use lib.IntN.{subℕ}
@@ -17,6 +17,7 @@ use Rattle.lists.specs.Lists.{bind}
 use Rattle.address.specs.Address.{splitFrom}
 use Rattle.page.specs.declared.Pair.{Pair}
 use Rattle.page.specs.Pair.{ascending}
+use Rattle.model.specs.declared.Order.{Order}
 use Rattle.model.specs.declared.Refusal.{Refusal}
 use Rattle.model.specs.declared.Answer.{Answer}
 use Rattle.model.specs.declared.LookupAnswer.{LookupAnswer}
@@ -27,9 +28,9 @@ use Rattle.model.specs.declared.StandingAnswer.{StandingAnswer}
 use Rattle.model.specs.Index.{Index}
 use Rattle.model.specs.Held.{self}
 use Rattle.model.specs.Steps.{next, stopped}
-use Rattle.model.specs.Calls.{pairOk, placeBytes}
-use Rattle.model.specs.Machine.{inserting, removing, looking, working, asking, CallFits, plain, looked, worked}
-use Rattle.model.specs.Machine.{stands, Machine}
+use Rattle.model.specs.Calls.{formatOk, pairOk, placeBytes}
+use Rattle.model.specs.Machine.{formatting, inserting, removing, looking, working, asking, CallFits, plain}
+use Rattle.model.specs.Machine.{looked, worked, stands, Machine}
 use Rattle.model.specs.Book.{Book, has, under, Split, noSplit, since}
 use Rattle.model.specs.History.{Moment, phaseAt, Always}
 use Rattle.model.specs.Room.{RoomIs}
@@ -92,6 +93,14 @@ module _ (M : Machine) where
           slack = subℕ (t .fill * (2 + t .begins)) (length (t .book));
         }))
     pub job : JobIs (1 + t .begins) (phaseAt M (t .state))
+    -- a format with good numbers gets 12 exactly when it is not told to overwrite and the book isn't empty
+    pub formats : (o : Order) → CallFits (formatting o) → formatOk o ≡ true
+        → (M .run (formatting o) (t .state) .reply ≡ plain (Answer.Refused Refusal.InUse))
+        ↔ ((o .overwrite ≡ 0) × (t .book ≢ []))
+    -- and else is done
+    pub formatted : (o : Order) → CallFits (formatting o) → formatOk o ≡ true
+        → (M .run (formatting o) (t .state) .reply ≡ plain Answer.Done)
+        ⊎ (M .run (formatting o) (t .state) .reply ≡ plain (Answer.Refused Refusal.InUse))
     pub inserts : (p : Pair) → CallFits (inserting p) → pairOk p ≡ true
         → (M .run (inserting p) (t .state) .reply ≡ plain (Answer.Refused Refusal.HeldAlready))
         ↔ (has (t .book) p ≡ true)

@@ -1,17 +1,19 @@
 -- What the calls answer on an index, by what it holds, its count and its job.
 use mathlib.Core.Path.{_≡_, refl, sym, ap, _∙_}
 use mathlib.Core.Logic.{_≢_, _↔_, _⊎_, inl, inr}
-use mathlib.Core.Bool.{Bool, true, false}
-use mathlib.Core.List.{List}
+use mathlib.Core.Bool.{Bool, true, false, not, _&&_}
+use mathlib.Core.List.{List, [], _∷_}
 use Prim.Native.Nat.{ℕ, suc, _+_, _*_, _/_, _≤_}
 use native.Mathlib.Omega.{arith}
-use borrow.Author.Tests.{ltb-false, le-ltb, le-leb, lt-leb}
+use borrow.Author.Tests.{ltb-false, le-ltb, le-leb, lt-leb, eqb-true, eqb-false, eq-eqb, ne-eqb}
 use lib.Dec.{leb, ltb}
 use lib.IntN.{subℕ}
 use lib.ListN.{length}
+use Rattle.address.specs.Limits.{maxBlocks}
 use Rattle.address.specs.Address.{splitFrom}
 use Rattle.page.specs.declared.Pair.{Pair}
 use Rattle.page.specs.PairLaws.{no-way}
+use Rattle.model.specs.declared.Order.{Order}
 use Rattle.model.specs.declared.Refusal.{Refusal}
 use Rattle.model.specs.declared.Answer.{Answer}
 use Rattle.model.specs.declared.Stop.{Stop}
@@ -20,8 +22,13 @@ use Rattle.model.specs.declared.StandingAnswer.{StandingAnswer}
 use Rattle.model.specs.Index.{Job, idle, copying, clearing, Index, bucket, oldBucket, newBucket}
 use Rattle.model.specs.Held.{held, matches, count, slack, wanted}
 use Rattle.model.specs.Steps.{stopped, step}
-use Rattle.model.specs.Calls.{pairOk, Result, done, refused, insert, remove, listed, lookup, phaseIn, standing}
-use Rattle.model.specs.Machine.{inserting, removing, asking, plain, looked, stands, settled, runIndex, onIndex}
+use Rattle.model.specs.Calls.{formatOk, inUse, overwrites, pairOk, Result, done, refused, format, formatIn}
+use Rattle.model.specs.Calls.{formatted, insert, remove, listed, lookup, phaseIn, standing}
+use Rattle.model.specs.Machine.{formatting, inserting, removing, asking, plain, looked, stands, settled}
+use Rattle.model.specs.Machine.{runIndex, onIndex}
+use Rattle.model.specs.WellFormed.{WF}
+use Rattle.model.specs.BoundLaws.{laid-size}
+use Rattle.model.specs.FormatLaws.{overwrite-ok}
 use Rattle.model.specs.MachineLaws.{never}
 use Rattle.model.specs.Book.{Book, under}
 use Rattle.model.specs.History.{phaseAt}
@@ -31,6 +38,46 @@ use Rattle.model.specs.RoomLaws.{insert-noRoom}
 use Rattle.model.specs.FrameLaws.{step-idle}
 use Rattle.model.specs.ViewLaws.{Inserting, already, noRoom, inserted, insert-view, Removing, absent, removed}
 use Rattle.model.specs.ViewLaws.{remove-view}
+
+-- ---- 12
+
+module _ (x : Index) (w : WF x) (o : Order) (ok : formatOk o ≡ true) where
+  -- a well-formed index has a legal size, so that format goes by its third test alone
+  format-reply : runIndex (formatting o) x .reply
+      ≡ settled x (formatIn true true (not (overwrites o) && inUse x) (format (x .size) o)) .reply
+  unfolding runIndex formatted
+  format-reply =
+      let l = le-leb 4 (x .size) (laid-size x (w .laid)) in
+      rw (l, le-leb (x .size) maxBlocks (w .laid .size), ok) refl
+
+  pub inUse-is : (bk : Book) → count x ≡ length bk
+      → (runIndex (formatting o) x .reply ≡ plain (Answer.Refused Refusal.InUse)) ↔ ((o .overwrite ≡ 0) × (bk ≢ []))
+  inUse-is bk c = rw format-reply (go (overwrites o) refl bk c)
+    where
+      zero-or-one : o .overwrite ≤ 1
+      zero-or-one = overwrite-ok o ok
+
+      go : (a : Bool) → overwrites o ≡ a → (bk : Book) → count x ≡ length bk
+          → (settled x (formatIn true true (not a && inUse x) (format (x .size) o)) .reply
+          ≡ plain (Answer.Refused Refusal.InUse))
+          ↔ ((o .overwrite ≡ 0) × (bk ≢ []))
+      go true e bk c = (λ h. never (cc), λ h. absurd (omega (arith, eqb-true (o .overwrite) 1 e, h .0)))
+      go false e [] c =
+          let free : inUse x ≡ false = ap not (eq-eqb (count x) 0 c) in
+          rw free (λ h. never (cc), λ h. absurd (h .1 refl))
+      go false e (p ∷ ps) c =
+          let used : inUse x ≡ true = ap not (ne-eqb (count x) 0 (λ q. omega (arith, q, c))) in
+          rw used (λ h. (omega (arith, zero-or-one, eqb-false (o .overwrite) 1 e), λ q. never (cc)), λ h. refl)
+
+  pub formatted-is : (runIndex (formatting o) x .reply ≡ plain Answer.Done)
+      ⊎ (runIndex (formatting o) x .reply ≡ plain (Answer.Refused Refusal.InUse))
+  formatted-is = rw format-reply (go (not (overwrites o) && inUse x))
+    where
+      go : (u : Bool)
+          → (settled x (formatIn true true u (format (x .size) o)) .reply ≡ plain Answer.Done)
+          ⊎ (settled x (formatIn true true u (format (x .size) o)) .reply ≡ plain (Answer.Refused Refusal.InUse))
+      go true = inr refl
+      go false = inl refl
 
 -- ---- 5 and 6
 

@@ -18,7 +18,7 @@ use Rattle.model.specs.MatchesLaws.{matches-is}
 use Rattle.model.specs.CountLaws.{count-is}
 use Rattle.model.specs.StepsLeftLaws.{stepsLeft-at, stepsLeft-idle}
 use Rattle.model.specs.Demand3AnswerLaws.{heldAlready-is, notHeld-is, inserted-is, removed-is, noRoom-is}
-use Rattle.model.specs.Demand3AnswerLaws.{lookup-is}
+use Rattle.model.specs.Demand3AnswerLaws.{inUse-is, formatted-is, lookup-is}
 use Rattle.model.specs.Demand3AnswerLaws.{standing-is, job-is, phase-none, rests-is, busy}
 use Rattle.model.specs.Demand3InvLaws.{Track, Inv}
 
@@ -40,6 +40,8 @@ faithful t i =
       count = counts;
       standing = standing-is x (length (t .book)) (t .begins) (t .fill) counts (i .newest) (i .fill);
       job = job-is x (1 + t .begins) (i .newest ∙ omega arith);
+      formats = λ o fits ok. inUse-is x (i .wf) o ok (t .book) counts;
+      formatted = λ o fits ok. formatted-is x (i .wf) o ok;
       inserts = λ p fits ok. rw (i .agree p) (heldAlready-is x p ok);
       inserted = λ p fits ok e. inserted-is x p ok (sym (i .agree p) ∙ e);
       removals = λ p fits ok. rw (i .agree p) (notHeld-is x p ok);

@@ -10,7 +10,8 @@ use Rattle.model.specs.declared.Order.{Order}
 use Rattle.model.specs.Index.{Job, idle, copying, clearing, Index, oldBucket, newBucket}
 use Rattle.model.specs.Held.{self, held}
 use Rattle.model.specs.Steps.{next, step}
-use Rattle.model.specs.Calls.{sizeOk, formatOk, format, formatIn, formatted, done, insert, remove, phaseIn}
+use Rattle.model.specs.Calls.{sizeOk, formatOk, inUse, overwrites, format, formatIn, formatted, done, insert}
+use Rattle.model.specs.Calls.{remove, phaseIn}
 use Rattle.model.specs.Machine.{formatting, inserting, CallFits, accepted, settled, runIndex, onIndex}
 use Rattle.model.specs.MachineLaws.{never}
 use Rattle.model.specs.Book.{has, puts, takes, movers, Split, noSplit, since, oneStep, stirred}
@@ -65,14 +66,15 @@ pub format-inv : (x : Index) (o : Order) → CallFits (formatting o)
     → accepted (runIndex (formatting o) x .reply) ≡ true
     → Inv (start onIndex (runIndex (formatting o) x .state) o)
 unfolding runIndex formatted
-format-inv x o fits h = go (sizeOk (x .size)) (formatOk o) refl refl h
+format-inv x o fits h = go (sizeOk (x .size)) (formatOk o) (not (overwrites o) && inUse x) refl refl h
   where
-    go : (s f : Bool) → sizeOk (x .size) ≡ s → formatOk o ≡ f
-        → accepted (settled x (formatIn s f (format (x .size) o)) .reply) ≡ true
-        → Inv (start onIndex (settled x (formatIn s f (format (x .size) o)) .state) o)
-    go true true e k h = start-inv x o fits e k
-    go true false e k h = never (cc)
-    go false f e k h = never (cc)
+    go : (s f p : Bool) → sizeOk (x .size) ≡ s → formatOk o ≡ f
+        → accepted (settled x (formatIn s f p (format (x .size) o)) .reply) ≡ true
+        → Inv (start onIndex (settled x (formatIn s f p (format (x .size) o)) .state) o)
+    go true true false e k h = start-inv x o fits e k
+    go true true true e k h = never (cc)
+    go true false p e k h = never (cc)
+    go false f p e k h = never (cc)
 
 pub insert-inv : (q : Pair) (y : Index) → CallFits (inserting q) → (t : Moment onIndex) → Inv t
     → insert (t .state) q ≡ done y → Inv (marked onIndex true (puts q) t y)

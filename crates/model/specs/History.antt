@@ -99,7 +99,8 @@ module _ (M : Machine) where
   start s o = record { state = s; book = []; fill = o .fill; begins = 0; split = noSplit }
 
   -- a claim at the start, when a format was accepted, and at every moment of every list of calls that follows; the
-  -- numbers of all of them come as u32
+  -- numbers of all of them come as u32. A format in the list starts anew if it is accepted: demand 3 "counts from the
+  -- last format that was accepted".
   abbrev pub Always : (Moment → Type 0) → Type 0
   Always P =
       (s : State) (o : Order) → CallFits (formatting o) → accepted (M .run (formatting o) s .reply) ≡ true

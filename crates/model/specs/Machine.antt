@@ -27,7 +27,7 @@ pub data Call : Type 0 where
 
 -- the numbers come as u32
 abbrev pub CallFits : Call → Type 0
-CallFits (formatting o) = (o .fill < 2 ^ 32) × (o .number < 2 ^ 32)
+CallFits (formatting o) = (o .fill < 2 ^ 32) × (o .number < 2 ^ 32) × (o .overwrite < 2 ^ 32)
 CallFits (inserting p) = (p .hash < 2 ^ 32) × (p .block < 2 ^ 32) × (p .offset < 2 ^ 32)
 CallFits (removing p) = (p .hash < 2 ^ 32) × (p .block < 2 ^ 32) × (p .offset < 2 ^ 32)
 CallFits (looking h out) = h < 2 ^ 32

@@ -1,7 +1,7 @@
 -- A call on the index, seen by its effect: it is refused and leaves the index, or it does what its effect says. What
 -- is shown of every call goes by this view, so that a new call with an old effect is one line of it.
 use mathlib.Core.Path.{_≡_, refl}
-use mathlib.Core.Bool.{Bool, true, false}
+use mathlib.Core.Bool.{Bool, true, false, not, _&&_}
 use Prim.Native.Nat.{ℕ}
 use lib.Dec.{eqb}
 use Rattle.page.specs.declared.Pair.{Pair}
@@ -11,8 +11,8 @@ use Rattle.model.specs.declared.Answer.{Answer}
 use Rattle.model.specs.Answers.{refusalNo}
 use Rattle.model.specs.Index.{Index}
 use Rattle.model.specs.Steps.{next, step}
-use Rattle.model.specs.Calls.{Result, done, refused, sizeOk, formatOk, budgetOk, format, formatIn, formatted}
-use Rattle.model.specs.Calls.{insert, remove, work}
+use Rattle.model.specs.Calls.{Result, done, refused, sizeOk, formatOk, inUse, overwrites, budgetOk, format}
+use Rattle.model.specs.Calls.{formatIn, formatted, insert, remove, work}
 use Rattle.model.specs.Machine.{Call, formatting, inserting, removing, looking, working, asking, CallFits, Reply}
 use Rattle.model.specs.Machine.{plain, accepted, Ran, settled, workedIn, runIndex}
 use Rattle.model.specs.Book.{Effect, empties, puts, takes, leaves, hasSteps, effect}
@@ -27,6 +27,7 @@ refused-no Refusal.HeldAlready = refl
 refused-no Refusal.NotHeld = refl
 refused-no Refusal.NoRoom = refl
 refused-no (Refusal.OutputShort n) = refl
+refused-no Refusal.InUse = refl
 
 pub data Running (x : Index) : Effect → Ran Index → Type 0 where
   refuses : {e : Effect} {r : Reply} → accepted r ≡ false → Running x e (record { reply = r; state = x })
@@ -42,13 +43,14 @@ pub data Running (x : Index) : Effect → Ran Index → Type 0 where
 
 pub run-view : (c : Call) → CallFits c → (x : Index) → Running x (effect c) (runIndex c x)
 unfolding runIndex formatted
-run-view (formatting o) fits x = go (sizeOk (x .size)) (formatOk o) refl refl
+run-view (formatting o) fits x = go (sizeOk (x .size)) (formatOk o) (not (overwrites o) && inUse x) refl refl
   where
-    go : (s f : Bool) → sizeOk (x .size) ≡ s → formatOk o ≡ f
-        → Running x (empties o) (settled x (formatIn s f (format (x .size) o)))
-    go true true e k = formats fits e k
-    go true false e k = refuses refl
-    go false f e k = refuses refl
+    go : (s f p : Bool) → sizeOk (x .size) ≡ s → formatOk o ≡ f
+        → Running x (empties o) (settled x (formatIn s f p (format (x .size) o)))
+    go true true false e k = formats fits e k
+    go true true true e k = refuses refl
+    go true false p e k = refuses refl
+    go false f p e k = refuses refl
 run-view (inserting p) fits x = go (insert x p) refl
   where
     go : (r : Result) → insert x p ≡ r → Running x (puts p) (settled x r)

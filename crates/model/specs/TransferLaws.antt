@@ -1,6 +1,6 @@
 -- Demand 3 carries over from a machine M to a machine L that does as M does.
 use mathlib.Core.Path.{_≡_, sym, ap, _∙_, subst}
-use mathlib.Core.Logic.{_↔_, inl, inr, ⊎-elim}
+use mathlib.Core.Logic.{_↔_, _⊎_, inl, inr, ⊎-elim}
 use mathlib.Core.Bool.{true, false}
 use Prim.Native.Nat.{ℕ, suc, _+_}
 use Rattle.model.specs.declared.Stop.{Stop}
@@ -10,7 +10,7 @@ use Rattle.model.specs.Held.{held}
 use Rattle.model.specs.Steps.{stopped}
 use Rattle.model.specs.Calls.{standing}
 use Rattle.model.specs.WellFormed.{WF}
-use Rattle.model.specs.Machine.{Call, inserting, removing, looking, asking, CallFits, Reply, Machine}
+use Rattle.model.specs.Machine.{Call, formatting, inserting, removing, looking, asking, CallFits, Reply, Machine}
 use Rattle.model.specs.Book.{Book, has, Split, noSplit, since}
 use Rattle.model.specs.History.{Moment, phaseAt}
 use Rattle.model.specs.Demand.{JobIs, SplitIs, Faithful, Holds, Demand3}
@@ -31,8 +31,9 @@ module _ {M L : Machine} (R : L .State → M .State → Type 0) (sim : Simulates
         standing = reply asking tt ∙ rw phase (f .standing);
         job = rw phase (job (1 + u .begins) (phaseAt M x) (f .job));
         inserts = λ p fits ok. answers (inserting p) fits (f .inserts p fits ok);
-        inserted = λ p fits ok e. ⊎-elim (λ k. inl (reply (inserting p) fits ∙ k))
-            (λ k. inr (reply (inserting p) fits ∙ k)) (f .inserted p fits ok e);
+        formats = λ o fits ok. answers (formatting o) fits (f .formats o fits ok);
+        formatted = λ o fits ok. either (formatting o) fits (f .formatted o fits ok);
+        inserted = λ p fits ok e. either (inserting p) fits (f .inserted p fits ok e);
         removals = λ p fits ok. answers (removing p) fits (f .removals p fits ok);
         removed = λ p fits ok e. reply (removing p) fits ∙ f .removed p fits ok e;
         works = sim .works s x r;
@@ -69,6 +70,10 @@ module _ {M L : Machine} (R : L .State → M .State → Type 0) (sim : Simulates
       answers : (c : Call) → CallFits c → {a : Reply} {B : Type 0}
           → (M .run c x .reply ≡ a) ↔ B → (L .run c s .reply ≡ a) ↔ B
       answers c fits e = (λ k. e .0 (sym (reply c fits) ∙ k), λ k. reply c fits ∙ e .1 k)
+
+      either : (c : Call) → CallFits c → {a b : Reply}
+          → (M .run c x .reply ≡ a) ⊎ (M .run c x .reply ≡ b) → (L .run c s .reply ≡ a) ⊎ (L .run c s .reply ≡ b)
+      either c fits h = ⊎-elim (λ k. inl (reply c fits ∙ k)) (λ k. inr (reply c fits ∙ k)) h
 
       splits : (k : Split) → SplitIs M k x → SplitIs L k s
       splits noSplit h = phase ∙ h

@@ -1,11 +1,12 @@
-// The types of the calls' numbers and answers. Document 01's number of each answer is a definition in
-// specs/Answers.antt.
+// The types of the calls' numbers and answers. The papers' number of each answer is a definition in specs/Answers.antt.
 pub mod numbers; // numbers.rt: the numbers of answers, in code
 
-// The numbers that a caller gives format: the fill, and the store number. N is none of them: it is the store's length.
+// The numbers that a caller gives format: the fill, the store number, and whether it overwrites a store in use (1) or
+// not (0). N is none of them: it is the store's length.
 pub struct Order {
     pub fill: u32,
     pub number: u32,
+    pub overwrite: u32,
 }
 
 // Why a call was refused, with what the refusal gives besides.
@@ -18,9 +19,10 @@ pub enum Refusal {
     NotHeld,
     NoRoom,
     OutputShort { matches: u32 },
+    InUse,
 }
 
-// The answer of format, insert and remove.
+// The answer of format, insert and remove, and of the call that says whether a store is in use.
 pub enum Answer {
     Done,
     Refused(Refusal),

@@ -4,7 +4,7 @@ use crate::Stop;
 ghost use mathlib.Core.Path.{_≡_};
 ghost use Rattle.model.specs.Answers.{refusalNo, refusalGives, stopNo};
 
-// Document 01's number of a refusal.
+// The papers' number of a refusal.
 pub fn refusal_number(refusal: Refusal) -> u32
     ensures { λ r. ⌜ r ≡ refusalNo refusal ⌝ }
 {
@@ -17,6 +17,7 @@ pub fn refusal_number(refusal: Refusal) -> u32
         Refusal::NotHeld => 6,
         Refusal::NoRoom => 7,
         Refusal::OutputShort { matches: _ } => 8,
+        Refusal::InUse => 12,
     }
 }
 
@@ -33,6 +34,7 @@ pub fn refusal_gives(refusal: Refusal) -> u32
         Refusal::HeldAlready => 0,
         Refusal::NotHeld => 0,
         Refusal::NoRoom => 0,
+        Refusal::InUse => 0,
     }
 }
 

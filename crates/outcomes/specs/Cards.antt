@@ -1,8 +1,9 @@
 -- Bench cards A to K (docs/RULES.md 9): one table, one claim. The stores are lists of bytes, and the calls on them are
 -- those that the contracts cite.
 use mathlib.Core.Path.{_≡_}
+use mathlib.Core.Bool.{false}
 use mathlib.Core.List.{List, [], _∷_, _++_, map}
-use Prim.Native.Nat.{ℕ, _*_, _^_, _<_}
+use Prim.Native.Nat.{ℕ, _*_, _^_, _≤_, _<_}
 use lib.IntN.{ℤ, pos, negsuc}
 use lib.ListN.{length, getD, replicate}
 use Rattle.lists.specs.Lists.{upFrom, Each}
@@ -11,13 +12,14 @@ use Rattle.address.specs.Address.{bucketOf, bucketBlock, bitBlock}
 use Rattle.page.specs.declared.Pair.{Pair}
 use Rattle.page.specs.declared.Entry.{Entry}
 use Rattle.page.specs.Entries.{entriesOf}
+use Rattle.model.specs.declared.Order.{Order}
 use Rattle.model.specs.Answers.{lookupGives, workSteps, workStop, standingOf}
 use Rattle.model.specs.Calls.{orderOf}
 use Rattle.model.specs.Machine.{Call, formatting, inserting, removing, looking, working, asking}
 use Rattle.model.specs.Machine.{Reply, plain, looked, worked, stands, replyNo, Machine}
 use Rattle.image.specs.Decode.{metaAt}
 use Rattle.image.specs.Rules.{bitAt}
-use Rattle.outcomes.specs.Outcomes.{runStore, onStore}
+use Rattle.outcomes.specs.Outcomes.{storeInUse, runStore, onStore}
 
 -- ---- calls, one after the other
 
@@ -38,15 +40,16 @@ cardPair h = record { hash = h; block = 9; offset = 1 }
 abbrev pub evens : ℕ → List Call
 evens k = map (λ (i : ℕ). inserting (cardPair (2 * i))) (upFrom 0 k)
 
--- E's 41 inserts, of which the last is hash 80; F's removal of that; G's three inserts, of hashes 0, 2, 4
-abbrev pub filledE : (number : ℕ) → List Call
-filledE number = formatting (orderOf 40 number) ∷ evens 41
+-- E's 41 inserts, of which the last is hash 80; F's removal of that; G's three inserts, of hashes 0, 2, 4. `o` has a
+-- format's numbers by its fill.
+abbrev pub filledE : (o : ℕ → Order) → List Call
+filledE o = formatting (o 40) ∷ evens 41
 
-abbrev pub filledF : (number : ℕ) → List Call
-filledF number = filledE number ++ removing (cardPair 80) ∷ []
+abbrev pub filledF : (o : ℕ → Order) → List Call
+filledF o = filledE o ++ removing (cardPair 80) ∷ []
 
-abbrev pub filledG : (number : ℕ) → List Call
-filledG number = formatting (orderOf 1 number) ∷ evens 3
+abbrev pub filledG : (o : ℕ → Order) → List Call
+filledG o = formatting (o 1) ∷ evens 3
 
 -- ---- what the cards ask of replies and stores
 
@@ -95,44 +98,46 @@ module _ (fresh : ℕ → List ℕ) where
   abbrev pub gets : ℕ → List Call → Call → List ℕ
   gets n cs c = replyNumbers (runStore c (cardStore n cs) .reply)
 
-  unfoldable pub cards : (number : ℕ) → List Card
-  cards number =
+  unfoldable pub cards : (o : ℕ → Order) → List Card
+  cards o =
       -- A. Max bucket 4: hash 6 goes to 2, 12 to 4, 5 to 1.
       (map (bucketOf 4) (6 ∷ 12 ∷ 5 ∷ []) is (2 ∷ 4 ∷ 1 ∷ []))
       -- B. spares[1] = 1, spares[2] = 3: buckets 2, 3 in blocks 4, 5; bits 1, 2 in 6, 7; bucket 4 in 8.
       ∷ (map (bucketBlock (0 ∷ 1 ∷ 3 ∷ [])) (2 ∷ 3 ∷ 4 ∷ []) is (4 ∷ 5 ∷ 8 ∷ []))
       ∷ (map (bitBlock (0 ∷ 1 ∷ 3 ∷ []) 2) (1 ∷ 2 ∷ []) is (6 ∷ 7 ∷ []))
       -- C. N = 4: format accepted; N = 3 gets 1.
-      ∷ (nos 4 (formatting (orderOf 10 number) ∷ []) is (0 ∷ []))
-      ∷ (nos 3 (formatting (orderOf 10 number) ∷ []) is (1 ∷ []))
+      ∷ (nos 4 (formatting (o 10) ∷ []) is (0 ∷ []))
+      ∷ (nos 3 (formatting (o 10) ∷ []) is (1 ∷ []))
       -- D. N = 4, fill 40: even hashes, 40 accepted, 41st gets 7; an odd one is accepted.
-      ∷ (nos 4 (formatting (orderOf 40 number) ∷ evens 41 ++ inserting (cardPair 1) ∷ [])
+      ∷ (nos 4 (formatting (o 40) ∷ evens 41 ++ inserting (cardPair 1) ∷ [])
       is (0 ∷ replicate 40 0 ++ 7 ∷ 0 ∷ []))
       -- E. Same with N = 5: the 41st goes to block 4, spares[1] = 2.
-      ∷ (nos 5 (filledE number) is (0 ∷ replicate 41 0))
-      ∷ (hashesOn (block (cardStore 5 (filledE number)) 4) is (80 ∷ []))
-      ∷ ((getD (metaAt (cardStore 5 (filledE number)) .spares) 1 0 ∷ []) is (2 ∷ []))
+      ∷ (nos 5 (filledE o) is (0 ∷ replicate 41 0))
+      ∷ (hashesOn (block (cardStore 5 (filledE o)) 4) is (80 ∷ []))
+      ∷ ((getD (metaAt (cardStore 5 (filledE o)) .spares) 1 0 ∷ []) is (2 ∷ []))
       -- F. E, then the 41st's page emptied: bit 1 is 0, first free 1, block 4 is used next.
-      ∷ (hashesOn (block (cardStore 5 (filledF number)) 4) is [])
-      ∷ ((bitAt (cardStore 5 (filledF number)) 1 ∷ metaAt (cardStore 5 (filledF number)) .free ∷ []) is (0 ∷ 1 ∷ []))
-      ∷ (hashesOn (block (cardStore 5 (filledF number ++ inserting (cardPair 82) ∷ [])) 4) is (82 ∷ []))
+      ∷ (hashesOn (block (cardStore 5 (filledF o)) 4) is [])
+      ∷ ((bitAt (cardStore 5 (filledF o)) 1 ∷ metaAt (cardStore 5 (filledF o)) .free ∷ []) is (0 ∷ 1 ∷ []))
+      ∷ (hashesOn (block (cardStore 5 (filledF o ++ inserting (cardPair 82) ∷ [])) 4) is (82 ∷ []))
       -- G. N = 6, fill 1, hashes 0, 2, 4: slack −1, `w 9` gives 5 steps, stop 9.
-      ∷ record { gives = slackIn (runStore asking (cardStore 6 (filledG number)) .reply); said = minusOne ∷ [] }
-      ∷ (gets 6 (filledG number) (working 9) is (0 ∷ 5 ∷ 9 ∷ []))
+      ∷ record { gives = slackIn (runStore asking (cardStore 6 (filledG o)) .reply); said = minusOne ∷ [] }
+      ∷ (gets 6 (filledG o) (working 9) is (0 ∷ 5 ∷ 9 ∷ []))
       -- H. G with N = 5: 0 steps, stop 7.
-      ∷ (gets 5 (filledG number) (working 9) is (0 ∷ 0 ∷ 7 ∷ []))
+      ∷ (gets 5 (filledG o) (working 9) is (0 ∷ 0 ∷ 7 ∷ []))
       -- I. G with `w 2`: hash 2 found once; removed; `w 9` gives 2 steps, stop 9.
-      ∷ (gets 6 (filledG number ++ working 2 ∷ []) (looking 2 (replicate 60 0)) is (0 ∷ 1 ∷ []))
-      ∷ (gets 6 (filledG number ++ working 2 ∷ []) (removing (cardPair 2)) is (0 ∷ []))
-      ∷ (gets 6 (filledG number ++ working 2 ∷ removing (cardPair 2) ∷ []) (working 9) is (0 ∷ 2 ∷ 9 ∷ []))
+      ∷ (gets 6 (filledG o ++ working 2 ∷ []) (looking 2 (replicate 60 0)) is (0 ∷ 1 ∷ []))
+      ∷ (gets 6 (filledG o ++ working 2 ∷ []) (removing (cardPair 2)) is (0 ∷ []))
+      ∷ (gets 6 (filledG o ++ working 2 ∷ removing (cardPair 2) ∷ []) (working 9) is (0 ∷ 2 ∷ 9 ∷ []))
       -- J. No match, output of 0 bytes: done, 0.
-      ∷ (gets 4 (formatting (orderOf 1 number) ∷ []) (looking 7 []) is (0 ∷ 0 ∷ []))
+      ∷ (gets 4 (formatting (o 1) ∷ []) (looking 7 []) is (0 ∷ 0 ∷ []))
       -- K. Budget 0: 0 steps, stop 0.
-      ∷ (gets 4 (formatting (orderOf 1 number) ∷ []) (working 0) is (0 ∷ 0 ∷ 0 ∷ []))
+      ∷ (gets 4 (formatting (o 1) ∷ []) (working 0) is (0 ∷ 0 ∷ 0 ∷ []))
       ∷ []
 
--- each card gives what the paper says, whatever bytes the stores had before, and whatever number format is given
+-- each card gives what the paper says, whatever number format is given, and whatever bytes the stores had before; if
+-- format is not told to overwrite ("0 in 01's lines"), none of them was in use
 abbrev pub Bench : Type 0
 Bench =
-    (fresh : ℕ → List ℕ) → ((n : ℕ) → length (fresh n) ≡ 512 * n)
-    → (number : ℕ) → number < 2 ^ 32 → Each (λ (c : Card). c .gives ≡ c .said) (cards fresh number)
+    (fresh : ℕ → List ℕ) → ((n : ℕ) → length (fresh n) ≡ 512 * n) → (number : ℕ) → number < 2 ^ 32
+    → (overwrite : ℕ) → overwrite ≤ 1 → ((n : ℕ) → overwrite ≡ 0 → storeInUse (fresh n) ≡ false)
+    → Each (λ (c : Card). c .gives ≡ c .said) (cards fresh (λ (fill : ℕ). orderOf fill number overwrite))

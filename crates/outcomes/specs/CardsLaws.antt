@@ -1,16 +1,16 @@
 -- The bench cards hold: what a card asks of a store is the same of the index whose bytes it is, and that computes.
 use mathlib.Core.Path.{_≡_, refl, ap, ap₂, _∙_}
-use mathlib.Core.Bool.{Bool, true, _&&_}
+use mathlib.Core.Bool.{Bool, true, false, not, _&&_}
 use mathlib.Core.List.{List, [], _∷_, _++_, map}
-use Prim.Native.Nat.{ℕ, zero, suc, _+_, _*_, _/_, _%_, _^_, _<_}
+use Prim.Native.Nat.{ℕ, zero, suc, _+_, _*_, _^_, _≤_, _<_}
 use native.Mathlib.Omega.{arith}
-use borrow.Author.Tests.{eq-eqb, leb-true}
+use borrow.Author.Tests.{eqb-false, leb-true, le-leb}
 use lib.Dec.{leb, eqb}
 use lib.IntN.{ℤ, pos}
 use lib.ListN.{length, getD, drop, replicate}
 use Rattle.lists.specs.Lists.{upFrom, Each}
 use Rattle.lists.specs.ListsLaws.{and-right}
-use Rattle.lists.specs.Block.{blocks, block}
+use Rattle.lists.specs.Block.{block}
 use Rattle.endian.specs.Endian.{le16, le32, u16At, u32At}
 use Rattle.address.specs.Address.{bucketsAt, maskDigits, highMask, lowMask, bucketOf, bitLength, splitFrom}
 use Rattle.address.specs.Address.{point, bucketPoint, bucketBlock, bitBlock, made}
@@ -22,7 +22,8 @@ use Rattle.model.specs.Index.{Index}
 use Rattle.model.specs.Pages.{freeBit, firstFree, takePage, put, cut}
 use Rattle.model.specs.Held.{sources, held, matches, count, slack, wanted}
 use Rattle.model.specs.Steps.{begin, step}
-use Rattle.model.specs.Calls.{sizeOk, fillOk, orderOf, formatOk, format, insert, remove, lookup, standing, work}
+use Rattle.model.specs.Calls.{sizeOk, fillOk, orderOf, formatOk, overwrites, format, done, formatIn, insert, remove}
+use Rattle.model.specs.Calls.{lookup, standing, work}
 use Rattle.model.specs.Machine.{Call, formatting, inserting, removing, looking, working, asking, CallFits}
 use Rattle.model.specs.Machine.{Reply, plain, replyNo, runIndex, onIndex}
 use Rattle.model.specs.FormatLaws.{format-wf}
@@ -30,11 +31,12 @@ use Rattle.image.specs.declared.Meta.{Meta}
 use Rattle.image.specs.Layout.{paged, blank, padded, metaOf, mapFront, image, encodeBlock, sealedBlock, encode}
 use Rattle.image.specs.Decode.{bitOf, metaAt}
 use Rattle.image.specs.Rules.{mapAt}
-use Rattle.outcomes.specs.Outcomes.{Changed, formatOn, formatOutcome, runStore, onStore}
-use Rattle.image.specs.Rules.{lengthOk}
+use Rattle.outcomes.specs.Outcomes.{storeInUse, Changed, changed, formatReplacing, formatOutcome, runStore}
+use Rattle.outcomes.specs.Outcomes.{onStore}
 use Rattle.image.specs.EncodeLaws.{block-encode}
 use Rattle.image.specs.EncodePagesLaws.{meta-encode, point-encode, spares-encode}
 use Rattle.image.specs.SoundStore.{Encodes}
+use Rattle.outcomes.specs.OutcomeSoundLaws.{blocks-is, legal-is}
 use Rattle.outcomes.specs.OutcomeMachineLaws.{simulates}
 use Rattle.outcomes.specs.Cards.{stateAfter, replies, cardPair, evens, replyNumbers, slackIn, hashesOn, Card}
 use Rattle.outcomes.specs.Cards.{cardStore, nos, cards, Bench}
@@ -80,14 +82,14 @@ evens-fit k h cs f = go 0 k (omega arith)
     go i zero h = f
     go i (suc k) h = ((omega arith, omega arith, omega arith), go (suc i) k (omega arith))
 
--- a format of n blocks of any bytes
-format-is : (s : List ℕ) (n : ℕ) (o : Order) → length s ≡ 512 * n
-    → formatOutcome s o ≡ formatOn (sizeOk n) (formatOk o) s (encode (format n o))
-unfolding formatOutcome lengthOk blocks
-format-is s n o e =
-    let whole : eqb (length s % 512) 0 ≡ true = eq-eqb (length s % 512) 0 (omega (arith, e)) in
-    let number : length s / 512 ≡ n = omega (arith, e) in
-    ap₂ (λ (b : Bool) (n : ℕ). formatOn (b && sizeOk n) (formatOk o) s (encode (format n o))) whole number
+-- a format of n blocks, over which it may format
+format-is : (s : List ℕ) (n : ℕ) (o : Order) → length s ≡ 512 * n → (not (overwrites o) && storeInUse s) ≡ false
+    → formatOutcome s o ≡ changed s (formatIn (sizeOk n) (formatOk o) false (format n o))
+unfolding formatReplacing formatOutcome
+format-is s n o e u =
+    let b = blocks-is s n e in
+    let l = legal-is s n e in
+    λ i. changed s (formatIn (l i) (formatOk o) (u i) (format (b i) o))
 
 -- ---- the cards
 
@@ -96,29 +98,47 @@ infixr 5 _also_
 abbrev _also_ : {A B : Type 0} → A → B → A × B
 a also b = (a, b)
 
-module _ (fresh : ℕ → List ℕ) (e : (n : ℕ) → length (fresh n) ≡ 512 * n) (number : ℕ) (fits : number < 2 ^ 32) where
-  refused-C : nos fresh 3 (formatting (orderOf 10 number) ∷ []) ≡ 1 ∷ []
+module _ (fresh : ℕ → List ℕ) (e : (n : ℕ) → length (fresh n) ≡ 512 * n) (number : ℕ) (fits : number < 2 ^ 32)
+    (overwrite : ℕ) (flag : overwrite ≤ 1) (free : (n : ℕ) → overwrite ≡ 0 → storeInUse (fresh n) ≡ false) where
+  abbrev orders : (fill : ℕ) → Order
+  orders fill = orderOf fill number overwrite
+
+  -- format may overwrite the store, or it is not in use
+  open-to : (n fill : ℕ) → (not (overwrites (orders fill)) && storeInUse (fresh n)) ≡ false
+  open-to n fill = go (eqb overwrite 1) refl
+    where
+      go : (b : Bool) → eqb overwrite 1 ≡ b → (not b && storeInUse (fresh n)) ≡ false
+      go true h = refl
+      go false h = free n (omega (arith, flag, eqb-false overwrite 1 h))
+
+  refused-C : nos fresh 3 (formatting (orders 10) ∷ []) ≡ 1 ∷ []
   unfolding runStore
   refused-C =
-      ap (λ (c : Changed). replyNo (plain (c .answer)) ∷ []) (format-is (fresh 3) 3 (orderOf 10 number) (e 3))
+      ap (λ (c : Changed). replyNo (plain (c .answer)) ∷ []) (format-is (fresh 3) 3 (orders 10) (e 3) (open-to 3 10))
 
   -- an accepted format
   module _ (n fill : ℕ) (a : sizeOk n ≡ true) (b : fillOk fill ≡ true) where
     abbrev o : Order
-    o = orderOf fill number
+    o = orders fill
 
     start : List ℕ
     start = runStore (formatting o) (fresh n) .state
 
-    format-accepted : formatOutcome (fresh n) o ≡ formatOn true true (fresh n) (encode (format n o))
+    good : formatOk o ≡ true
+    good = ap₂ (λ (l m : Bool). l && m) b (le-leb overwrite 1 flag)
+
+    format-accepted : formatOutcome (fresh n) o ≡ changed (fresh n) (done (format n o))
     format-accepted =
-        format-is (fresh n) n o (e n) ∙ ap₂ (λ (l m : Bool). formatOn l m (fresh n) (encode (format n o))) a b
+        format-is (fresh n) n o (e n) (open-to n fill)
+        ∙ ap₂ (λ (l m : Bool). changed (fresh n) (formatIn l m false (format n o))) a good
 
     format-encodes : Encodes start (format n o)
     unfolding start runStore
     format-encodes =
-        let few = leb-true fill 40 (and-right (leb 1 fill) (leb fill 40) b) in
-        (format-wf n o (omega (arith, few), fits) a b, ap (λ (c : Changed). c .store) format-accepted)
+        let few = leb-true fill 40 (and-right (leb 1 fill) (leb fill 40) b) in (
+          format-wf n o (omega (arith, few), fits, omega (arith, flag)) a good,
+          ap (λ (c : Changed). c .store) format-accepted,
+        )
 
     -- then k inserts, and more
     module _ (k : ℕ) (h : k < 1000) (more : List Call) (f : Each CallFits more) where
@@ -143,7 +163,7 @@ module _ (fresh : ℕ → List ℕ) (e : (n : ℕ) → length (fresh n) ≡ 512 
           simulates .reply c g (cardStore fresh n (formatting o ∷ cs)) (stateAfter onIndex cs (format n o)) store-is
 
   -- cards C to K: E and F are the stores after those cards' calls, each with its index; G to J are what calls get
-  calls : Each (λ (c : Card). c .gives ≡ c .said) (drop 3 (cards fresh number))
+  calls : Each (λ (c : Card). c .gives ≡ c .said) (drop 3 (cards fresh orders))
   unfolding cards
       bucketsAt maskDigits highMask lowMask bucketOf bitLength splitFrom point bucketPoint bucketBlock bitBlock made
       freeBit firstFree takePage put cut sources held matches count slack wanted begin step
@@ -193,4 +213,5 @@ module _ (fresh : ℕ → List ℕ) (e : (n : ℕ) → length (fresh n) ≡ 512 
 
 pub bench : Bench
 unfolding cards bucketsAt maskDigits highMask lowMask bucketOf bucketPoint bucketBlock bitBlock
-bench fresh e number fits = (refl, (refl, (refl, calls fresh e number fits)))
+bench fresh e number fits overwrite flag free =
+    (refl, (refl, (refl, calls fresh e number fits overwrite flag free)))

@@ -9,6 +9,7 @@ pub mod NumberLaws
 pub mod OutcomeHistoryLaws
 pub mod OutcomeMachineLaws
 pub mod Demand3Theorem
+pub mod InUseLaws
 pub mod Cards
 pub mod CardsLaws
 pub mod StoreExamples

@@ -1,6 +1,6 @@
 -- On the bytes of a well-formed index each call is the model's: its reply, and the bytes of its index.
-use mathlib.Core.Path.{_≡_, refl, sym, ap, ap₂, _∙_, subst}
-use mathlib.Core.Bool.{Bool, true, false}
+use mathlib.Core.Path.{_≡_, refl, sym, ap, _∙_, subst}
+use mathlib.Core.Bool.{Bool, true, false, not, _&&_}
 use mathlib.Core.List.{List}
 use Prim.Native.Nat.{ℕ, _%_}
 use lib.Dec.{eqb}
@@ -15,8 +15,8 @@ use Rattle.model.specs.declared.WorkAnswer.{WorkAnswer}
 use Rattle.model.specs.Index.{Index}
 use Rattle.model.specs.Held.{held}
 use Rattle.model.specs.Steps.{Step, next, stopped, Worked, step, iterate}
-use Rattle.model.specs.Calls.{Result, done, refused, sizeOk, formatOk, pairOk, budgetOk, format, formatted, insertIn}
-use Rattle.model.specs.Calls.{formatIn, insert, removeIn, remove, Looked, lookup, standing, work}
+use Rattle.model.specs.Calls.{Result, done, refused, sizeOk, formatOk, inUse, overwrites, pairOk, budgetOk, format}
+use Rattle.model.specs.Calls.{formatIn, formatted, insertIn, insert, removeIn, remove, Looked, lookup, standing, work}
 use Rattle.model.specs.Machine.{Call, formatting, inserting, removing, looking, working, asking, CallFits, plain}
 use Rattle.model.specs.Machine.{looked, worked, stands, Ran, settled, workedIn, runIndex}
 use Rattle.model.specs.WellFormed.{WF}
@@ -28,9 +28,10 @@ use Rattle.model.specs.RunLaws.{run-keeps}
 use Rattle.model.specs.SimulationLaws.{Alike, iterate-alike}
 use Rattle.image.specs.Layout.{encode}
 use Rattle.image.specs.Rules.{sound}
-use Rattle.outcomes.specs.Outcomes.{Tested, passed, failed, tested, Changed, formatOn, formatOutcome}
+use Rattle.outcomes.specs.Outcomes.{Tested, passed, failed, tested, Changed, inUseOn, storeInUse, changed}
 use Rattle.image.specs.Rules.{lengthOk}
-use Rattle.outcomes.specs.Outcomes.{changed, insertOn, insertOutcome, removeOn, removeOutcome, lookupOn}
+use Rattle.outcomes.specs.Outcomes.{formatReplacing, formatOutcome, insertOn, insertOutcome, removeOn}
+use Rattle.outcomes.specs.Outcomes.{removeOutcome, lookupOn}
 use Rattle.outcomes.specs.Outcomes.{lookupOutcome, standingOn, standingOutcome, stepOn, stepOutcome, WorkDone}
 use Rattle.outcomes.specs.Outcomes.{workOn, workOutcome, runStore}
 use Rattle.image.specs.SoundStore.{Encodes}
@@ -52,19 +53,18 @@ module _ (x : Index) (w : WF x) where
       subst (λ (n : ℕ). sizeOk n ≡ true) (encoding-is-sound x w .number)
       (and-right (eqb (length (encode x) % 512) 0) (sizeOk (blocks (encode x))) (encoding-is-sound x w .legal))
 
+  -- a store is in use just if its index is
+  pub inUse-encode : storeInUse (encode x) ≡ inUse x
+  unfolding storeInUse
+  inUse-encode = ap inUseOn tested-encode
+
   pub format-encode : (o : Order) → formatOutcome (encode x) o ≡ changed (encode x) (formatted x o)
-  unfolding formatOutcome formatted
+  unfolding formatReplacing formatOutcome formatted
   format-encode o =
-      ap₂ (λ (l : Bool) (n : ℕ). formatOn l (formatOk o) (encode x) (encode (format n o)))
-      (encoding-is-sound x w .legal) (encoding-is-sound x w .number)
-      ∙ go (formatOk o)
-      ∙ ap (λ (b : Bool). changed (encode x) (formatIn b (formatOk o) (format (x .size) o))) (sym size-ok)
-    where
-      go : (f : Bool)
-          → formatOn true f (encode x) (encode (format (x .size) o))
-          ≡ changed (encode x) (formatIn true f (format (x .size) o))
-      go true = refl
-      go false = refl
+      let g = encoding-is-sound x w in
+      let legal = g .legal ∙ sym size-ok in
+      λ i. changed (encode x)
+      (formatIn (legal i) (formatOk o) (not (overwrites o) && inUse-encode i) (format (g .number i) o))
 
   pub insert-encode : (p : Pair) → insertOutcome (encode x) p ≡ changed (encode x) (insert x p)
   unfolding insertOutcome insert

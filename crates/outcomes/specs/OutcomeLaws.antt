@@ -2,7 +2,7 @@
 -- its steps.
 use mathlib.Core.Path.{_≡_, refl, sym, ap, ap₂, _∙_, subst}
 use mathlib.Core.Logic.{_≢_, _↔_}
-use mathlib.Core.Bool.{Bool, true, false}
+use mathlib.Core.Bool.{Bool, true, false, not, _&&_}
 use mathlib.Core.List.{List}
 use mathlib.Core.Option.{some}
 use Prim.Native.Nat.{ℕ, _/_, _<_}
@@ -18,8 +18,8 @@ use Rattle.model.specs.declared.Stop.{Stop}
 use Rattle.model.specs.declared.WorkAnswer.{WorkAnswer}
 use Rattle.model.specs.Index.{Index}
 use Rattle.model.specs.Steps.{Step, next, stopped, step, iterate}
-use Rattle.model.specs.Calls.{Result, done, refused, formatOk, pairOk, budgetOk, format, insert, remove, listed}
-use Rattle.model.specs.Calls.{lookup}
+use Rattle.model.specs.Calls.{Result, done, refused, formatOk, overwrites, pairOk, budgetOk, format, formatIn}
+use Rattle.model.specs.Calls.{insert, remove, listed, lookup}
 use Rattle.model.specs.Held.{matches}
 use Rattle.model.specs.Machine.{Call, formatting, inserting, removing, looking, working, asking, Reply, plain, looked}
 use Rattle.model.specs.Machine.{worked, stands, accepted, Ran}
@@ -30,9 +30,10 @@ use Rattle.model.specs.Demand.{afterSteps, WorkIs}
 use Rattle.image.specs.Layout.{encode}
 use Rattle.image.specs.Decode.{decode}
 use Rattle.image.specs.Rules.{Judged, damaged, notIndex, sound, verdict}
-use Rattle.outcomes.specs.Outcomes.{Tested, passed, failed, judged, testedIn, tested, formatOn}
+use Rattle.outcomes.specs.Outcomes.{Tested, passed, failed, judged, testedIn, tested, storeInUse, changed}
 use Rattle.image.specs.Rules.{lengthOk}
-use Rattle.outcomes.specs.Outcomes.{formatOutcome, changed, insertOn, insertOutcome, removeOn, removeOutcome}
+use Rattle.outcomes.specs.Outcomes.{formatReplacing, formatOutcome, insertOn, insertOutcome, removeOn}
+use Rattle.outcomes.specs.Outcomes.{removeOutcome}
 use Rattle.outcomes.specs.Outcomes.{lookupOn, lookupOutcome, standingOn, standingOutcome, stepOn, stepOutcome}
 use Rattle.outcomes.specs.Outcomes.{workOn, workOutcome, runStore, onStore}
 use Rattle.outcomes.specs.Refusals.{callNumbersOk, Tests, refusedAs}
@@ -123,15 +124,16 @@ changes c s x e (done y) = accepts e refl
 changes c s x e (refused r) = refuses (refused-no r)
 
 pub store-view : (c : Call) (s : List ℕ) → StoreRun c s (runStore c s)
-unfolding runStore formatOutcome insertOutcome removeOutcome lookupOutcome workOutcome standingOutcome
-store-view (formatting o) s = go (lengthOk s) (formatOk o) refl refl
+unfolding runStore formatReplacing formatOutcome insertOutcome removeOutcome lookupOutcome workOutcome standingOutcome
+store-view (formatting o) s = go (lengthOk s) (formatOk o) (not (overwrites o) && storeInUse s) refl refl
   where
-    go : (l f : Bool) → lengthOk s ≡ l → formatOk o ≡ f
-        → let d = formatOn l f s (encode (format (blocks s) o)) in
+    go : (l f p : Bool) → lengthOk s ≡ l → formatOk o ≡ f
+        → let d = changed s (formatIn l f p (format (blocks s) o)) in
         StoreRun (formatting o) s (record { reply = plain (d .answer); state = d .store })
-    go false f e k = refuses refl
-    go true false e k = refuses refl
-    go true true e k = formats o refl e k
+    go false f p e k = refuses refl
+    go true false p e k = refuses refl
+    go true true true e k = refuses refl
+    go true true false e k = formats o refl e k
 store-view (inserting p) s = go (tested (pairOk p) s) refl
   where
     go : (t : Tested) → tested (pairOk p) s ≡ t

@@ -1,6 +1,6 @@
 -- A store does as the well-formed index does whose bytes it is: a simulation, by which demand 3 carries over.
 use mathlib.Core.Path.{_≡_, sym, ap, ap₂, _∙_, subst}
-use mathlib.Core.Bool.{Bool, true}
+use mathlib.Core.Bool.{Bool, true, not, _&&_}
 use mathlib.Core.List.{List}
 use Prim.Native.Nat.{ℕ}
 use borrow.Author.Tests.{le-leb}
@@ -9,9 +9,10 @@ use Rattle.endian.specs.Endian.{u32At}
 use Rattle.model.specs.declared.Order.{Order}
 use Rattle.model.specs.declared.Answer.{Answer}
 use Rattle.model.specs.Index.{Index}
-use Rattle.model.specs.Calls.{format, formatIn, formatted}
+use Rattle.model.specs.Calls.{inUse, overwrites, format, formatIn, formatted}
 use Rattle.model.specs.Machine.{formatting, CallFits, plain, accepted, Ran, settled, runIndex, onIndex}
 use Rattle.model.specs.WellFormed.{WF}
+use Rattle.model.specs.FormatLaws.{format-free}
 use Rattle.model.specs.SimulationLaws.{Formats, Simulates}
 use Rattle.image.specs.Layout.{encode}
 use Rattle.outcomes.specs.Outcomes.{tested, Changed, runStore, onStore}
@@ -43,7 +44,10 @@ formats s o fits e =
 
     ran : runIndex (formatting o) (format (blocks s) o)
         ≡ record { reply = plain Answer.Done; state = format (blocks s) o }
-    ran = ap₂ (λ (a b : Bool). settled y (formatIn a b y)) (legal-size s (f .legal)) (f .numbers)
+    ran =
+        ap₂ (λ (a b : Bool). settled y (formatIn a b (not (overwrites o) && inUse y) y))
+        (legal-size s (f .legal)) (f .numbers)
+        ∙ ap (λ (p : Bool). settled y (formatIn true true p y)) (format-free (blocks s) o)
 
 -- the bytes of a well-formed index do as the index does
 pub simulates : Simulates onIndex onStore Encodes

@@ -1,10 +1,10 @@
 -- "After every accepted call and every step the store is sound" (docs/RULES.md 6.11), and as long as it was.
 use mathlib.Core.Path.{_≡_, refl, sym, ap, ap₂, _∙_, subst}
-use mathlib.Core.Bool.{Bool, true, false}
+use mathlib.Core.Bool.{Bool, true, false, not, _&&_}
 use mathlib.Core.List.{List}
-use Prim.Native.Nat.{ℕ, _%_}
+use Prim.Native.Nat.{ℕ, _*_, _%_}
 use native.Mathlib.Omega.{arith}
-use borrow.Author.Tests.{eqb-true}
+use borrow.Author.Tests.{eqb-true, eq-eqb}
 use lib.Dec.{eqb}
 use lib.ListN.{length}
 use Rattle.lists.specs.ListsLaws.{and-left, and-right}
@@ -14,7 +14,7 @@ use Rattle.model.specs.declared.Order.{Order}
 use Rattle.model.specs.declared.Answer.{Answer}
 use Rattle.model.specs.Index.{Index}
 use Rattle.model.specs.Steps.{Step, next, stopped, step}
-use Rattle.model.specs.Calls.{sizeOk, formatOk, format}
+use Rattle.model.specs.Calls.{sizeOk, formatOk, overwrites, format, formatIn}
 use Rattle.model.specs.Machine.{Call, formatting, CallFits, plain, accepted, Ran, runIndex}
 use Rattle.model.specs.Book.{effect}
 use Rattle.model.specs.WellFormed.{WF}
@@ -25,7 +25,7 @@ use Rattle.model.specs.FormatLaws.{format-wf}
 use Rattle.model.specs.MachineLaws.{never}
 use Rattle.image.specs.Layout.{encode}
 use Rattle.image.specs.Rules.{sound, verdict}
-use Rattle.outcomes.specs.Outcomes.{passed, judged, tested, Changed, formatOn}
+use Rattle.outcomes.specs.Outcomes.{passed, judged, tested, storeInUse, Changed, changed, formatReplacing}
 use Rattle.image.specs.Rules.{lengthOk}
 use Rattle.outcomes.specs.Outcomes.{formatOutcome, stepOn, stepOutcome, runStore}
 use Rattle.image.specs.BridgeTheorem.{sound-is-encoding, encoding-is-sound}
@@ -54,6 +54,16 @@ pub legal-size : (s : List ℕ) → lengthOk s ≡ true → sizeOk (blocks s) �
 unfolding lengthOk
 legal-size s h = and-right (eqb (length s % 512) 0) (sizeOk (blocks s)) h
 
+-- n whole blocks
+pub blocks-is : (s : List ℕ) (n : ℕ) → length s ≡ 512 * n → blocks s ≡ n
+unfolding blocks
+blocks-is s n e = omega (arith, e)
+
+pub legal-is : (s : List ℕ) (n : ℕ) → length s ≡ 512 * n → lengthOk s ≡ sizeOk n
+unfolding lengthOk
+legal-is s n e =
+    ap₂ (λ (b : Bool) (k : ℕ). b && sizeOk k) (eq-eqb (length s % 512) 0 (omega (arith, e))) (blocks-is s n e)
+
 -- the bytes of an index of as many blocks
 encoded : (s t : List ℕ) (y : Index) → lengthOk s ≡ true → Encodes t y → y .size ≡ blocks s → StaysSound s t
 unfolding lengthOk blocks
@@ -77,21 +87,20 @@ pub record Formatted (s : List ℕ) (o : Order) : Type 0 where
 
 pub format-done : (s : List ℕ) (o : Order) → CallFits (formatting o)
     → accepted (plain (formatOutcome s o .answer)) ≡ true → Formatted s o
-unfolding formatOutcome
-format-done s o fits e = go (lengthOk s) refl (formatOk o) refl e
+unfolding formatReplacing formatOutcome
+format-done s o fits e = go (lengthOk s) refl (formatOk o) refl (not (overwrites o) && storeInUse s) refl e
   where
-    t : List ℕ
-    t = encode (format (blocks s) o)
-
     go : (l : Bool) → lengthOk s ≡ l → (f : Bool) → formatOk o ≡ f
-        → accepted (plain (formatOn l f s (encode (format (blocks s) o)) .answer)) ≡ true → Formatted s o
-    go false h f k e = never (cc)
-    go true h false k e = never (cc)
-    go true h true k e =
+        → (p : Bool) → (not (overwrites o) && storeInUse s) ≡ p
+        → accepted (plain (changed s (formatIn l f p (format (blocks s) o)) .answer)) ≡ true → Formatted s o
+    go false h f k p q e = never (cc)
+    go true h false k p q e = never (cc)
+    go true h true k true q e = never (cc)
+    go true h true k false q e =
         record {
           legal = h;
           numbers = k;
-          outcome = ap₂ (λ (l f : Bool). formatOn l f s t) h k;
+          outcome = rw (h, k, q);
           wf = format-wf (blocks s) o fits (legal-size s h) k;
         }
 

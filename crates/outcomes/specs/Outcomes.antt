@@ -1,7 +1,7 @@
 -- What each call does to a store: from bytes, numbers and output to answer, store and output. docs/RULES.md 2.2: "The
--- order is 1, 2, 3, 4, 8, 5 or 6, 7. Format tests 1 and 2 only. Every refusal leaves store and output untouched, but
--- for work (6.7)."
-use mathlib.Core.Bool.{Bool, true, false, cond}
+-- order is 1, 2, 3, 4, 8, 5 or 6, 7. Format tests 1, 2 and 12 only, in this order. Every refusal leaves store and
+-- output untouched, but for work (6.7)."
+use mathlib.Core.Bool.{Bool, true, false, cond, not, _&&_}
 use mathlib.Core.List.{List}
 use Prim.Native.Nat.{ℕ}
 use lib.ListN.{length}
@@ -16,9 +16,8 @@ use Rattle.model.specs.declared.WorkAnswer.{WorkAnswer}
 use Rattle.model.specs.declared.StandingAnswer.{StandingAnswer}
 use Rattle.model.specs.Index.{Index}
 use Rattle.model.specs.Steps.{Step, next, stopped, Worked, step, iterate}
-use Rattle.model.specs.Calls.{Result, done, refused, formatOk, pairOk, budgetOk, format, insert, remove}
-use Rattle.model.specs.Calls.{Looked}
-use Rattle.model.specs.Calls.{lookup, standing}
+use Rattle.model.specs.Calls.{Result, done, refused, formatOk, inUse, overwrites, pairOk, budgetOk, format}
+use Rattle.model.specs.Calls.{formatIn, insert, remove, Looked, lookup, standing}
 use Rattle.model.specs.Machine.{Call, formatting, inserting, removing, looking, working, asking, plain, looked}
 use Rattle.model.specs.Machine.{worked, stands, Ran, Machine}
 use Rattle.image.specs.declared.Verdict.{Verdict}
@@ -57,6 +56,20 @@ verdictOf (sound x) = Verdict.Sound
 unfoldable pub verifyOutcome : List ℕ → Verdict
 verifyOutcome s = cond (lengthOk s) (verdictOf (verdict s)) Verdict.BadLength
 
+-- ---- in use
+
+-- "in use, if the store is sound and its count isn't 0"
+abbrev pub inUseOn : Tested → Bool
+inUseOn (failed r) = false
+inUseOn (passed x) = inUse x
+
+unfoldable pub storeInUse : List ℕ → Bool
+storeInUse s = inUseOn (tested true s)
+
+unfoldable pub inUseOutcome : List ℕ → Answer
+inUseOutcome s =
+    cond (lengthOk s) (cond (storeInUse s) (Answer.Refused Refusal.InUse) Answer.Done) (Answer.Refused Refusal.Length)
+
 -- ---- format, insert, remove
 
 -- An answer and the store afterwards.
@@ -67,17 +80,18 @@ pub record Changed : Type 0 where
 abbrev pub refusing : List ℕ → Refusal → Changed
 refusing s r = record { answer = Answer.Refused r; store = s }
 
-abbrev pub formatOn : (length order : Bool) → List ℕ → List ℕ → Changed
-formatOn false f s t = refusing s Refusal.Length
-formatOn true false s t = refusing s Refusal.Number
-formatOn true true s t = record { answer = Answer.Done; store = t }
-
-unfoldable pub formatOutcome : List ℕ → Order → Changed
-formatOutcome s o = formatOn (lengthOk s) (formatOk o) s (encode (format (blocks s) o))
-
 abbrev pub changed : List ℕ → Result → Changed
 changed s (done y) = record { answer = Answer.Done; store = encode y }
 changed s (refused r) = refusing s r
+
+-- a format of `new`, which takes the place of `old`: 12 is tested of `old`
+unfoldable pub formatReplacing : (old new : List ℕ) → Order → Changed
+formatReplacing old new o =
+    changed new
+    (formatIn (lengthOk new) (formatOk o) (not (overwrites o) && storeInUse old) (format (blocks new) o))
+
+unfoldable pub formatOutcome : List ℕ → Order → Changed
+formatOutcome s o = formatReplacing s s o
 
 abbrev pub insertOn : Tested → List ℕ → Pair → Changed
 insertOn (failed r) s p = refusing s r

@@ -1,4 +1,4 @@
--- The refusals by a call's tests, of each call but format: "The order is 1, 2, 3, 4, .. Format tests 1 and 2 only."
+-- The refusals by a call's tests, of each call but format: "The order is 1, 2, 3, 4, .. Format tests 1, 2 and 12 only"
 use mathlib.Core.Bool.{Bool, true}
 use Rattle.model.specs.declared.Refusal.{Refusal}
 use Rattle.model.specs.declared.Answer.{Answer}
@@ -18,7 +18,7 @@ callNumbersOk (takes p) = pairOk p
 callNumbersOk leaves = true
 callNumbersOk (hasSteps budget) = budgetOk budget
 
--- whether a call tests checks and rules: each but format does
+-- whether a call is refused by checks and rules: each but format is
 abbrev pub Tests : Effect → Type 0
 Tests (empties o) = ⊥
 Tests (puts p) = Unit {0}

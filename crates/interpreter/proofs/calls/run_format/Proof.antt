@@ -7,14 +7,15 @@ use lib.Seq.{length-take-le}
 use Rattle.model.specs.Calls.{orderOf}
 use Rattle.text.specs.Text.{refusedText}
 use Rattle.text.specs.TextLaws.{wrote-as}
+use Rattle.interpreter.specs.Script.{runCommand}
 use Rattle.interpreter.specs.Runs.{Stands}
-use Rattle.interpreter.specs.RunsLaws.{stands-kept, stands-made, runs-as}
+use Rattle.interpreter.specs.RunsLaws.{stands-kept, stands-over, runs-as}
 use Rattle.interpreter.specs.RunsLaws.{format-done, format-refused, format-kept, format-large}
 use borrow.Author.Needs.{needs}
 use Rattle.interpreter.proofs.calls.run_format.Statement.{statement}
 use Rattle.interpreter.proofs.calls.run_format.Tie as tie
 
--- the part that is lent to format
+-- the part that is formatted
 part : (c : tie.Else1) → let a = c .before .before .before .args in
     length (take (512 * a .blocks) (a .store .now)) ≡ 512 * a .blocks
 part c =
@@ -28,26 +29,21 @@ same-length : tie.Need-same-length
 same-length c = search needs
 
 returns : tie.Need-returns
+unfolding runCommand
 returns c =
     let t = c .before .before .before .before in
     let s = t .before .before .before in
     let a = s .args in
     runs-as
-    (format-large (a .line) (a .blocks) (a .fill) (a .number) (take (512 * a .standing) (a .store .now))
-    (t .if1 .taken))
+    (format-large (a .line) (a .blocks) (orderOf (a .fill) (a .number) (a .overwrite))
+    (take (512 * a .standing) (a .store .now)) (t .if1 .taken))
     (record { store = stands-kept (s .pre); text = c .before .before .put-refused .ensures })
 
-mul-end : tie.Need-mul-end
-mul-end c = search needs
-
-slice-relend-prefix-format : tie.Need-slice-relend-prefix-format
-slice-relend-prefix-format c = search needs
-
-slice-aggregate-format : tie.Need-slice-aggregate-format
-slice-aggregate-format c = sym (part (c .before))
-
-format-requires : tie.Need-format-requires
-format-requires c κs = search needs
+format-standing-requires : tie.Need-format-standing-requires
+format-standing-requires c κs =
+    let e = c .before in
+    let s = e .before .before .before in
+    (e .if1 .left, s .pre .few, s .pre .store)
 
 enum-told : tie.Need-enum-told
 enum-told c = search needs
@@ -71,18 +67,21 @@ same-length-3 : tie.Need-same-length-3
 same-length-3 c = search needs
 
 returns-2 : tie.Need-returns-2
+unfolding runCommand
 returns-2 c =
     let k = c .before .before .before .before in
     let f = k .before .before .before .before in
     let e = f .before .before in
-    let a = e .before .before .before .args in
+    let s = e .before .before .before in
+    let a = s .args in
+    let now = a .store .now in
     runs-as
-    (format-done (take (512 * a .blocks) (a .store .now)) (a .line) (a .blocks) (a .fill) (a .number)
-    (take (512 * a .standing) (a .store .now)) (part e) (e .if1 .left)
-    (sym (f .format .ensures .0) ∙ k .enum-told .given .1))
+    (format-done (take (512 * a .standing) now) (take (512 * a .blocks) now) (a .line) (a .blocks)
+    (orderOf (a .fill) (a .number) (a .overwrite)) (part e) (e .if1 .left)
+    (sym (f .format-standing .ensures .0) ∙ k .enum-told .given .1))
     (record {
-      store = stands-made (a .store .now) _ (f .format .last .0) (e .if1 .left) (f .format .kept .0 ∙ part e)
-          (f .format .ensures .1);
+      store = stands-over now _ (f .format-standing .last .0) (e .if1 .left) (s .pre .store)
+          (f .format-standing .kept .0) (f .format-standing .ensures .1);
       text = c .before .before .put-store .ensures;
     })
 
@@ -93,6 +92,7 @@ same-length-5 : tie.Need-same-length-5
 same-length-5 c = search needs
 
 returns-3 : tie.Need-returns-3
+unfolding runCommand
 returns-3 c =
     let n = c .before .before .before in
     let k = n .before .before .before in
@@ -100,19 +100,18 @@ returns-3 c =
     let e = f .before .before in
     let s = e .before .before .before in
     let a = s .args in
-    let old = a .store .now in
-    let now = take (512 * a .blocks) old in
-    let no = sym (f .format .ensures .0) ∙ k .answer .given .1 in
-    let kept : f .format .last .0 ++ drop (512 * a .blocks) old ≡ old =
-    ap (λ (x : List ℕ). x ++ drop (512 * a .blocks) old)
-    (f .format .ensures .1 ∙ format-kept now (orderOf (a .fill) (a .number)) _ no)
-    ∙ take-append-drop (512 * a .blocks) old in
-    runs-as
-    (format-refused now (a .line) (a .blocks) (a .fill) (a .number) (take (512 * a .standing) old) (part e)
-    (e .if1 .left) _ no)
+    let now = a .store .now in
+    let old = take (512 * a .standing) now in
+    let new = take (512 * a .blocks) now in
+    let o = orderOf (a .fill) (a .number) (a .overwrite) in
+    let no = sym (f .format-standing .ensures .0) ∙ k .answer .given .1 in
+    let kept : f .format-standing .last .0 ≡ now =
+    f .format-standing .ensures .1
+    ∙ ap (λ (x : List ℕ). x ++ drop (512 * a .blocks) now) (format-kept old new (a .line) (a .blocks) o _ no)
+    ∙ take-append-drop (512 * a .blocks) now in
+    runs-as (format-refused old new (a .line) (a .blocks) o (part e) (e .if1 .left) _ no)
     (record {
-      store = subst (λ (x : List ℕ). Stands (take (512 * a .standing) old) old x (a .standing)) (sym kept)
-          (stands-kept (s .pre));
+      store = subst (λ (x : List ℕ). Stands old now x (a .standing)) (sym kept) (stands-kept (s .pre));
       text = wrote-as (ap (refusedText (a .line)) (n .refusal-number .ensures))
           (c .before .before .put-refused2 .ensures);
     })
@@ -124,10 +123,7 @@ run-format-spec =
     put-refused-requires
     same-length
     returns
-    mul-end
-    slice-relend-prefix-format
-    slice-aggregate-format
-    format-requires
+    format-standing-requires
     enum-told
     put-store-requires
     enum-known-answer
