@@ -114,7 +114,7 @@ impl Side for Ordinary {
     }
 
     fn format(store: &mut [u8], fill: u32, number: u32) -> Reply {
-        ordinary(ordinary::format(store, fill, number))
+        ordinary(ordinary::format(store, fill, number, 1))
     }
 
     fn insert(store: &mut [u8], hash: u32, block: u32, offset: u32) -> Reply {

@@ -21,10 +21,12 @@ pub enum Refusal {
     NoRoom,
     /// The output is too short for the matches; their number.
     OutputShort(u32),
+    /// The store to format is sound and holds pairs.
+    InUse,
 }
 
 impl Refusal {
-    /// Document 01's number of the refusal, 1 to 8.
+    /// The number of the refusal: 1 to 8 are document 01's, 12 is request 2026-04's.
     pub fn number(self) -> u8 {
         match self {
             Refusal::Length => 1,
@@ -35,6 +37,7 @@ impl Refusal {
             Refusal::NotHeld => 6,
             Refusal::NoRoom => 7,
             Refusal::OutputShort(_) => 8,
+            Refusal::InUse => 12,
         }
     }
 
@@ -58,6 +61,7 @@ impl fmt::Display for Refusal {
             Refusal::NotHeld => write!(f, "the pair is not held"),
             Refusal::NoRoom => write!(f, "the store has no room"),
             Refusal::OutputShort(matches) => write!(f, "the output is too short for {matches} matches"),
+            Refusal::InUse => write!(f, "the store is in use: it holds pairs"),
         }
     }
 }

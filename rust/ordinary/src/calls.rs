@@ -1,4 +1,4 @@
-//! The seven calls.
+//! The eight calls.
 
 use crate::answer::{Refusal, Standing, Worked};
 use crate::block::{self, Block, Trailer, BITMAP, BUCKET, NONE};
@@ -35,11 +35,15 @@ pub fn verify(store: &[u8]) -> Result<(), Refusal> {
     sound(blocks(store)?).map(drop)
 }
 
-/// Makes any bytes of legal length an empty index. Every check in it covers `number`, which may be any.
-pub fn format(store: &mut [u8], fill: u32, number: u32) -> Result<(), Refusal> {
+/// Makes any bytes of legal length an empty index, but a store in use only if `overwrite` is 1; it may be 0 or 1.
+/// Every check in the new index covers `number`, which may be any.
+pub fn format(store: &mut [u8], fill: u32, number: u32, overwrite: u32) -> Result<(), Refusal> {
     let blocks = blocks_mut(store)?;
-    if !(1..=40).contains(&fill) {
+    if !(1..=40).contains(&fill) || overwrite > 1 {
         return Err(Refusal::Number);
+    }
+    if overwrite == 0 && used(blocks) {
+        return Err(Refusal::InUse);
     }
     blocks.as_flattened_mut().fill(0);
     Meta::fresh(blocks.len() as u32, fill as u16, number).write(&mut blocks[0]);
@@ -51,6 +55,16 @@ pub fn format(store: &mut [u8], fill: u32, number: u32) -> Result<(), Refusal> {
         block::seal(number, at, block);
     }
     Ok(())
+}
+
+/// Whether the store is in use. One that is not sound is not, whatever is in it.
+pub fn in_use(store: &[u8]) -> Result<bool, Refusal> {
+    blocks(store).map(used)
+}
+
+/// Whether blocks are a sound store, under its own number, that holds pairs.
+fn used(blocks: &[Block]) -> bool {
+    sound(blocks).is_ok_and(|meta| meta.count != 0)
 }
 
 /// Puts a pair in.

@@ -1,4 +1,5 @@
-//! The hash index of document 01, with the store number of request 2026-03, in ordinary Rust.
+//! The hash index of document 01 in ordinary Rust, with the store number of request 2026-03 and the in-use test of
+//! request 2026-04.
 //!
 //! A store is a byte slice of 4 to 128 blocks of 512 bytes. Every call takes any bytes and any numbers, judges the
 //! whole store first, and either is done or gives a [`Refusal`] and leaves the store and the output as they were.
@@ -6,7 +7,7 @@
 //!
 //! ```
 //! let mut store = vec![0; 16 * 512];
-//! ordinary::format(&mut store, 10, 7)?;
+//! ordinary::format(&mut store, 10, 7, 0)?;
 //! ordinary::insert(&mut store, 5, 7, 1)?;
 //! ordinary::insert(&mut store, 5, 3, 2)?;
 //! let mut output = [0; 12];
@@ -30,5 +31,5 @@ mod view;
 mod work;
 
 pub use answer::{Phase, Refusal, Standing, Stop, Worked};
-pub use calls::{format, insert, lookup, remove, standing, verify, work, work_sealed_once};
+pub use calls::{format, in_use, insert, lookup, remove, standing, verify, work, work_sealed_once};
 pub use crc::crc32c;

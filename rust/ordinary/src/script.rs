@@ -26,7 +26,7 @@ pub fn run(input: &[u8]) -> String {
 }
 
 enum Call {
-    Format(u32, u32, u32),
+    Format(u32, u32, u32, u32),
     Insert(u32, u32, u32),
     Remove(u32, u32, u32),
     Lookup(u32),
@@ -42,7 +42,7 @@ fn parse(line: &[u8]) -> Option<Call> {
     let letter = words.next()?;
     let numbers = words.map(number).collect::<Option<Vec<u32>>>()?;
     match (letter, numbers[..].as_ref()) {
-        (b"f", &[blocks, fill, number]) => Some(Call::Format(blocks, fill, number)),
+        (b"f", &[blocks, fill, number, overwrite]) => Some(Call::Format(blocks, fill, number, overwrite)),
         (b"+", &[hash, block, offset]) => Some(Call::Insert(hash, block, offset)),
         (b"-", &[hash, block, offset]) => Some(Call::Remove(hash, block, offset)),
         (b"?", &[hash]) => Some(Call::Lookup(hash)),
@@ -62,10 +62,14 @@ fn number(word: &[u8]) -> Option<u32> {
 /// Makes a call and says what is written for it.
 fn answer(store: &mut Vec<u8>, call: Call) -> Result<String, Refusal> {
     match call {
-        Call::Format(blocks, fill, number) => {
+        Call::Format(blocks, fill, number, overwrite) => {
             // More than 128 blocks are refused by any length, so none that large is made.
             let mut fresh = vec![0; blocks.min(129) as usize * BLOCK];
-            calls::format(&mut fresh, fill, number)?;
+            calls::format(&mut fresh, fill, number, overwrite)?;
+            // The fresh store is never in use. The one that stands may be; of length 0, before the first, it is not.
+            if overwrite == 0 && calls::in_use(store) == Ok(true) {
+                return Err(Refusal::InUse);
+            }
             *store = fresh;
             Ok(format!("store {blocks} fill {fill}"))
         }

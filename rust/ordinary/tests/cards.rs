@@ -4,7 +4,7 @@ use ordinary::{format, insert, lookup, remove, standing, work, Phase, Refusal, S
 
 fn made(blocks: usize, fill: u32, hashes: &[u32]) -> Vec<u8> {
     let mut store = vec![0; blocks * 512];
-    format(&mut store, fill, 26).expect("format");
+    format(&mut store, fill, 26, 0).expect("format");
     for &hash in hashes {
         insert(&mut store, hash, 9, 1).expect("insert");
     }
@@ -21,8 +21,8 @@ fn worked(steps: u32, stop: Stop) -> Result<Worked, Refusal> {
 
 #[test]
 fn c_smallest_store() {
-    assert_eq!(format(&mut [0; 4 * 512], 1, 0), Ok(()));
-    assert_eq!(format(&mut [0; 3 * 512], 1, 0), Err(Refusal::Length));
+    assert_eq!(format(&mut [0; 4 * 512], 1, 0, 0), Ok(()));
+    assert_eq!(format(&mut [0; 3 * 512], 1, 0, 0), Err(Refusal::Length));
 }
 
 #[test]
