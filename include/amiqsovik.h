@@ -31,17 +31,19 @@ extern "C" {
 #endif
 
 /* The version of this header, and of the archive made from the same sources. 1.0.0 is document 01, whole; 1.0.1 is
- * quicker (request 2026-02); 2.0.0 has a store number (request 2026-03). The first number goes up when a program that
- * was right may have to change: a call's arguments, the answer to a call that was accepted, the bytes of a store. The
- * second goes up when calls are added, the third when neither is so.
+ * quicker (request 2026-02); 2.0.0 has a store number (request 2026-03); 3.0.0 formats no store in use unless told to
+ * overwrite, and has amiqsovik_in_use (request 2026-04). The first number goes up when a program that was right may
+ * have to change: a call's arguments, the answer to a call that was accepted, the bytes of a store. The second goes up
+ * when calls are added, the third when neither is so.
  *
- * A store that was sound for 1.0.0 or 1.0.1 is DAMAGED for 2.0.0, with block 0: the old check of that block is never
- * the new one. No call converts it: a host formats a new store and inserts the pairs again, from its own records. */
-#define AMIQSOVIK_VERSION_MAJOR 2
+ * The bytes of stores for 2.0.0 and 3.0.0 are the same. A store that was sound for 1.0.0 or 1.0.1 is DAMAGED for both,
+ * with block 0: the old check of that block is never the new one. No call converts it: a host formats a new store and
+ * inserts the pairs again, from its own records. It is not IN_USE either: format takes it without a word. */
+#define AMIQSOVIK_VERSION_MAJOR 3
 #define AMIQSOVIK_VERSION_MINOR 0
 #define AMIQSOVIK_VERSION_PATCH 0
 #define AMIQSOVIK_VERSION (AMIQSOVIK_VERSION_MAJOR * 10000 + AMIQSOVIK_VERSION_MINOR * 100 + AMIQSOVIK_VERSION_PATCH)
-#define AMIQSOVIK_VERSION_TEXT "2.0.0"
+#define AMIQSOVIK_VERSION_TEXT "3.0.0"
 
 /* A word that nobody looks at may be a refusal: compilers that can do so warn. */
 #if defined(__GNUC__)
@@ -74,8 +76,8 @@ static inline uint32_t amiqsovik_steps(uint64_t word) { return (uint32_t)(word >
 static inline uint32_t amiqsovik_gives(uint64_t word) { return (uint32_t)(word >> 32); }
 
 /* The numbers of the answers, 0 to 8 as in document 01's table. What a number gives besides is 0 where nothing is
- * said of it. Where several fit, the call answers the first of 255, 1, 2, 3, 4, 8, 5 or 6, 7. Later versions may have
- * further numbers: whatever is not DONE is a refusal. */
+ * said of it. Where several fit, the call answers the first of 255, 1, 2, 3, 4, 8, 5 or 6, 7; format answers the first
+ * of 1, 2, 12. Later versions may have further numbers: whatever is not DONE is a refusal. */
 #define AMIQSOVIK_DONE 0
 #define AMIQSOVIK_LENGTH 1         /* the store is not a multiple of 512 bytes, or N is outside 4..128 */
 #define AMIQSOVIK_NUMBER 2         /* an argument is outside its range: see the calls */
@@ -85,6 +87,7 @@ static inline uint32_t amiqsovik_gives(uint64_t word) { return (uint32_t)(word >
 #define AMIQSOVIK_NOT_HELD 6       /* remove: the pair is not held */
 #define AMIQSOVIK_NO_ROOM 7        /* insert: the bucket's pages are full, and there is no free page and no new one */
 #define AMIQSOVIK_OUTPUT_SHORT 8   /* lookup: output_length / 6 is below the number of matches; gives that number */
+#define AMIQSOVIK_IN_USE 12        /* format, in_use: the store is sound and holds pairs. Request 2026-04 */
 #define AMIQSOVIK_RESULT_SHORT 255 /* standing: result_length is below 28; gives 28. Not in document 01's table */
 
 /* ---- The calls */
@@ -92,8 +95,13 @@ static inline uint32_t amiqsovik_gives(uint64_t word) { return (uint32_t)(word >
 /* Tests a store. DONE (it is sound), LENGTH, DAMAGED or NOT_AN_INDEX. */
 AMIQSOVIK_MUST_USE uint64_t amiqsovik_verify(const uint8_t *store, size_t store_length);
 
-/* Makes a store new, whatever its bytes are: two buckets, no pairs. `fill`, 1..40, is how many pairs a bucket is to
- * hold on average: with more, a split is wanted. DONE, LENGTH or NUMBER.
+/* Makes a store new, unless it is in use: two buckets, no pairs, whatever its bytes were. `fill`, 1..40, is how many
+ * pairs a bucket is to hold on average: with more, a split is wanted. DONE, LENGTH, NUMBER or IN_USE.
+ *
+ * `overwrite` is 0 or 1, else NUMBER. With 0, a store that is sound (under its own number, not the one given here) and
+ * holds pairs is IN_USE and stays as it is. With 1 it is made new, and its pairs are lost. This protects no store that
+ * is not sound: with 0 too, a damaged one full of readings is formatted without a word, and so is one that is lent with
+ * another length than its own. Where readings may be worth something, verify first.
  *
  * `store_number` is any value: give each store another one. It stands in block 0, and the check of every block covers
  * it, the block's own number and the block's bytes. So, after block 0, a block that was right at the same place of a
@@ -102,7 +110,12 @@ AMIQSOVIK_MUST_USE uint64_t amiqsovik_verify(const uint8_t *store, size_t store_
  * that counts: where a right block 0 comes from a store with another number, it passes, and block 1 is DAMAGED. Stores
  * with the same number are not told apart, nor is an older block at its own place. */
 AMIQSOVIK_MUST_USE uint64_t amiqsovik_format(uint8_t *store, size_t store_length, uint32_t fill,
-                                             uint32_t store_number);
+                                             uint32_t store_number, uint32_t overwrite);
+
+/* Says what a format of this store, with a good fill and without overwriting, would answer: DONE, LENGTH or IN_USE.
+ * DONE does not mean that there is nothing to lose: a store that is not sound is not IN_USE, whatever it holds.
+ * amiqsovik_standing tells such a store from one with no pairs. */
+AMIQSOVIK_MUST_USE uint64_t amiqsovik_in_use(const uint8_t *store, size_t store_length);
 
 /* Puts a pair in. `offset` is 1..65535 and `block` is not 4294967295, else NUMBER. DONE, LENGTH, NUMBER, DAMAGED,
  * NOT_AN_INDEX, HELD_ALREADY or NO_ROOM. */
@@ -144,7 +157,7 @@ AMIQSOVIK_MUST_USE uint64_t amiqsovik_standing(const uint8_t *AMIQSOVIK_RESTRICT
 /* ---- Readers of what the calls answer and write */
 
 /* The name of an answer by its number: as in document 01's table (9 is a stop of work's, 10 is for a script's lines
- * alone), "result short" for 255, and "unknown" for any other. */
+ * alone), "in use" for 12, "result short" for 255, and "unknown" for any other. */
 static inline const char *amiqsovik_name(uint32_t number)
 {
     switch (number) {
@@ -159,6 +172,7 @@ static inline const char *amiqsovik_name(uint32_t number)
     case AMIQSOVIK_OUTPUT_SHORT: return "output short";
     case AMIQSOVIK_STOP_IDLE: return "idle";
     case 10: return "unreadable";
+    case AMIQSOVIK_IN_USE: return "in use";
     case AMIQSOVIK_RESULT_SHORT: return "result short";
     default: return "unknown";
     }

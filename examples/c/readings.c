@@ -54,7 +54,8 @@ int main(void)
     uint32_t cell, reading;
     uint64_t word;
 
-    if (!done("format", amiqsovik_format(store, sizeof store, 2, 20260316)))
+    /* The last number says not to overwrite: a store with readings in it would be refused. */
+    if (!done("format", amiqsovik_format(store, sizeof store, 2, 20260316, 0)))
         return 1;
     /* The cell's number serves as its hash code here; a host hashes its keys. */
     for (cell = 0; cell < 6; cell++)

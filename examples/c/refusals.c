@@ -1,5 +1,5 @@
-/* Tests what the header says of refusals, of store numbers, of standing's result, of names and of the version. It is C
- * and C++; `try` builds and runs it. It exits with 0 if all of it holds.
+/* Tests what the header says of refusals, of stores in use, of store numbers, of standing's result, of names and of
+ * the version. It is C and C++; `try` builds and runs it. It exits with 0 if all of it holds.
  */
 #include <stdio.h>
 #include <string.h>
@@ -25,11 +25,11 @@ static void names(void)
 {
     static const char *const table[] = {"done",         "length",   "number",  "damaged",      "not an index",
                                         "held already", "not held", "no room", "output short", "idle",
-                                        "unreadable"};
+                                        "unreadable",   "unknown",  "in use"};
     uint32_t number;
 
     for (number = 0; number < 300; number++) {
-        const char *name = number < 11 ? table[number] : number == 255 ? "result short" : "unknown";
+        const char *name = number < 13 ? table[number] : number == 255 ? "result short" : "unknown";
         same(name, strcmp(amiqsovik_name(number), name) == 0, 1);
     }
     same("the name of 4294967295", strcmp(amiqsovik_name(UINT32_MAX), "unknown") == 0, 1);
@@ -50,7 +50,8 @@ static void make(uint8_t *store, uint32_t number)
 {
     uint32_t hash;
 
-    same("format", amiqsovik_format(store, BYTES, 1, number), word(AMIQSOVIK_DONE, 0));
+    memset(store, 0, BYTES);
+    same("format", amiqsovik_format(store, BYTES, 1, number, 0), word(AMIQSOVIK_DONE, 0));
     for (hash = 0; hash < 3; hash++)
         same("insert", amiqsovik_insert(store, BYTES, hash, 7, 1), word(AMIQSOVIK_DONE, 0));
 }
@@ -114,7 +115,7 @@ static void refusals(const uint8_t *sound)
     memset(output, MARK, ROOM);
     memset(blank, MARK, ROOM);
     same("verify", amiqsovik_verify(store, 7), word(AMIQSOVIK_LENGTH, 0));
-    same("format", amiqsovik_format(store, BYTES, 41, 1), word(AMIQSOVIK_NUMBER, 0));
+    same("format", amiqsovik_format(store, BYTES, 41, 1, 1), word(AMIQSOVIK_NUMBER, 0));
     same("insert", amiqsovik_insert(store, BYTES, 0, 7, 65536), word(AMIQSOVIK_NUMBER, 0));
     same("insert", amiqsovik_insert(store, BYTES, 0, 7, 1), word(AMIQSOVIK_HELD_ALREADY, 0));
     same("remove", amiqsovik_remove(store, BYTES, 0, 7, 2), word(AMIQSOVIK_NOT_HELD, 0));
@@ -128,15 +129,62 @@ static void refusals(const uint8_t *sound)
 /* A store of four blocks has no room for a 41st pair of one code. */
 static void no_room(void)
 {
-    uint8_t store[4 * AMIQSOVIK_BLOCK_BYTES], before[sizeof store];
+    uint8_t store[4 * AMIQSOVIK_BLOCK_BYTES] = {0}, before[sizeof store];
     uint32_t reading;
 
-    same("format", amiqsovik_format(store, sizeof store, 40, 0), word(AMIQSOVIK_DONE, 0));
+    same("format", amiqsovik_format(store, sizeof store, 40, 0, 0), word(AMIQSOVIK_DONE, 0));
     for (reading = 0; reading < 40; reading++)
         same("insert", amiqsovik_insert(store, sizeof store, 2, reading, 1), word(AMIQSOVIK_DONE, 0));
     memcpy(before, store, sizeof store);
     same("insert", amiqsovik_insert(store, sizeof store, 2, 40, 1), word(AMIQSOVIK_NO_ROOM, 0));
     same("the full store", memcmp(store, before, sizeof store) == 0, 1);
+}
+
+/* What in_use answers of a store, and format of copies of it, with a good fill and `overwrite` from 0 to 3. A format
+ * that is refused leaves the store as it was. */
+static void formats(const char *what, const uint8_t *store, size_t length, uint32_t answer)
+{
+    uint32_t overwrite;
+    uint8_t copy[BYTES];
+
+    same(what, amiqsovik_in_use(store, length), word(answer, 0));
+    for (overwrite = 0; overwrite < 4; overwrite++) {
+        uint32_t wanted = overwrite == 0 || answer == AMIQSOVIK_LENGTH ? answer
+                          : overwrite == 1                            ? AMIQSOVIK_DONE
+                                                                      : AMIQSOVIK_NUMBER;
+
+        memcpy(copy, store, length);
+        same(what, amiqsovik_format(copy, length, 1, 9, overwrite), word(wanted, 0));
+        same(what, memcmp(copy, store, length) == 0, wanted != AMIQSOVIK_DONE);
+    }
+}
+
+/* Stores in use, which take a format only with overwrite 1, and others, which take one with 0 too. */
+static void in_use(const uint8_t *sound)
+{
+    uint8_t store[BYTES];
+    uint32_t hash;
+
+    same("12", AMIQSOVIK_IN_USE, 12);
+    formats("a sound store with pairs", sound, BYTES, AMIQSOVIK_IN_USE);
+    formats("seven bytes", sound, 7, AMIQSOVIK_LENGTH);
+    same("no store", amiqsovik_in_use(NULL, 0), word(AMIQSOVIK_LENGTH, 0));
+    /* The order is length, numbers, in use. */
+    memcpy(store, sound, BYTES);
+    same("all wrong", amiqsovik_format(store, BYTES - 1, 0, 9, 2), word(AMIQSOVIK_LENGTH, 0));
+    same("fill and in use", amiqsovik_format(store, BYTES, 0, 9, 0), word(AMIQSOVIK_NUMBER, 0));
+    same("overwrite and in use", amiqsovik_format(store, BYTES, 1, 9, UINT32_MAX), word(AMIQSOVIK_NUMBER, 0));
+    same("the store", memcmp(store, sound, BYTES) == 0, 1);
+    /* A store that is not sound is not in use, though its pairs are there. */
+    store[2 * AMIQSOVIK_BLOCK_BYTES + 9] ^= 1;
+    formats("block 2 damaged", store, BYTES, AMIQSOVIK_DONE);
+    formats("four of five blocks", sound, BYTES - AMIQSOVIK_BLOCK_BYTES, AMIQSOVIK_DONE);
+    memcpy(store, sound, BYTES);
+    for (hash = 0; hash < 3; hash++) {
+        formats("pairs left", store, BYTES, AMIQSOVIK_IN_USE);
+        same("remove", amiqsovik_remove(store, BYTES, hash, 7, 1), word(AMIQSOVIK_DONE, 0));
+    }
+    formats("no pairs left", store, BYTES, AMIQSOVIK_DONE);
 }
 
 /* The store with a block of its own or of another store put in place of block `to` is damaged. */
@@ -179,6 +227,7 @@ int main(void)
     standings(sound);
     refusals(sound);
     no_room();
+    in_use(sound);
     wrong_blocks(sound);
     return wrong;
 }

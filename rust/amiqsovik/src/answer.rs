@@ -33,6 +33,8 @@ pub enum Refusal {
         /// The number of matches; each takes 6 bytes.
         matches: u32,
     },
+    /// 12: the store to format is sound and holds pairs, and the format does not overwrite.
+    InUse,
     /// Any other number. An archive of this package's version never answers it; `include/amiqsovik.h` beside the
     /// archive says what it means.
     Unknown {
@@ -60,6 +62,7 @@ impl Refusal {
             Refusal::NotHeld => 6,
             Refusal::NoRoom => 7,
             Refusal::OutputShort { .. } => 8,
+            Refusal::InUse => 12,
             Refusal::Unknown { number, .. } => number,
         }
     }
@@ -76,11 +79,16 @@ impl Refusal {
             | Refusal::NotAnIndex { rule: gives }
             | Refusal::OutputShort { matches: gives }
             | Refusal::Unknown { gives, .. } => gives,
-            Refusal::Length | Refusal::Number | Refusal::HeldAlready | Refusal::NotHeld | Refusal::NoRoom => 0,
+            Refusal::Length
+            | Refusal::Number
+            | Refusal::HeldAlready
+            | Refusal::NotHeld
+            | Refusal::NoRoom
+            | Refusal::InUse => 0,
         }
     }
 
-    /// The name of the refusal, as in document 01's table; `Display` has a sentence.
+    /// The name of the refusal, as in document 01's table and in request 2026-04; `Display` has a sentence.
     ///
     /// ```
     /// assert_eq!(amiqsovik::Refusal::HeldAlready.name(), "held already");
@@ -96,6 +104,7 @@ impl Refusal {
             Refusal::NotHeld => "not held",
             Refusal::NoRoom => "no room",
             Refusal::OutputShort { .. } => "output short",
+            Refusal::InUse => "in use",
             Refusal::Unknown { .. } => "unknown",
         }
     }
@@ -112,6 +121,7 @@ impl fmt::Display for Refusal {
             Refusal::NotHeld => f.write_str("the pair is not held"),
             Refusal::NoRoom => f.write_str("the store has no room"),
             Refusal::OutputShort { matches } => write!(f, "the output is too short for {matches} matches"),
+            Refusal::InUse => f.write_str("the store is in use: it is sound and holds pairs"),
             Refusal::Unknown { number, gives } => write!(f, "refused with {number}, an unknown number, and {gives}"),
         }
     }

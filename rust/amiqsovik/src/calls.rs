@@ -1,4 +1,4 @@
-//! The seven calls, over plain slices and plain numbers.
+//! The eight calls, over plain slices and plain numbers; format has two functions.
 
 use crate::answer::{Refusal, Standing, Worked};
 use crate::foreign;
@@ -22,8 +22,12 @@ pub fn verify(store: &[u8]) -> Result<(), Refusal> {
     Word(foreign::verify(store)).done().map(drop)
 }
 
-/// Makes a store of any bytes an empty index. `fill`, 1 to 40, is the number of pairs a bucket above which buckets
-/// split.
+/// Makes a store of any bytes an empty index, unless it is in use. `fill`, 1 to 40, is the number of pairs a bucket
+/// above which buckets split.
+///
+/// A store is in use if it is sound and holds pairs; [`in_use`] says so beforehand, and [`format_over`] formats such a
+/// store too. A store that is not sound is formatted without a word, whatever readings are in it: where they may be
+/// worth something, [`verify`] it first.
 ///
 /// `number` is the store number, any value: give each store another one. It stands in block 0, and the check of every
 /// block covers it, the block's own number and the block's bytes. So, after block 0, a block that was right at the same
@@ -35,22 +39,76 @@ pub fn verify(store: &[u8]) -> Result<(), Refusal> {
 ///
 /// # Errors
 ///
+/// [`Length`](Refusal::Length), [`Number`](Refusal::Number) or [`InUse`](Refusal::InUse): the first that fits.
+///
+/// # Examples
+///
+/// ```
+/// use amiqsovik::{format, insert, verify, Refusal};
+/// let (mut store, mut other) = ([0; 8 * 512], [0; 8 * 512]);
+/// format(&mut store, 30, 1)?;
+/// format(&mut other, 30, 2)?;
+/// insert(&mut store, 5, 7, 1)?;
+/// assert_eq!(format(&mut store, 30, 1), Err(Refusal::InUse));
+/// store[3 * 512..4 * 512].copy_from_slice(&other[3 * 512..4 * 512]);
+/// assert_eq!(verify(&store), Err(Refusal::Damaged { block: 3 }));
+/// assert_eq!(format(&mut store, 30, 1), Ok(()));
+/// # Ok::<(), amiqsovik::Refusal>(())
+/// ```
+pub fn format(store: &mut [u8], fill: u32, number: u32) -> Result<(), Refusal> {
+    Word(foreign::format(store, fill, number, 0)).done().map(drop)
+}
+
+/// Makes a store of any bytes an empty index, also one in use, whose pairs are lost; else as [`format`].
+///
+/// # Errors
+///
 /// [`Length`](Refusal::Length) or [`Number`](Refusal::Number).
 ///
 /// # Examples
 ///
 /// ```
-/// use amiqsovik::{format, standing, verify, Refusal};
-/// let (mut store, mut other) = ([0; 8 * 512], [0; 8 * 512]);
+/// # let mut store = [0; 8 * 512];
+/// use amiqsovik::{format, format_over, insert, standing, Refusal};
 /// format(&mut store, 30, 1)?;
-/// format(&mut other, 30, 2)?;
-/// assert_eq!(standing(&store)?.slack, 60);
-/// store[3 * 512..4 * 512].copy_from_slice(&other[3 * 512..4 * 512]);
-/// assert_eq!(verify(&store), Err(Refusal::Damaged { block: 3 }));
+/// insert(&mut store, 5, 7, 1)?;
+/// assert_eq!(format(&mut store, 30, 1), Err(Refusal::InUse));
+/// assert_eq!(format_over(&mut store, 30, 1), Ok(()));
+/// assert_eq!(standing(&store)?.count, 0);
 /// # Ok::<(), amiqsovik::Refusal>(())
 /// ```
-pub fn format(store: &mut [u8], fill: u32, number: u32) -> Result<(), Refusal> {
-    Word(foreign::format(store, fill, number)).done().map(drop)
+pub fn format_over(store: &mut [u8], fill: u32, number: u32) -> Result<(), Refusal> {
+    Word(foreign::format(store, fill, number, 1)).done().map(drop)
+}
+
+/// Whether a store is in use: sound, under its own number, and holding pairs. That is when [`format`], given good
+/// numbers, refuses it. A store that is not sound is not in use, whatever readings are in it, nor is one that is lent
+/// with another length than its own.
+///
+/// # Errors
+///
+/// [`Length`](Refusal::Length).
+///
+/// # Examples
+///
+/// ```
+/// # let mut store = [0; 8 * 512];
+/// use amiqsovik::{format, in_use, insert, remove};
+/// assert_eq!(in_use(&store), Ok(false));
+/// format(&mut store, 30, 1)?;
+/// assert_eq!(in_use(&store), Ok(false));
+/// insert(&mut store, 5, 7, 1)?;
+/// assert_eq!(in_use(&store), Ok(true));
+/// remove(&mut store, 5, 7, 1)?;
+/// assert_eq!(in_use(&store), Ok(false));
+/// # Ok::<(), amiqsovik::Refusal>(())
+/// ```
+pub fn in_use(store: &[u8]) -> Result<bool, Refusal> {
+    match Word(foreign::in_use(store)).done() {
+        Ok(_) => Ok(false),
+        Err(Refusal::InUse) => Ok(true),
+        Err(refusal) => Err(refusal),
+    }
 }
 
 /// Puts in the pair of a hash code and a reading's place. An offset that does not fit 16 bits is refused, as 0 is.

@@ -7,7 +7,8 @@ mod c {
 
     extern "C" {
         pub fn amiqsovik_verify(store: *const u8, len: usize) -> u64;
-        pub fn amiqsovik_format(store: *mut u8, len: usize, fill: u32, number: u32) -> u64;
+        pub fn amiqsovik_format(store: *mut u8, len: usize, fill: u32, number: u32, overwrite: u32) -> u64;
+        pub fn amiqsovik_in_use(store: *const u8, len: usize) -> u64;
         pub fn amiqsovik_insert(store: *mut u8, len: usize, hash: u32, block: u32, offset: u32) -> u64;
         pub fn amiqsovik_remove(store: *mut u8, len: usize, hash: u32, block: u32, offset: u32) -> u64;
         pub fn amiqsovik_lookup(store: *const u8, len: usize, hash: u32, out: *mut u8, out_len: usize) -> u64;
@@ -26,9 +27,14 @@ pub fn verify(store: &[u8]) -> u64 {
     unsafe { c::amiqsovik_verify(store.as_ptr(), store.len()) }
 }
 
-pub fn format(store: &mut [u8], fill: u32, number: u32) -> u64 {
+pub fn format(store: &mut [u8], fill: u32, number: u32, overwrite: u32) -> u64 {
     // SAFETY: the store is lent to be changed, and nothing else.
-    unsafe { c::amiqsovik_format(store.as_mut_ptr(), store.len(), fill, number) }
+    unsafe { c::amiqsovik_format(store.as_mut_ptr(), store.len(), fill, number, overwrite) }
+}
+
+pub fn in_use(store: &[u8]) -> u64 {
+    // SAFETY: the store is lent to be read.
+    unsafe { c::amiqsovik_in_use(store.as_ptr(), store.len()) }
 }
 
 pub fn insert(store: &mut [u8], hash: u32, block: u32, offset: u32) -> u64 {

@@ -5,7 +5,7 @@
 //! numbers it is given, each call ends, and either is done or gives a [`Refusal`] and writes nothing. It allocates
 //! nothing, and needs no `std`.
 //!
-//! The seven calls are functions over slices; [`Store`] has them as methods.
+//! The eight calls are functions over slices, format two of them; [`Store`] has them as methods.
 //!
 //! ```
 //! use amiqsovik::{Reading, Store};
@@ -34,7 +34,7 @@ mod store;
 mod word;
 
 pub use answer::{Phase, Refusal, Standing, Stop, Worked};
-pub use calls::{format, insert, lookup, remove, standing, verify, work};
+pub use calls::{format, format_over, in_use, insert, lookup, remove, standing, verify, work};
 pub use matches::{Matches, Reading, MATCH_SIZE};
 pub use store::Store;
 

@@ -5,7 +5,8 @@ use crate::matches::{Matches, Reading};
 use crate::{calls, BLOCK_SIZE};
 use core::fmt;
 
-/// A store: a lent slice, with the calls as methods. It holds no state but the bytes, and every call judges them anew.
+/// A store: a lent slice, with the calls as methods. It holds no state but the bytes, and every call judges them anew,
+/// but for [`formatted_over`](Store::formatted_over).
 ///
 /// ```
 /// use amiqsovik::{Reading, Store};
@@ -25,13 +26,44 @@ pub struct Store<'a> {
 }
 
 impl<'a> Store<'a> {
-    /// Formats the bytes, with a fill and the store's number; see [`format`](crate::format).
+    /// Formats the bytes, with a fill and the store's number, unless they are a store in use; see
+    /// [`format`](crate::format).
     ///
     /// # Errors
     ///
     /// As [`format`](crate::format) has them.
+    ///
+    /// # Examples
+    ///
+    /// ```
+    /// use amiqsovik::{Reading, Refusal, Store};
+    /// let mut bytes = [0; 16 * 512];
+    /// Store::formatted(&mut bytes, 10, 7)?.insert(5, Reading::new(7, 1))?;
+    /// assert_eq!(Store::formatted(&mut bytes, 10, 7).err(), Some(Refusal::InUse));
+    /// # Ok::<(), amiqsovik::Refusal>(())
+    /// ```
     pub fn formatted(bytes: &'a mut [u8], fill: u32, number: u32) -> Result<Self, Refusal> {
         calls::format(bytes, fill, number)?;
+        Ok(Store { bytes })
+    }
+
+    /// Formats the bytes, also those of a store in use, whose pairs are lost; see [`format_over`](crate::format_over).
+    ///
+    /// # Errors
+    ///
+    /// As [`format_over`](crate::format_over) has them.
+    ///
+    /// # Examples
+    ///
+    /// ```
+    /// use amiqsovik::{Reading, Store};
+    /// let mut bytes = [0; 16 * 512];
+    /// Store::formatted(&mut bytes, 10, 7)?.insert(5, Reading::new(7, 1))?;
+    /// assert_eq!(Store::formatted_over(&mut bytes, 10, 7)?.standing()?.count, 0);
+    /// # Ok::<(), amiqsovik::Refusal>(())
+    /// ```
+    pub fn formatted_over(bytes: &'a mut [u8], fill: u32, number: u32) -> Result<Self, Refusal> {
+        calls::format_over(bytes, fill, number)?;
         Ok(Store { bytes })
     }
 
@@ -56,6 +88,15 @@ impl<'a> Store<'a> {
     #[must_use]
     pub fn as_bytes(&self) -> &[u8] {
         self.bytes
+    }
+
+    /// Whether the store is in use; see [`in_use`](crate::in_use).
+    ///
+    /// # Errors
+    ///
+    /// As [`in_use`](crate::in_use) has them.
+    pub fn in_use(&self) -> Result<bool, Refusal> {
+        calls::in_use(self.bytes)
     }
 
     /// Puts in a pair; see [`insert`](crate::insert).

@@ -43,6 +43,7 @@ impl Word {
             6 => Refusal::NotHeld,
             7 => Refusal::NoRoom,
             8 => Refusal::OutputShort { matches: gives },
+            12 => Refusal::InUse,
             number => Refusal::Unknown { number, gives },
         })
     }
@@ -67,16 +68,18 @@ pub fn standing(result: &[u8; RESULT_SIZE]) -> Standing {
 mod tests {
     use super::*;
 
-    /// Document 01's table, and what a word with each number becomes. 11 to 14 and 255 are none of the wrapper's.
+    /// Document 01's table with 12, and what a word with each number becomes. 9 to 11, 13, 14 and 255 are none of the
+    /// wrapper's.
     #[test]
     fn refusals_by_number() {
         let names =
             ["length", "number", "damaged", "not an index", "held already", "not held", "no room", "output short"];
         for number in 1..=255u8 {
             let refusal = Word(77 << 32 | u64::from(number)).done().err().expect("a refusal");
-            let name = names.get(usize::from(number) - 1).unwrap_or(&"unknown");
-            let gives = if [1, 2, 5, 6, 7].contains(&number) { 0 } else { 77 };
-            assert_eq!((refusal.number(), refusal.gives(), refusal.name()), (number, gives, *name));
+            let other = if number == 12 { "in use" } else { "unknown" };
+            let name = names.get(usize::from(number) - 1).copied().unwrap_or(other);
+            let gives = if [1, 2, 5, 6, 7, 12].contains(&number) { 0 } else { 77 };
+            assert_eq!((refusal.number(), refusal.gives(), refusal.name()), (number, gives, name));
         }
         assert_eq!(Word(11).done().err(), Some(Refusal::Unknown { number: 11, gives: 0 }));
         assert_eq!(Word(77 << 32).done().map(Word::gives), Ok(77));

@@ -37,6 +37,7 @@ fn numbers_and_names() {
         ("NOT_HELD", Refusal::NotHeld),
         ("NO_ROOM", Refusal::NoRoom),
         ("OUTPUT_SHORT", Refusal::OutputShort { matches: 1 }),
+        ("IN_USE", Refusal::InUse),
     ];
     for (name, refusal) in refusals {
         assert_eq!(defined(name), refusal.number().to_string(), "{name}");

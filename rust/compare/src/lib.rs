@@ -4,10 +4,12 @@
 //! outputs to the byte. Everything else here is aid: a generator of numbers, the check bit by bit, stores built or
 //! spoilt from outside, the book of demand 3, and what the benchmark measures.
 
-#![forbid(unsafe_code)]
+#![deny(unsafe_code)]
 
 pub mod book;
 pub mod build;
+#[allow(unsafe_code)]
+pub mod foreign;
 pub mod lists;
 pub mod numbered;
 pub mod random;

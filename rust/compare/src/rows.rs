@@ -14,6 +14,10 @@ enum Call {
     Lookup(u32),
     /// An insert, and the removal of the same pair.
     Pair,
+    /// A format that is refused, since the store is in use.
+    Kept,
+    /// A format that overwrites.
+    Over,
     /// Work with a budget, that makes so many steps and stops so.
     Work(u32, u32, u8),
     /// The same, sealed once by the ordinary side.
@@ -111,6 +115,8 @@ pub fn rows() -> Vec<Row> {
         .chain([16, 64, 128].map(all))
         .chain([Row::new(128, format!("lookup of {held}, copying"), Call::Lookup(held), Kind::CopyingOneCode)])
         .chain([Row::new(128, "work, one step, long copying", Call::Work(1, 1, 0), Kind::Copying)])
+        .chain([Row::new(128, "format refused, in use", Call::Kept, Kind::Even)])
+        .chain([Row::new(128, "format over", Call::Over, Kind::Even)])
         .chain(splits())
         .collect()
 }
@@ -176,6 +182,11 @@ impl Bench {
                     let hash = code.hash ^ 0x100;
                     S::insert(black_box(&mut self.store), hash, 7, 7) == Reply::default()
                         && S::remove(black_box(&mut self.store), hash, 7, 7) == Reply::default()
+                }
+                Call::Kept => S::format(black_box(&mut self.store), EACH, 7, 0) == Reply::refused(12, 0),
+                Call::Over => {
+                    self.scratch.copy_from_slice(&self.store);
+                    S::format(black_box(&mut self.scratch), EACH, 7, 1) == Reply::default()
                 }
                 Call::Work(budget, steps, stop) => self.work(S::work, budget, steps, stop),
                 Call::SealedOnce(budget, steps, stop) => self.work(S::work_sealed_once, budget, steps, stop),

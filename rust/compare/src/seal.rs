@@ -3,6 +3,10 @@
 /// Where the meta block has the store's number.
 pub const NUMBER: usize = 104;
 
+/// The change of a number that block 0's own check does not show: the number is covered twice there, first of all and
+/// where it stands.
+pub const UNSEEN: u32 = 0xFCA4_2DAF;
+
 /// CRC-32C of some bytes.
 pub fn crc32c(bytes: &[u8]) -> u32 {
     let bit = |crc: u32| if crc % 2 == 1 { (crc >> 1) ^ 0x82F6_3B78 } else { crc >> 1 };

@@ -1,4 +1,6 @@
-//! The two implementations behind one interface, their answers in document 01's numbers.
+//! The two implementations behind one interface, their answers in the documents' numbers.
+
+use crate::foreign;
 
 /// An answer: the number of the refusal or 0, what it gives besides, and work's steps and stop. A done lookup gives
 /// its number of matches.
@@ -18,6 +20,17 @@ impl Reply {
     pub fn refused(number: u8, gives: u32) -> Self {
         Reply { number, gives, ..Reply::default() }
     }
+
+    /// What a word of the archive says.
+    fn of(word: u64) -> Self {
+        let (number, stop, steps) = (word as u8, (word >> 8) as u8, (word >> 16) as u16);
+        Reply { number, gives: (word >> 32) as u32, steps: steps.into(), stop }
+    }
+
+    /// Done, or refused with 12.
+    fn used(used: bool) -> Self {
+        Reply::refused(if used { 12 } else { 0 }, 0)
+    }
 }
 
 /// How an index stands; all zero on a refusal. The phase is 0 none, 1 copying, 2 clearing.
@@ -34,7 +47,8 @@ pub struct State {
 /// An implementation of the index.
 pub trait Side {
     fn verify(store: &[u8]) -> Reply;
-    fn format(store: &mut [u8], fill: u32, number: u32) -> Reply;
+    fn format(store: &mut [u8], fill: u32, number: u32, overwrite: u32) -> Reply;
+    fn in_use(store: &[u8]) -> Reply;
     fn insert(store: &mut [u8], hash: u32, block: u32, offset: u32) -> Reply;
     fn remove(store: &mut [u8], hash: u32, block: u32, offset: u32) -> Reply;
     fn lookup(store: &[u8], hash: u32, output: &mut [u8]) -> Reply;
@@ -57,8 +71,17 @@ impl Side for Proved {
         proved(amiqsovik::verify(store))
     }
 
-    fn format(store: &mut [u8], fill: u32, number: u32) -> Reply {
-        proved(amiqsovik::format(store, fill, number))
+    /// Other numbers than 0 and 1 for `overwrite` go through the function for C.
+    fn format(store: &mut [u8], fill: u32, number: u32, overwrite: u32) -> Reply {
+        match overwrite {
+            0 => proved(amiqsovik::format(store, fill, number)),
+            1 => proved(amiqsovik::format_over(store, fill, number)),
+            _ => Reply::of(foreign::format(store, fill, number, overwrite)),
+        }
+    }
+
+    fn in_use(store: &[u8]) -> Reply {
+        amiqsovik::in_use(store).map_or_else(|refusal| proved(Err(refusal)), Reply::used)
     }
 
     fn insert(store: &mut [u8], hash: u32, block: u32, offset: u32) -> Reply {
@@ -113,8 +136,12 @@ impl Side for Ordinary {
         ordinary(ordinary::verify(store))
     }
 
-    fn format(store: &mut [u8], fill: u32, number: u32) -> Reply {
-        ordinary(ordinary::format(store, fill, number, 1))
+    fn format(store: &mut [u8], fill: u32, number: u32, overwrite: u32) -> Reply {
+        ordinary(ordinary::format(store, fill, number, overwrite))
+    }
+
+    fn in_use(store: &[u8]) -> Reply {
+        ordinary::in_use(store).map_or_else(|refusal| ordinary(Err(refusal)), Reply::used)
     }
 
     fn insert(store: &mut [u8], hash: u32, block: u32, offset: u32) -> Reply {

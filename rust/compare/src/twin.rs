@@ -28,9 +28,17 @@ impl Twin {
         self.read("standing", Proved::standing, Ordinary::standing)
     }
 
-    pub fn format(&mut self, fill: u32, number: u32) -> Reply {
-        let call = format!("format {fill} {number}");
-        self.write(&call, |store| Proved::format(store, fill, number), |store| Ordinary::format(store, fill, number))
+    pub fn in_use(&self) -> Reply {
+        self.read("in_use", Proved::in_use, Ordinary::in_use)
+    }
+
+    pub fn format(&mut self, fill: u32, number: u32, overwrite: u32) -> Reply {
+        let call = format!("format {fill} {number} {overwrite}");
+        self.write(
+            &call,
+            |store| Proved::format(store, fill, number, overwrite),
+            |store| Ordinary::format(store, fill, number, overwrite),
+        )
     }
 
     pub fn insert(&mut self, hash: u32, block: u32, offset: u32) -> Reply {

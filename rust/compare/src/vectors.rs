@@ -12,36 +12,78 @@ pub fn file(name: &str) -> String {
     std::fs::read_to_string(format!("{folder}/{name}")).unwrap_or_else(|error| panic!("{name}: {error}"))
 }
 
-/// Replays stores.txt on a side, each store under a number; gives how many calls were made.
-pub fn replay_01<S: Side>(text: &str, number: u32) -> usize {
+/// How many calls were replayed, and how many of them were refused with 12.
+#[derive(Debug, Default, PartialEq, Eq)]
+pub struct Replayed {
+    pub calls: u32,
+    pub in_use: u32,
+}
+
+impl Replayed {
+    /// Holds what a call wrote to what the file says, and counts the call.
+    fn call(&mut self, written: &str, said: &str, label: &str) {
+        assert_eq!(written, said, "{label}");
+        self.calls += 1;
+        self.in_use += u32::from(said.starts_with("12 "));
+    }
+}
+
+/// Replays stores.txt on a side, each store under a number. A format is made twice: overwriting, as the file has it,
+/// and not overwriting.
+pub fn replay_01<S: Side>(text: &str, number: u32) -> Replayed {
     let mut store = Vec::new();
-    let mut calls = 0;
+    let mut used = false;
+    let mut replayed = Replayed::default();
     for (line, place) in text.lines().zip(1..) {
+        let label = format!("line {place} of stores.txt, under number {number}");
         let (kind, words) = split(line);
         if kind == "S" {
             let bare = unhex(words.first().unwrap_or(&""));
             store = numbered(&bare, number);
-            assert!(unnumbered(&store, number) == bare, "line {place} of stores.txt: other bytes there and back");
+            used = false;
+            assert!(unnumbered(&store, number) == bare, "{label}: other bytes there and back");
             continue;
         }
         let (taken, said) = words.split_at(arguments(kind, 1));
-        let mut taken = numbers(taken);
-        if kind == "f" {
-            taken.push(number);
+        let (taken, all) = (numbers(taken), said.join(" "));
+        let written = |taken: &[u32]| {
+            let (answer, after) = answer::<S>(&store, kind, taken);
+            with_digest(answer, after.map(|after| unnumbered(&after, number)))
+        };
+        match (kind, &taken[..]) {
+            ("f", &[fill]) => {
+                replayed.call(&written(&[fill, number, 1]), &all, &label);
+                let kept = format!("12 {}", first8(&unnumbered(&store, number)));
+                let wanted = if used && said[0] == "0" { kept } else { all };
+                replayed.call(&written(&[fill, number, 0]), &wanted, &label);
+            }
+            _ => replayed.call(&written(&taken), &all, &label),
         }
-        let (answer, after) = answer::<S>(&store, kind, &taken);
-        let written = with_digest(answer, after.map(|after| unnumbered(&after, number)));
-        assert_eq!(written, said.join(" "), "line {place} of stores.txt, under number {number}");
-        calls += 1;
+        if kind == "s" {
+            used = in_use::<S>(&store, said, &label);
+        }
     }
-    calls
+    replayed
 }
 
-/// Replays 02/stores.txt on a side; gives how many calls were made.
-pub fn replay_02<S: Side>(text: &str) -> usize {
+/// Whether a store is in use by what a file says of its standing; in_use says so too.
+fn in_use<S: Side>(store: &[u8], said: &[&str], label: &str) -> bool {
+    let used = said[0] == "0" && said[2] != "0";
+    let wanted = match said[0] {
+        "0" if used => 12,
+        "1" => 1,
+        _ => 0,
+    };
+    assert_eq!(S::in_use(store), Reply::refused(wanted, 0), "{label}: in_use");
+    used
+}
+
+/// Replays 02/stores.txt on a side.
+pub fn replay_02<S: Side>(text: &str) -> Replayed {
     let mut store = Vec::new();
-    let mut calls = 0;
+    let mut replayed = Replayed::default();
     for (line, place) in text.lines().zip(1..) {
+        let label = format!("line {place} of 02/stores.txt");
         let (kind, words) = split(line);
         match kind {
             "S" => store = unused(&numbers(&words)),
@@ -53,12 +95,14 @@ pub fn replay_02<S: Side>(text: &str) -> usize {
                     said = &said[..said.len() - 1];
                 }
                 let (answer, after) = answer::<S>(&store, kind, &numbers(taken));
-                assert_eq!(with_digest(answer, after), said.join(" "), "line {place} of 02/stores.txt");
-                calls += 1;
+                replayed.call(&with_digest(answer, after), &said.join(" "), &label);
+                if kind == "s" {
+                    in_use::<S>(&store, said, &label);
+                }
             }
         }
     }
-    calls
+    replayed
 }
 
 /// The first word of a line, and the others.
@@ -139,7 +183,7 @@ fn answer<S: Side>(store: &[u8], kind: &str, numbers: &[u32]) -> (String, Option
             let reply = S::work(&mut copy, budget);
             format!("{} {} {}", plain(reply), reply.steps, reply.stop)
         }
-        ("f", &[fill, number, ..]) => S::format(&mut copy, fill, number).number.to_string(),
+        ("f", &[fill, number, overwrite]) => S::format(&mut copy, fill, number, overwrite).number.to_string(),
         other => panic!("a file has a call {other:?}"),
     };
     (said, Some(copy))

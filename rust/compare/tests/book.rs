@@ -1,39 +1,43 @@
 //! Demand 3: after every call, and after every single step of work, both indexes say what the book says.
 
-use compare::book::Book;
+use compare::book::{Book, Tally};
 use compare::lists::{Call, Maker};
 use compare::random::Random;
 use compare::twin::Twin;
+use std::collections::BTreeMap;
 
-/// Runs a list; gives the numbers of splits counted to their end and of those disturbed.
-fn run(seed: u64, blocks: usize, fill: u32, calls: u32, maker: &mut Maker) -> (u32, u32) {
+/// Runs a list, and adds to a tally what came up in it.
+fn run(seed: u64, blocks: usize, fill: u32, calls: u32, maker: &mut Maker, tally: &mut Tally) {
     let mut random = Random::new(seed);
     let mut twin = Twin::new(vec![0; blocks * 512], format!("seed {seed}, N {blocks}, fill {fill}"));
-    assert!(twin.format(fill, random.store_number()).done());
+    assert!(twin.format(fill, random.store_number(), 0).done());
     let mut book = Book::new(fill);
+    book.tally = *tally;
     book.check(&twin, &mut random);
     for _ in 0..calls {
         let call = maker.call();
         let reply = book.call(&mut twin, call, &mut random);
         maker.note(call, reply);
     }
-    // A format empties the book, whatever stood there.
+    // A format that overwrites empties the book, whatever stood there; one that does not leaves it alone.
     let number = random.store_number();
-    book.call(&mut twin, Call::Format(fill, number), &mut random);
-    book.call(&mut twin, Call::Insert((7, 7, 7)), &mut random);
-    (book.counted, book.disturbed)
+    for call in [Call::Format(fill, number, 1), Call::Insert((7, 7, 7)), Call::Format(fill, number, 0)] {
+        book.call(&mut twin, call, &mut random);
+    }
+    *tally = book.tally;
 }
 
 fn runs(seeds: std::ops::Range<u64>, codes: u32, places: u32, calls: u32) {
-    let (mut counted, mut disturbed) = (0, 0);
+    let mut tally = Tally::default();
+    let lists = (seeds.end - seeds.start) as u32;
     for seed in seeds {
         let mut maker = Maker::new(seed, codes, places, seed % 2 == 0);
         let blocks = 6 + 5 * (seed as usize % 4);
-        let (a, b) = run(seed, blocks, 1 + 3 * (seed as u32 % 3), calls, &mut maker);
-        counted += a;
-        disturbed += b;
+        run(seed, blocks, 1 + 3 * (seed as u32 % 3), calls, &mut maker, &mut tally);
     }
-    assert!(counted > 0 && disturbed > 0, "{counted} splits counted, {disturbed} disturbed");
+    assert!(tally.counted > 0 && tally.disturbed > 0, "{tally:?}");
+    // More than the last formats of each list.
+    assert!(tally.kept > lists && tally.emptied > 0, "{tally:?}");
 }
 
 #[test]
@@ -53,11 +57,33 @@ fn many_codes() {
 
 #[test]
 fn splits_with_nothing_in_between() {
-    let mut counted = 0;
+    let mut tally = Tally::default();
     for seed in 1300..1304 {
         let mut maker = Maker::new(seed, 12, 6, false);
         maker.budget = 300;
-        counted += run(seed, 20, 2, 60, &mut maker).0;
+        run(seed, 20, 2, 60, &mut maker, &mut tally);
     }
-    assert!(counted >= 8, "only {counted} splits counted to their end");
+    assert!(tally.counted >= 8, "{tally:?}");
+}
+
+/// A book emptied pair by pair in the midst of a split: then a format that does not overwrite is accepted.
+#[test]
+fn emptied_in_the_midst_of_a_split() {
+    let mut phases = BTreeMap::new();
+    // Three of seven pairs move: a begin, three copies, the end of the copying, three entries cleared, the end.
+    for steps in 0..=9 {
+        let mut random = Random::new(1400);
+        let mut twin = Twin::new(vec![0; 9 * 512], format!("{steps} steps"));
+        assert!(twin.format(3, 9, 0).done());
+        let mut book = Book::new(3);
+        let pairs = [0, 2, 4, 6, 8, 10, 12].map(|hash| (hash, 7, 1));
+        let calls = pairs.map(Call::Insert).into_iter().chain([Call::Work(steps)]);
+        for call in calls.chain([Call::Format(3, 5, 0)]).chain(pairs.map(Call::Remove)) {
+            book.call(&mut twin, call, &mut random);
+        }
+        *phases.entry(twin.standing().1.phase).or_insert(0) += 1;
+        assert!(book.call(&mut twin, Call::Format(3, 5, 0), &mut random).done());
+        assert_eq!((book.tally.kept, book.tally.emptied), (1, 0), "{}", twin.label);
+    }
+    assert_eq!(phases, BTreeMap::from([(0, 2), (1, 4), (2, 4)]));
 }

@@ -148,7 +148,7 @@ fn goes_on(mut twin: Twin, steps: u32, wanting: u32, rest: Reply) {
 #[test]
 fn no_room_in_the_midst_of_copying() {
     let mut twin = Twin::new(vec![0; 8 * 512], "three pages");
-    assert!(twin.format(40, 8).done());
+    assert!(twin.format(40, 8, 0).done());
     for i in 0..120 {
         assert!(twin.insert(2 * i, 5, 1 + i).done());
     }

@@ -79,5 +79,5 @@ fn lists_that_start_from_a_built_store() {
             seen.note(call, reply, &twin);
         }
     }
-    seen.reached(&[0, 5, 6, 8], &[0, 9], &[0, 1, 2]);
+    seen.reached(&[0, 5, 6, 8, 12], &[0, 9], &[0, 1, 2]);
 }

@@ -74,7 +74,7 @@ fn checks_that_calls_write() {
     let mut random = Random::new(3);
     let mut pairs = Vec::new();
     let number = 0xA1B2_C3D4;
-    assert!(twin.format(5, number).done());
+    assert!(twin.format(5, number, 0).done());
     for round in 0..60 {
         for _ in 0..10 {
             let pair = (random.below(40), random.number() >> 1, random.within(1, 65_535));

@@ -7,7 +7,7 @@ use compare::twin::Twin;
 
 fn filled(pairs: u32) -> Twin {
     let mut twin = Twin::new(vec![0; 12 * 512], "edges");
-    assert!(twin.format(40, 12).done());
+    assert!(twin.format(40, 12, 0).done());
     for i in 0..pairs {
         assert!(twin.insert(77, i, 1 + i).done());
     }
@@ -27,11 +27,12 @@ fn lengths() {
         let mut twin = Twin::new(store.clone(), format!("{} bytes", store.len()));
         let length = Reply::refused(1, 0);
         assert_eq!(twin.verify(), length);
-        assert_eq!(twin.standing().0, length);
+        assert_eq!((twin.standing().0, twin.in_use()), (length, length));
         assert_eq!(twin.lookup(1, 600).0, length);
         // A wrong length comes before a wrong number.
         for (good, bad) in [(1, 0), (40, 41), (7, u32::MAX)] {
-            assert_eq!((twin.format(good, bad), twin.format(bad, good)), (length, length));
+            assert_eq!((twin.format(good, bad, 0), twin.format(bad, good, 1)), (length, length));
+            assert_eq!((twin.format(good, bad, 2), twin.format(bad, good, bad)), (length, length));
             assert_eq!((twin.insert(1, 1, good), twin.insert(1, 1, bad)), (length, length));
             assert_eq!((twin.remove(1, 1, good), twin.remove(1, u32::MAX, bad)), (length, length));
             assert_eq!((twin.work(good), twin.work(u32::MAX)), (length, length));
@@ -57,7 +58,10 @@ fn numbers() {
     }
     assert_eq!((twin.insert(77, u32::MAX, 1), twin.remove(77, u32::MAX, 1)), (number, number));
     for fill in [0, 41, 65_536 + 7, u32::MAX] {
-        assert_eq!((twin.format(fill, 0), twin.format(fill, u32::MAX)), (number, number));
+        assert_eq!((twin.format(fill, 0, 0), twin.format(fill, u32::MAX, 1)), (number, number));
+    }
+    for overwrite in [2, 3, 256, 65_536, 1 << 31, u32::MAX] {
+        assert_eq!(twin.format(40, 0, overwrite), number);
     }
     for budget in [65_536, 65_537, u32::MAX] {
         assert_eq!(twin.work(budget), number);

@@ -5,9 +5,9 @@ use compare::twin::Twin;
 
 fn run(seed: u64, blocks: usize, fill: u32, calls: u32, maker: &mut Maker, seen: &mut Seen) {
     let mut twin = Twin::new(vec![0x5A; blocks * 512], format!("seed {seed}, N {blocks}, fill {fill}"));
-    // Formatted again in the end, and under another number.
-    for calls in [calls, 30] {
-        let format = Call::Format(fill, maker.random.store_number());
+    // Formatted again in the end, over what stands there, and under another number.
+    for (calls, overwrite) in [(calls, 0), (30, 1)] {
+        let format = Call::Format(fill, maker.random.store_number(), overwrite);
         let reply = format.make(&mut twin);
         assert!(reply.done(), "{}: {format:?}", twin.label);
         maker.note(format, reply);
@@ -21,6 +21,13 @@ fn run(seed: u64, blocks: usize, fill: u32, calls: u32, maker: &mut Maker, seen:
     }
 }
 
+/// Formats that were kept off, that overwrote, and with other numbers.
+fn formats_reached(seen: &Seen) {
+    for wanted in [(0, 12), (1, 0), (2, 2), (u32::MAX, 2)] {
+        assert!(seen.formats.contains_key(&wanted), "{wanted:?}: {seen:?}");
+    }
+}
+
 #[test]
 fn few_codes_in_small_stores() {
     let mut seen = Seen::default();
@@ -28,7 +35,8 @@ fn few_codes_in_small_stores() {
         let mut maker = Maker::new(seed, 2 + seed as u32 % 3, 150, true);
         run(seed, 4 + seed as usize, 1 + seed as u32 * 13 % 40, 800, &mut maker, &mut seen);
     }
-    seen.reached(&[0, 2, 5, 6, 7, 8], &[0, 7, 9], &[0, 1, 2]);
+    seen.reached(&[0, 2, 5, 6, 7, 8, 12], &[0, 7, 9], &[0, 1, 2]);
+    formats_reached(&seen);
     assert!(seen.longest_chain >= 4 && seen.most_free_pages >= 1, "{seen:?}");
 }
 
@@ -39,7 +47,8 @@ fn many_codes_in_middle_stores() {
         let mut maker = Maker::new(seed, 150, 4, seed % 2 == 0);
         run(seed, 14 + 7 * (seed as usize - 100), 4 + (seed as u32 - 100) * 6, 620, &mut maker, &mut seen);
     }
-    seen.reached(&[0, 2, 5, 6, 8], &[0, 7, 9], &[0, 1, 2]);
+    seen.reached(&[0, 2, 5, 6, 8, 12], &[0, 7, 9], &[0, 1, 2]);
+    formats_reached(&seen);
     assert!(seen.most_buckets >= 12 && seen.most_free_pages >= 1, "{seen:?}");
 }
 
@@ -49,7 +58,7 @@ fn many_codes_in_the_largest_store() {
     let mut maker = Maker::new(200, 1000, 2, false);
     maker.budget = 40;
     run(200, 128, 2, 400, &mut maker, &mut seen);
-    seen.reached(&[0, 2, 5], &[0, 7, 9], &[0, 1, 2]);
+    seen.reached(&[0, 2, 5, 12], &[0, 7, 9], &[0, 1, 2]);
     assert!(seen.most_buckets >= 48, "{seen:?}");
 }
 
@@ -58,5 +67,6 @@ fn few_codes_in_the_largest_store() {
     let mut seen = Seen::default();
     let mut maker = Maker::new(300, 2, 500, true);
     run(300, 128, 8, 500, &mut maker, &mut seen);
+    seen.reached(&[0, 12], &[0], &[0]);
     assert!(seen.longest_chain >= 3, "{seen:?}");
 }

@@ -38,6 +38,19 @@ fn even_stores() {
     }
 }
 
+/// The rows of formats: they are on a store in use.
+#[test]
+fn formats() {
+    let formats: Vec<_> = rows().into_iter().filter(|row| row.has("format")).collect();
+    let names: Vec<_> = formats.iter().map(|row| row.name.as_str()).collect();
+    assert_eq!(names, ["format refused, in use", "format over"]);
+    for row in &formats {
+        let (mut twin, ..) = judged(row.store(), row.name.clone());
+        assert_eq!((twin.in_use().number, twin.format(EACH, 7, 0).number), (12, 12), "{}", twin.label);
+        assert!(twin.format(EACH, 7, 1).done() && twin.in_use().done(), "{}", twin.label);
+    }
+}
+
 #[test]
 fn chains_and_crowds() {
     for length in [1, 16, 64, 125] {

@@ -4,13 +4,9 @@ use compare::build::sound;
 use compare::lists::{Call, Maker};
 use compare::numbered::unnumbered;
 use compare::random::Random;
-use compare::seal::{block, check, lowest_wrong, number, seal, seal_all, set_number, NUMBER};
+use compare::seal::{block, check, lowest_wrong, number, seal, seal_all, set_number, NUMBER, UNSEEN};
 use compare::side::Reply;
 use compare::twin::Twin;
-
-/// The change of a number that block 0's own check does not show: the number is covered twice there, first of all and
-/// where it stands.
-const UNSEEN: u32 = 0xFCA4_2DAF;
 
 /// A sound store with this number.
 fn with_number(store: &[u8], number: u32) -> Vec<u8> {
@@ -201,10 +197,10 @@ fn formats() {
     let mut random = Random::new(14_500);
     let mut twin = Twin::new((0..10 * 512).map(|_| random.word() as u8).collect(), "formats");
     for one in [0, u32::MAX, 1, 0x8000_0000, 0, random.number(), UNSEEN, u32::MAX] {
-        assert!(twin.format(7, one).done(), "number {one}");
+        assert!(twin.format(7, one, 1).done(), "number {one}");
         assert_eq!((number(twin.bytes()), lowest_wrong(twin.bytes())), (one, None), "number {one}");
         assert!(twin.insert(5, 7, 1).done() && twin.verify().done(), "number {one}");
-        assert_eq!(twin.format(0, one ^ 1), Reply::refused(2, 0), "number {one}");
+        assert_eq!(twin.format(0, one ^ 1, 1), Reply::refused(2, 0), "number {one}");
         assert_eq!(twin.lookup(5, 6).1, [(7, 1)], "number {one}");
         let checks: Vec<&[u8]> = (6..10).map(|at| &block(twin.bytes(), at)[508..]).collect();
         assert!((1..4).all(|i| checks[0] != checks[i]), "unused blocks with one check: {checks:?}");
@@ -223,9 +219,9 @@ fn bare(store: &[u8]) -> Vec<u8> {
 fn alike(twins: &mut [Twin], numbers: &[u32], call: Call) -> Reply {
     let answers: Vec<_> = match call {
         Call::Lookup(hash, room) => twins.iter().map(|twin| twin.lookup(hash, room)).collect(),
-        Call::Format(fill, _) => {
+        Call::Format(fill, _, overwrite) => {
             let formats = twins.iter_mut().zip(numbers);
-            formats.map(|(twin, &number)| (twin.format(fill, number), vec![])).collect()
+            formats.map(|(twin, &number)| (twin.format(fill, number, overwrite), vec![])).collect()
         }
         call => twins.iter_mut().map(|twin| (call.make(twin), vec![])).collect(),
     };
@@ -247,7 +243,7 @@ fn the_same_under_every_number() {
         let label = |number| format!("seed {seed}, N {blocks}, number {number}");
         let mut twins: Vec<Twin> = numbers.iter().map(|n| Twin::new(vec![9; blocks * 512], label(n))).collect();
         for calls in [400, 20] {
-            let format = Call::Format(1 + seed as u32 % 5, 0);
+            let format = Call::Format(1 + seed as u32 % 5, 0, 1);
             assert!(alike(&mut twins, &numbers, format).done(), "seed {seed}: {format:?}");
             for _ in 0..calls {
                 let call = maker.call();

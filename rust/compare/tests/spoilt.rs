@@ -24,7 +24,7 @@ fn calls(random: &mut Random, twin: &Twin, verdict: Reply) {
     assert_eq!(twin.clone().remove(hash, u32::MAX, 1), Reply::refused(2, 0), "{}", twin.label);
     assert_eq!(twin.clone().work(65_536), Reply::refused(2, 0), "{}", twin.label);
     if random.once_in(8) {
-        assert!(twin.clone().format(1, random.store_number()).done(), "{}", twin.label);
+        assert!(twin.clone().format(1, random.store_number(), 1).done(), "{}", twin.label);
     }
 }
 

@@ -43,7 +43,7 @@ fn wanted(store: &[u8], length: usize) -> (u64, [u8; 64]) {
 /// A store of five blocks with three pairs at fill 1.
 fn made() -> Vec<u8> {
     let mut store = vec![0; 5 * 512];
-    assert!(Ordinary::format(&mut store, 1, 5).done());
+    assert!(Ordinary::format(&mut store, 1, 5, 0).done());
     for hash in 0..3 {
         assert!(Ordinary::insert(&mut store, hash, 7, 1).done());
     }

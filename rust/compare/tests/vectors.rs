@@ -1,18 +1,19 @@
 //! The files of tests/vectors, whole, on each side.
 
 use compare::side::{Ordinary, Proved, Side};
-use compare::vectors::{file, replay_01, replay_02};
+use compare::vectors::{file, replay_01, replay_02, Replayed};
 
-/// Document 01's stores have no number: they are replayed under several.
+/// Document 01's stores have no number: they are replayed under several. Of its 1510 calls the 168 formats are made
+/// twice, and not overwriting meets 12 sound stores with pairs, two good fills each.
 fn stores_01<S: Side>() {
     let text = file("stores.txt");
     for number in [0, 1, u32::MAX, 0x8000_0000, 0x1D2C_3B4A] {
-        assert_eq!(replay_01::<S>(&text, number), 1510, "number {number}");
+        assert_eq!(replay_01::<S>(&text, number), Replayed { calls: 1510 + 168, in_use: 24 }, "number {number}");
     }
 }
 
 fn stores_02<S: Side>() {
-    assert_eq!(replay_02::<S>(&file("02/stores.txt")), 3343);
+    assert_eq!(replay_02::<S>(&file("02/stores.txt")), Replayed { calls: 3467, in_use: 17 });
 }
 
 #[test]

@@ -2,7 +2,8 @@
 //! request 2026-04.
 //!
 //! A store is a byte slice of 4 to 128 blocks of 512 bytes. Every call takes any bytes and any numbers, judges the
-//! whole store first, and either is done or gives a [`Refusal`] and leaves the store and the output as they were.
+//! whole store first, but for a format that overwrites, and either is done or gives a [`Refusal`] and leaves the store
+//! and the output as they were.
 //! This crate is written from the documents alone, so that the proved index can be compared with it.
 //!
 //! ```
