@@ -114,7 +114,8 @@ AMIQSOVIK_MUST_USE uint64_t amiqsovik_format(uint8_t *store, size_t store_length
 
 /* Says what a format of this store, with a good fill and without overwriting, would answer: DONE, LENGTH or IN_USE.
  * DONE does not mean that there is nothing to lose: a store that is not sound is not IN_USE, whatever it holds.
- * amiqsovik_standing tells such a store from one with no pairs. */
+ * amiqsovik_standing tells such a store from one with no pairs. A store is sound with its own N alone: who makes a
+ * store anew with another N asks with the old length first. */
 AMIQSOVIK_MUST_USE uint64_t amiqsovik_in_use(const uint8_t *store, size_t store_length);
 
 /* Puts a pair in. `offset` is 1..65535 and `block` is not 4294967295, else NUMBER. DONE, LENGTH, NUMBER, DAMAGED,
