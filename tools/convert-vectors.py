@@ -10,10 +10,6 @@ ROOT = pathlib.Path(__file__).resolve().parent.parent
 SOURCE = ROOT / "tests" / "vectors"
 CRATE = ROOT / "crates" / "vectors"
 
-# Document 01's limits: N is at most 128, and from point 10 on PostgreSQL lays groups out in phases.
-MOST_BLOCKS = 128
-FIRST_PHASED_POINT = 10
-
 
 def words(numbers):
     return " ".join(str(n) for n in numbers)
@@ -29,8 +25,6 @@ def checks():
 def moments():
     for line in (SOURCE / "postgres-addresses.jsonl").read_text().splitlines():
         m = json.loads(line)
-        if m["nblocks"] > MOST_BLOCKS or m["ovflpoint"] >= FIRST_PHASED_POINT:
-            continue
         buckets = [bucket for bucket, _, _ in m["buckets"]]
         bits = [bit for bit, _, _ in m["bits"]]
         asked = f"a {m['maxbucket']};{words(m['spares'])};{words(buckets)};{words(bits)}"

@@ -2,7 +2,7 @@
 -- m, spares sp and overflow point s.
 use mathlib.Core.Bool.{true, false, cond, _&&_, _||_}
 use mathlib.Core.List.{List}
-use Prim.Native.Nat.{ℕ, zero, suc, pred, _+_, _-_, _/_, _%_, _^_}
+use Prim.Native.Nat.{ℕ, zero, suc, pred, _+_, _-_, _*_, _/_, _%_, _^_}
 use lib.Dec.{leb, ltb, eqb}
 use lib.ListN.{getD}
 
@@ -14,9 +14,15 @@ firstOver f (suc fuel) k n = elim (ltb n (f k)) [ true ↦ k | false ↦ firstOv
 abbrev pub power : ℕ → ℕ
 power j = 2 ^ j
 
--- buckets in all at overflow point i
+-- the buckets in all with the phases 0 to p of group g: "group g goes from 2^(g - 1) buckets in all to 2^g, and each of
+-- its phases brings 2^(g - 3)"
+abbrev pub phased : (g p : ℕ) → ℕ
+phased g p = 2 ^ (g - 1) + suc p * 2 ^ (g - 3)
+
+-- "The buckets in all at point i are 2^i up to point 9 .. Groups from 10 on are laid out in four equal phases, and
+-- there a point is a phase"
 unfoldable pub bucketsAt : ℕ → ℕ
-bucketsAt i = 2 ^ i
+bucketsAt i = cond (ltb i 10) (2 ^ i) (phased (10 + (i - 10) / 4) ((i - 10) % 4))
 
 -- ---- the bucket of a hash code
 
@@ -51,11 +57,11 @@ lastSplit (suc m) b = cond (ltb 0 m && (eqb (suc m) b || eqb (splitFrom (suc m))
 
 -- ---- blocks
 
--- "the smallest s of at least 1 with 2^s at least max bucket + 1"
+-- "the smallest s of at least 1 with at least max bucket + 1 buckets in all"
 unfoldable pub point : ℕ → ℕ
 point m = firstOver bucketsAt m 1 m
 
--- "g the smallest with 2^g at least b + 1"
+-- "g the smallest point with at least b + 1 buckets in all"
 unfoldable pub bucketPoint : ℕ → ℕ
 bucketPoint b = firstOver bucketsAt b 0 b
 
@@ -69,10 +75,10 @@ abbrev pub bitPoint : List ℕ → ℕ → ℕ → ℕ → ℕ
 bitPoint sp n i zero = i
 bitPoint sp n i (suc k) = elim (ltb n (getD sp i 0)) [ true ↦ i | false ↦ bitPoint sp n (suc i) k ]
 
--- "block 2^i + n + 1, i the smallest from 1 to s with n + 1 at most spares[i], or s"
+-- "block (buckets in all at point i) + n + 1, i the smallest from 1 to s with n + 1 at most spares[i], or s"
 unfoldable pub bitBlock : List ℕ → ℕ → ℕ → ℕ
 bitBlock sp s n = bucketsAt (bitPoint sp n 1 (pred s)) + n + 1
 
--- "Made blocks: 2^s + spares[s] + 1."
+-- "Made blocks: (buckets in all at point s) + spares[s] + 1."
 unfoldable pub made : List ℕ → ℕ → ℕ
 made sp s = bucketsAt s + getD sp s 0 + 1

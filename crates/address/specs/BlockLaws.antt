@@ -25,13 +25,13 @@ pub point-pos : (m : ℕ) → 1 ≤ point m
 point-pos m = point-is m .from
 
 -- the point of an overflow bit, looked for from i on in k more
-record PointIs (sp : List ℕ) (n i k r : ℕ) : Type 0 where
-  from : i ≤ r
-  upto : r ≤ i + k
-  below : n < getD sp (i + k) 0 → n < getD sp r 0
-  least : i < r → getD sp (pred r) 0 ≤ n
+pub record PointIs (sp : List ℕ) (n i k r : ℕ) : Type 0 where
+  pub from : i ≤ r
+  pub upto : r ≤ i + k
+  pub below : n < getD sp (i + k) 0 → n < getD sp r 0
+  pub least : i < r → getD sp (pred r) 0 ≤ n
 
-bitPoint-is : (sp : List ℕ) (n i k : ℕ) → PointIs sp n i k (bitPoint sp n i k)
+pub bitPoint-is : (sp : List ℕ) (n i k : ℕ) → PointIs sp n i k (bitPoint sp n i k)
 bitPoint-is sp n i zero =
     let e : i + 0 ≡ i = omega arith in
     record {

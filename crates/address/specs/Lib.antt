@@ -2,13 +2,17 @@ pub mod Limits
 pub mod Address
 pub mod Role
 pub mod BlockRole
+pub mod Before
+pub mod PhaseLaws
 pub mod OverLaws
 pub mod MaskLaws
 pub mod BucketLaws
 pub mod BlockLaws
 pub mod PointLaws
+pub mod DigitLaws
 pub mod LimitLaws
 pub mod LastSplitLaws
+pub mod BeforeLaws
 pub mod RoleLaws
 pub mod SparesLaws
 pub mod AgreeLaws

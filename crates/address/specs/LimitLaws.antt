@@ -5,17 +5,17 @@ use Prim.Native.Nat.{ℕ, _≤_, _<_}
 use native.Mathlib.Omega.{arith}
 use native.Mathlib.Decide.{decLt}
 use Rattle.address.specs.Address.{bucketsAt, point, made}
-use Rattle.address.specs.Limits.{maxBlocks, lastPoint}
+use Rattle.address.specs.Limits.{maxBlocks, pointBound}
 use Rattle.address.specs.OverLaws.{buckets-mono}
 
 -- ---- computed
 
-pub buckets-last : bucketsAt lastPoint ≡ maxBlocks
+pub buckets-last : bucketsAt pointBound ≡ maxBlocks
 unfolding bucketsAt
 buckets-last = refl
 
 -- past the buckets that 16 spares place
-pub buckets-sixteen : bucketsAt 16 ≡ 65536
+pub buckets-sixteen : bucketsAt 16 ≡ 1792
 unfolding bucketsAt
 buckets-sixteen = refl
 
@@ -24,10 +24,10 @@ max-spared = omega (arith, buckets-sixteen)
 
 -- ---- made blocks that a store has room for
 
-pub point-under : (sp : List ℕ) (s n : ℕ) → made sp s ≤ n → n ≤ maxBlocks → s < lastPoint
+pub point-under : (sp : List ℕ) (s n : ℕ) → made sp s ≤ n → n ≤ maxBlocks → s < pointBound
 unfolding made
-point-under sp s n room small = go (decLt s lastPoint)
+point-under sp s n room small = go (decLt s pointBound)
   where
-    go : Dec (s < lastPoint) → s < lastPoint
+    go : Dec (s < pointBound) → s < pointBound
     go (yes h) = h
-    go (no h) = absurd (omega (arith, buckets-last, buckets-mono lastPoint s (omega arith)))
+    go (no h) = absurd (omega (arith, buckets-last, buckets-mono pointBound s (omega arith)))

@@ -1,13 +1,14 @@
 -- The smallest number whose value by a growing function is above n; powers of two and the buckets in all at a point grow.
-use mathlib.Core.Path.{_≡_, refl}
+use mathlib.Core.Path.{_≡_, refl, ap}
 use mathlib.Core.Bool.{Bool, true, false}
-use Prim.Native.Nat.{ℕ, zero, suc, pred, _+_, _≤_, _<_}
+use Prim.Native.Nat.{ℕ, zero, suc, pred, _+_, _-_, _*_, _/_, _%_, _≤_, _<_}
 use native.Mathlib.Nat.{pow-succ'}
 use native.Mathlib.Omega.{arith}
 use native.Mathlib.Decide.{decLt}
 use lib.Dec.{ltb, T, ltb→lt, nltb→le}
 use lib.Pow.{pow-pos}
 use Rattle.address.specs.Address.{firstOver, power, bucketsAt}
+use Rattle.address.specs.PhaseLaws.{buckets-low, buckets-phase}
 
 abbrev pub Grows : (ℕ → ℕ) → Type 0
 Grows f = (k : ℕ) → f k < f (suc k)
@@ -61,11 +62,36 @@ module _ (f : ℕ → ℕ) (grows : Grows f) where
 pub power-grows : Grows power
 power-grows k = omega (arith, pow-succ' 2 k, pow-pos k)
 
--- ---- the laws of buckets in all at a point: everything that is used of them
+-- ---- the laws of buckets in all at a point: all that blocks and roles use of them
 
 pub buckets-grow : Grows bucketsAt
-unfolding bucketsAt
-buckets-grow k = power-grows k
+buckets-grow k = go (decLt k 9) (decLt k 10)
+  where
+    phase : (e p : ℕ) → p < 4 → k ≡ 10 + 4 * e + p → bucketsAt k < bucketsAt (suc k)
+    phase e zero h q =
+        omega (arith, buckets-phase k e 0 h q, buckets-phase (suc k) e 1 (omega arith) (omega arith), pow-pos (7 + e))
+    phase e (suc zero) h q =
+        omega (arith, buckets-phase k e 1 h q, buckets-phase (suc k) e 2 (omega arith) (omega arith), pow-pos (7 + e))
+    phase e (suc (suc zero)) h q =
+        omega (arith, buckets-phase k e 2 h q, buckets-phase (suc k) e 3 (omega arith) (omega arith), pow-pos (7 + e))
+    phase e (suc (suc (suc zero))) h q =
+        let s : 7 + suc e ≡ suc (7 + e) = omega arith in
+        omega (
+          arith,
+          buckets-phase k e 3 h q,
+          buckets-phase (suc k) (suc e) 0 (omega arith) (omega arith),
+          ap power s,
+          pow-succ' 2 (7 + e),
+          pow-pos (7 + e),
+        )
+    phase e (suc (suc (suc (suc p)))) h q = absurd (omega arith)
+
+    go : Dec (k < 9) → Dec (k < 10) → bucketsAt k < bucketsAt (suc k)
+    go (yes l) d = omega (arith, buckets-low k (omega arith), buckets-low (suc k) (omega arith), power-grows k)
+    go (no l) (yes g) =
+        let e : k ≡ 9 = omega arith in
+        rw e (omega (arith, buckets-low 9 (omega arith), buckets-phase 10 0 0 (omega arith) refl))
+    go (no l) (no g) = phase ((k - 10) / 4) ((k - 10) % 4) (omega arith) (omega arith)
 
 pub buckets-mono : (i j : ℕ) → i ≤ j → bucketsAt i ≤ bucketsAt j
 buckets-mono = grows-mono bucketsAt buckets-grow

@@ -39,3 +39,10 @@ pub point-bucketPoint : (m : ℕ) → 1 ≤ m → point m ≡ bucketPoint m
 point-bucketPoint m h =
     over-unique bucketsAt buckets-grow 1 m (point m) (bucketPoint m) (point-is m)
     (record { from = bucketPoint-pos m h; over = bucketPoint-is m .over; least = λ l. bucketPoint-is m .least (omega arith) })
+
+pub point-le : (m i : ℕ) → m < bucketsAt i → 1 ≤ i → point m ≤ i
+point-le m i h one = go (decLt 0 m)
+  where
+    go : Dec (0 < m) → point m ≤ i
+    go (yes l) = omega (arith, point-bucketPoint m l, bucketPoint-le m i h)
+    go (no l) = let z : m ≡ 0 = omega arith in omega (arith, ap point z, point-zero)

@@ -1,4 +1,4 @@
--- Whose block each block is, by the spares sp and the overflow point s (docs/RULES.md 4.4 to 4.6).
+-- Whose block each block is, by the spares sp and the overflow point s (docs/RULES.md 4.4 to 4.6, 5.2).
 use mathlib.Core.Bool.{Bool, true, false}
 use mathlib.Core.List.{List}
 use mathlib.Core.Option.{Option, none, some}

@@ -48,19 +48,30 @@ pub fn parent_of(bucket: u32) -> u32
     bucket - (1u32 << (31 - u32::leading_zeros(bucket)))
 }
 
-// Buckets in all at overflow point `i`.
+// Buckets in all at point `i`: up to 9 those of a group, from 10 on those of a phase, five to eight quarters of what
+// stood there before its group.
 pub fn buckets_at(i: u32) -> u32
     requires { ⌜ i ≤ 31 ⌝ }
     ensures { λ r. ⌜ r ≡ bucketsAt i ⌝ }
 {
-    1u32 << i
+    if i < 10 {
+        return 1u32 << i;
+    }
+    let phase = i - 10;
+    (5 + phase % 4) << (7 + phase / 4)
 }
 
-// The smallest g with `buckets_at(g)` above `bucket`.
+// The smallest point with `buckets_at` above `bucket`: leading zeros give its group, and from group 10 on the two bits
+// after the highest one bit the phase.
 pub fn point_of_bucket(bucket: u32) -> u32
     ensures { λ r. ⌜ r ≡ bucketPoint bucket ⌝ }
 {
-    32 - u32::leading_zeros(bucket)
+    let group = 32 - u32::leading_zeros(bucket);
+    if group < 10 {
+        return group;
+    }
+    let phase = (bucket >> (group - 3)) - 4;
+    10 + 4 * (group - 10) + phase
 }
 
 // The overflow point of max bucket `max`.

@@ -1,2 +1,2 @@
 // The largest N of a store.
-pub const MAX_BLOCKS: usize = 128;
+pub const MAX_BLOCKS: usize = 1024;

@@ -8,6 +8,7 @@ use native.Mathlib.Omega.{arith}
 use lib.ListN.{length, take, set}
 use lib.Seq.{take-suc-set, length-take-le}
 use Rattle.lists.specs.Block.{blocks, block}
+use Rattle.address.specs.Limits.{maxBlocks}
 use Rattle.store.specs.Store.{nextAt}
 use Rattle.store.specs.Flags.{noLink}
 use Rattle.image.specs.Decode.{follow}
@@ -18,9 +19,13 @@ module _ (s : List ℕ) where
   abbrev n : ℕ
   n = blocks s
 
-  pub begin : (first : ℕ) → first ∷ follow s (n + 1 - 1) first ≡ walk s first
+  pub begin : (bs : List ℕ) (first : ℕ) → 0 < length bs
+      → take 1 (set bs 0 first) ++ follow s (n + 1 - 1) first ≡ walk s first
   unfolding walk
-  begin first = let e : n + 1 - 1 ≡ n = omega arith in ap (λ (f : ℕ). first ∷ follow s f first) e
+  begin bs first h =
+      let e : n + 1 - 1 ≡ n = omega arith in
+      ap (λ (ks : List ℕ). ks ++ follow s (n + 1 - 1) first) (take-suc-set bs 0 first h)
+      ∙ ap (λ (f : ℕ). first ∷ follow s f first) e
 
   module _ (bs : List ℕ) (count last : ℕ) where
     -- the blocks so far, and those to come
@@ -40,20 +45,24 @@ module _ (s : List ℕ) where
         ∙ append-assoc (take count bs) (next ∷ []) (follow s (n + 1 - (count + 1)) next)
         ∙ ap (λ (ks : List ℕ). take count bs ++ ks) (sym rest)
 
-    module _ (first : ℕ) (fits : count ≤ length bs) (so-far : reached ≡ walk s first) where
-      done : follow s (n + 1 - count) last ≡ [] → Walked s first (record { count = count; blocks = bs })
+    module _ (first : ℕ) (room : length bs ≡ suc maxBlocks) (fits : count ≤ suc maxBlocks)
+        (so-far : reached ≡ walk s first) where
+      done : follow s (n + 1 - count) last ≡ [] → Walked s first bs count
       done e =
           let whole : take count bs ≡ walk s first =
           sym (append-nil (take count bs)) ∙ ap (λ (ks : List ℕ). take count bs ++ ks) (sym e) ∙ so-far in
-          record { blocks = whole; count = sym (length-take-le count bs fits) ∙ ap length whole }
+          record {
+            blocks = whole;
+            count = sym (length-take-le count bs (omega arith)) ∙ ap length whole;
+            room = room;
+          }
 
       -- no next block
-      pub ended : (next : ℕ) → next ≡ nextAt (block s last) → next ≡ noLink
-          → Walked s first (record { count = count; blocks = bs })
+      pub ended : (next : ℕ) → next ≡ nextAt (block s last) → next ≡ noLink → Walked s first bs count
       ended next e q = done (follow-none s (n + 1 - count) last (sym e ∙ q))
 
       -- no step left
-      pub spent : n < count → Walked s first (record { count = count; blocks = bs })
+      pub spent : n < count → Walked s first bs count
       spent h =
           let z : n + 1 - count ≡ 0 = omega arith in
           done (ap (λ (m : ℕ). follow s m last) z ∙ follow-done s last)

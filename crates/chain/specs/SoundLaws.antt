@@ -7,6 +7,7 @@ use Prim.Native.Nat.{ℕ, _≤_, _<_}
 use native.Mathlib.Omega.{arith}
 use borrow.Author.Tests.{eqb-true, ltb-true}
 use lib.Dec.{ltb}
+use lib.ListN.{take}
 use Rattle.lists.specs.Lists.{b2n, all, Each, upFrom}
 use Rattle.lists.specs.ListsLaws.{and-left, and-right}
 use Rattle.lists.specs.RunLaws.{all-get}
@@ -22,9 +23,8 @@ use Rattle.image.specs.Rules.{mapAt, bitAt, topAt, freeAt, bitOk, rule6}
 use Rattle.image.specs.SoundFieldsLaws.{SoundBytes}
 use Rattle.image.specs.SoundChainsLaws.{PageRead, chain-read}
 use Rattle.image.specs.SoundBitsLaws.{free-read}
-use Rattle.chain.specs.declared.Walk.{Walk}
 use Rattle.chain.specs.declared.Free.{Free}
-use Rattle.chain.specs.Walk.{walk, blocksOf, Sized, Walked}
+use Rattle.chain.specs.Walk.{walk, Sized, Walked}
 use Rattle.chain.specs.Within.{PagesOk, Within}
 use Rattle.chain.specs.WithinLaws.{walked-within}
 use Rattle.chain.specs.Bitmap.{freeAs, lowestFree, freeOr}
@@ -51,10 +51,10 @@ module _ (s : List ℕ) (g : SoundBytes s) where
         each-all (λ k. pageOk (block s k)) (walk s (blockOf s b))
         (each-map (PageRead s g) (λ k. pageOk (block s k) ≡ true) (λ k r. r .rule) (walk s (blockOf s b)) read)
 
-    pub sound-within : {w : Walk} → Walked s (blockOf s b) w → Within s (w .blocks) (w .count)
+    pub sound-within : {bs : List ℕ} {n : ℕ} → Walked s (blockOf s b) bs n → Within s bs n
     sound-within held = walked-within held sound-sized sound-inside
 
-    pub sound-walked : {w : Walk} → Walked s (blockOf s b) w → PagesOk s (blocksOf w)
+    pub sound-walked : {bs : List ℕ} {n : ℕ} → Walked s (blockOf s b) bs n → PagesOk s (take n bs)
     sound-walked held = rw (held .blocks) sound-pages
 
   -- ---- the lowest 0 bit

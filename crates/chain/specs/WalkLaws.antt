@@ -1,5 +1,5 @@
 -- The blocks of a walk: how many there are, and each one by the one before it.
-use mathlib.Core.Path.{_≡_, refl, ap}
+use mathlib.Core.Path.{_≡_, refl, sym, ap, _∙_, subst}
 use mathlib.Core.Logic.{_≢_}
 use mathlib.Core.Bool.{Bool, true, false}
 use mathlib.Core.List.{List, [], _∷_, _++_}
@@ -8,6 +8,7 @@ use native.Mathlib.Omega.{arith}
 use borrow.Author.Tests.{eq-eqb, ne-eqb, eqb-true, eqb-false, leb-true}
 use lib.Dec.{leb, eqb}
 use lib.ListN.{length, getD, take, drop-of-length-le}
+use Rattle.lists.specs.Lists.{Each}
 use Rattle.lists.specs.ListsLaws.{and-left, and-right}
 use Rattle.lists.specs.Block.{blocks, block}
 use Rattle.endian.specs.Endian.{u32At}
@@ -16,7 +17,7 @@ use Rattle.address.specs.Limits.{maxBlocks}
 use Rattle.store.specs.Flags.{noLink}
 use Rattle.image.specs.Decode.{follow, blockOf, trail}
 use Rattle.image.specs.Rules.{lengthOk}
-use Rattle.chain.specs.Walk.{walk, lastOf, Sized}
+use Rattle.chain.specs.Walk.{walk, lastOf, Sized, Bounded}
 
 module _ (s : List ℕ) where
   abbrev next : ℕ → ℕ
@@ -76,6 +77,13 @@ module _ (s : List ℕ) where
   way-last (ended e) h = e
   way-last (goes e w) h = way-last w (omega arith)
 
+  -- with one more step allowed, a way that did not use up its steps stays as it is
+  way-more : {f k : ℕ} {js : List ℕ} → Way f k js → length js < f → follow s (suc f) k ≡ js
+  way-more spent h = absurd (omega arith)
+  way-more (ended {f} {k} e) h = follow-none (suc f) k e
+  way-more (goes {f} {k} e w) h =
+      follow-next (suc f) k e ∙ ap (λ (js : List ℕ). next k ∷ js) (way-more w (omega arith))
+
   -- ---- the walk
 
   module _ (first : ℕ) where
@@ -105,6 +113,38 @@ module _ (s : List ℕ) where
     pub walk-last : length (walk s first) ≤ blocks s → nextAt (block s (lastOf (walk s first))) ≡ noLink
     unfolding walk
     walk-last h = way-last (way (blocks s) first) (omega arith)
+
+    -- the first block is the last, or the walk goes on from the next one
+    pub walk-end : nextAt (block s first) ≡ noLink → walk s first ≡ first ∷ []
+    unfolding walk
+    walk-end e = ap (λ (js : List ℕ). first ∷ js) (follow-none (blocks s) first e)
+
+    pub walk-more : nextAt (block s first) ≢ noLink → length (walk s first) ≤ blocks s
+        → walk s first ≡ first ∷ walk s (nextAt (block s first))
+    unfolding walk
+    walk-more ne short = go (blocks s) short
+      where
+        go : (n : ℕ) → length (first ∷ follow s n first) ≤ n
+            → first ∷ follow s n first ≡ first ∷ (next first ∷ follow s n (next first))
+        go zero h = absurd (omega arith)
+        go (suc f) h =
+            let e = follow-next f first ne in
+            let few : length (follow s f (next first)) < f = omega (arith, ap length e) in
+            ap (λ (js : List ℕ). first ∷ js)
+            (e ∙ ap (λ (js : List ℕ). next first ∷ js) (sym (way-more (way f (next first)) few)))
+
+    module _ (b : Bounded s first) where
+      pub bounded-first : first < blocks s
+      unfolding walk
+      bounded-first = b .inside .0
+
+      pub bounded-next : nextAt (block s first) ≢ noLink → Bounded s (nextAt (block s first))
+      bounded-next ne =
+          let e = walk-more ne (b .short) in
+          record {
+            inside = subst (Each (λ k. k < blocks s)) e (b .inside) .1;
+            short = omega (arith, ap length e, b .short);
+          }
 
   -- the walk from a bucket's block, as the rules have it
   pub walk-trail : (b : ℕ) → blockOf s b ∷ trail s b ≡ walk s (blockOf s b)

@@ -3,10 +3,10 @@ use mathlib.Core.Path.{_≡_, refl, sym, ap, ap₂, _∙_}
 use mathlib.Core.Bool.{Bool, true, false}
 use mathlib.Core.List.{List, [], _∷_, _++_}
 use mathlib.Core.Option.{none, some}
-use Prim.Native.Nat.{ℕ, suc, pred, _+_, _-_, _*_, _≤_, _<_}
+use Prim.Native.Nat.{ℕ, suc, _+_, _*_, _≤_, _<_}
 use native.Mathlib.Numerals.{add-one}
 use native.Mathlib.Omega.{arith}
-use lib.ListN.{length, getD, take, drop, drop-of-length-le}
+use lib.ListN.{length, getD, take, drop, replicate, drop-of-length-le, length-replicate}
 use lib.Seq.{getD-take, drop-cons}
 use Rattle.lists.specs.Lists.{find, bind, Each}
 use Rattle.lists.specs.Block.{blocks, block}
@@ -16,25 +16,28 @@ use Rattle.page.specs.Rule.{pageOk}
 use Rattle.page.specs.Allowed.{Sorted}
 use Rattle.page.specs.RuleLaws.{pageOk-sorted}
 use Rattle.address.specs.Limits.{maxBlocks}
-use Rattle.chain.specs.declared.Walk.{Walk}
-use Rattle.chain.specs.Walk.{walk, lastOf, Sized, Walked}
+use Rattle.chain.specs.Walk.{walk, Sized, Walked}
 use Rattle.chain.specs.WalkLaws.{walk-some, walk-few}
 use Rattle.chain.specs.Within.{entriesOn, PagesOk, Within, PageOn}
 use Rattle.chain.specs.FindLaws.{find-here, find-later, find-end}
 
--- ---- a Walk that holds a walk
+-- ---- an array that holds a walk
 
-module _ {s : List ℕ} {first : ℕ} {w : Walk} (held : Walked s first w) where
-  pub walked-some : 1 ≤ w .count
+-- as it is made, it has room for any
+pub zero-room : {bs : List ℕ} → bs ≡ replicate (suc maxBlocks) 0 → length bs ≡ suc maxBlocks
+zero-room made = ap length made ∙ length-replicate {A = ℕ} (suc maxBlocks) 0
+
+module _ {s : List ℕ} {first : ℕ} {bs : List ℕ} {n : ℕ} (held : Walked s first bs n) where
+  pub walked-some : 1 ≤ n
   walked-some = omega (arith, held .count, walk-some s first)
 
-  pub walked-few : Sized s → w .count ≤ suc maxBlocks
+  pub walked-few : Sized s → n ≤ suc maxBlocks
   walked-few sized = omega (arith, held .count, walk-few s first, sized .few)
 
-  pub walked-getD : (i : ℕ) → i < w .count → getD (w .blocks) i 0 ≡ getD (walk s first) i 0
-  walked-getD i h = sym (getD-take (w .count) (w .blocks) i 0 h) ∙ ap (λ (ks : List ℕ). getD ks i 0) (held .blocks)
+  pub walked-getD : (i : ℕ) → i < n → getD bs i 0 ≡ getD (walk s first) i 0
+  walked-getD i h = sym (getD-take n bs i 0 h) ∙ ap (λ (ks : List ℕ). getD ks i 0) (held .blocks)
 
-  pub walked-within : Sized s → Each (λ k. k < blocks s) (walk s first) → Within s (w .blocks) (w .count)
+  pub walked-within : Sized s → Each (λ k. k < blocks s) (walk s first) → Within s bs n
   walked-within sized inside =
       record {
         few = walked-few sized;
@@ -102,12 +105,6 @@ module _ {s bs : List ℕ} {n : ℕ} (ok : Within s bs n) (i : ℕ) where
 
   pub rest-done : n ≤ i → bind (drop i (take n bs)) (entriesOn s) ≡ []
   rest-done past = ap (λ (ks : List ℕ). bind ks (entriesOn s)) (walk-done past)
-
--- the last block of the walk is the last that the array holds
-pub within-last : {s bs : List ℕ} {n : ℕ} → Within s bs n → 1 ≤ n → lastOf (take n bs) ≡ getD bs (n - 1) 0
-within-last {s} {bs} {n} ok least =
-    let e : pred (length (take n bs)) ≡ n - 1 = omega (arith, ok .count) in
-    ap (λ (j : ℕ). getD (take n bs) j 0) e ∙ getD-take n bs (n - 1) 0 (omega arith)
 
 -- a walk of no block
 pub within-none : (s bs : List ℕ) → Within s bs 0

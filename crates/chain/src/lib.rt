@@ -6,14 +6,6 @@ pub mod counting; // counting.rt: the number of pairs of a hash code
 pub mod along; // along.rt: the same over the walks of a hash code's own and old chain
 pub mod bitmap; // bitmap.rt: the lowest free bit; whether all bits from one on are 1
 
-use address::limits::MAX_BLOCKS;
-
-// The blocks of a chain, in order: the first `count` of `blocks`.
-pub struct Walk {
-    pub count: usize,
-    pub blocks: [u32; MAX_BLOCKS + 1],
-}
-
 // The slot of a pair in a page.
 pub enum Slot {
     At(u32),

@@ -1,12 +1,13 @@
-// The blocks of a chain: the one loop that follows next fields, and the page at an index of a walk.
-use crate::Walk;
+// The blocks of a chain, as the next fields lead, and the page at an index of a walk.
 use address::limits::MAX_BLOCKS;
 use store::block_at;
 use store::flags::NO_LINK;
 use store::next_at;
 ghost use mathlib.Core.Path.{_≡_};
-ghost use Prim.Native.Nat.{_<_};
+ghost use Prim.Native.Nat.{suc, _<_};
+ghost use lib.ListN.{length, replicate};
 ghost use Rattle.lists.specs.Block.{block};
+ghost use Rattle.address.specs.Limits.{maxBlocks};
 ghost use Rattle.store.specs.Store.{nextAt};
 ghost use Rattle.chain.specs.Walk.{Sized, Walked};
 ghost use Rattle.chain.specs.Within.{Within, PageOn};
@@ -24,13 +25,20 @@ pub fn next_block(store: &[u8], k: u32) -> u32
     }
 }
 
-// The blocks from `first` on, as the next fields lead. A ring is walked until N steps are done.
-pub fn walk_chain(store: &[u8], first: u32) -> Walk
-    requires { ⌜ Sized (now store) ⌝ }
-    ensures { λ r. ⌜ Walked (now (store .entry)) first r ⌝ }
+// Room for a walk.
+pub fn zero_walk() -> [u32; MAX_BLOCKS + 1]
+    ensures { λ r. ⌜ r ≡ replicate (suc maxBlocks) 0 ⌝ }
+{
+    [0u32; MAX_BLOCKS + 1]
+}
+
+// Puts the blocks from `first` on, as the next fields lead, into `blocks`, and gives their number. A ring is walked
+// until N steps are done.
+pub fn walk_chain(store: &[u8], blocks: &mut [u32; MAX_BLOCKS + 1], first: u32) -> usize
+    requires { ⌜ (Sized (now store)) × (length (now blocks) ≡ suc maxBlocks) ⌝ }
+    ensures { λ r. ⌜ Walked (now (store .entry)) first (now (blocks .exit)) r ⌝ }
 {
     let n = store.len() / 512;
-    let mut blocks = [0u32; MAX_BLOCKS + 1];
     blocks[0] = first;
     let mut last = first;
     let mut count = 1;
@@ -43,7 +51,7 @@ pub fn walk_chain(store: &[u8], first: u32) -> Walk
         last = next;
         count += 1;
     }
-    Walk { count, blocks }
+    count
 }
 
 // The page at index `i` of a walk.

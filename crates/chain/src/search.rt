@@ -1,4 +1,4 @@
-// Searches along a walk.
+// A pair along a walk; the first page with room, as the next fields lead.
 use crate::Found;
 use crate::Room;
 use crate::Slot;
@@ -9,11 +9,14 @@ use page::order::is_same;
 use page::search::find_place;
 use page::slots::count_entries;
 use page::slots::get_entry;
+use store::block_at;
+use store::flags::NO_LINK;
+use store::next_at;
 ghost use mathlib.Core.Path.{_≡_};
-ghost use Prim.Native.Nat.{_≤_};
 ghost use lib.ListN.{take};
 ghost use Rattle.page.specs.Entries.{entriesOf};
 ghost use Rattle.page.specs.Allowed.{Sorted};
+ghost use Rattle.chain.specs.Walk.{walk, Bounded};
 ghost use Rattle.chain.specs.Search.{slotIn, findIn, roomIn};
 ghost use Rattle.chain.specs.Within.{PagesOk, Within};
 
@@ -50,19 +53,21 @@ pub fn find_pair(store: &[u8], blocks: &[u32; MAX_BLOCKS + 1], count: usize, pai
     Found::Nothing
 }
 
-// The first page of the walk with fewer than 40 entries, else the walk's last block.
-pub fn first_room(store: &[u8], blocks: &[u32; MAX_BLOCKS + 1], count: usize) -> Room
-    requires { ⌜ (Within (now store) (now blocks) count) × (1 ≤ count) ⌝ }
-    ensures { λ r. ⌜ r ≡ roomIn (now (store .entry)) (take count (now (blocks .entry))) ⌝ }
+// The first page with fewer than 40 entries in the chain from `first` on, else the chain's last block.
+pub fn first_room(store: &[u8], first: u32) -> Room
+    requires { ⌜ Bounded (now store) first ⌝ }
+    ensures { λ r. ⌜ r ≡ roomIn (now (store .entry)) (walk (now (store .entry)) first) ⌝ }
 {
-    let mut i = 0;
-    while i < count {
-        if count_entries(page_on(store, blocks, count, i)) < 40 {
-            return Room::Page { block: blocks[i] };
+    let mut block = first;
+    loop {
+        let page = block_at(store, block as usize);
+        if count_entries(page) < 40 {
+            return Room::Page { block };
         }
-        i += 1;
-    }
-    Room::Full {
-        last: blocks[count - 1],
+        let next = next_at(page);
+        if next == NO_LINK {
+            return Room::Full { last: block };
+        }
+        block = next;
     }
 }

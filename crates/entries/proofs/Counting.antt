@@ -3,7 +3,7 @@ use mathlib.Core.Path.{_≡_, refl, sym, ap, ap₂, _∙_}
 use mathlib.Core.List.{List, map}
 use Prim.Native.Nat.{ℕ, suc, _+_, _-_, _≤_, _<_}
 use native.Mathlib.Omega.{arith}
-use lib.ListN.{length, length-append, length-map}
+use lib.ListN.{length, take, length-append, length-map}
 use Rattle.lists.specs.Lists.{tally, keep, bind, upFrom}
 use Rattle.lists.specs.ListsLaws.{tally-cong, length-keep}
 use Rattle.lists.specs.RunLaws.{length-run}
@@ -13,8 +13,7 @@ use Rattle.model.specs.Index.{Job, idle, copying, clearing, entriesAt, oldBucke
 use Rattle.model.specs.Calls.{phaseIn}
 use Rattle.model.specs.Held.{livesIn, count}
 use Rattle.image.specs.Decode.{maxAt, readChain, blockOf, decode}
-use Rattle.chain.specs.declared.Walk.{Walk}
-use Rattle.chain.specs.Walk.{blocksOf, Walked}
+use Rattle.chain.specs.Walk.{Walked}
 use Rattle.chain.specs.Within.{entriesOn}
 use Rattle.reader.specs.Job.{phaseAt}
 use Rattle.entries.specs.Counts.{liveIn}
@@ -52,15 +51,19 @@ module _ (s : List ℕ) where
   unfolding decode
   lives phase p b e = go (decode s .job) ∙ ap (λ (q : Phase). liveIn q (maxAt s) b e) (sym p)
     where
-      go : (j : Job) → livesIn j (decode s) b e ≡ liveIn (phaseIn j (oldBucket (decode s)) (newBucket (decode s))) (maxAt s) b e
+      go : (j : Job)
+          → livesIn j (decode s) b e
+          ≡ liveIn (phaseIn j (oldBucket (decode s)) (newBucket (decode s))) (maxAt s) b e
       go idle = refl
       go copying = refl
       go clearing = refl
 
-  -- those of a bucket's chain, counted along its Walk
-  pub live-walk : (phase : Phase) → phase ≡ phaseAt s → (b : ℕ) → b ≤ maxAt s → (w : Walk) → Walked s (blockOf s b) w
-      → (max : ℕ) → max ≡ maxAt s → tally (liveIn phase max b) (bind (blocksOf w) (entriesOn s)) ≡ length (liveOf b)
-  live-walk phase p b made w held max e =
+  -- those of a bucket's chain, counted along its walk
+  pub live-walk : (phase : Phase) → phase ≡ phaseAt s → (b : ℕ) → b ≤ maxAt s → {bs : List ℕ} {n : ℕ}
+      → Walked s (blockOf s b) bs n → (max : ℕ) → max ≡ maxAt s
+      → tally (liveIn phase max b) (bind (take n bs) (entriesOn s)) ≡ length (liveOf b)
+  live-walk phase p b made held max e =
       ap₂ (λ (n : ℕ) (es : List Entry). tally (liveIn phase n b) es) e (walk-entries b made held)
-      ∙ sym (tally-cong (livesIn (decode s .job) (decode s) b) (liveIn phase (maxAt s) b) (entriesAt (decode s) b) (lives phase p b))
+      ∙ sym (tally-cong (livesIn (decode s .job) (decode s) b) (liveIn phase (maxAt s) b) (entriesAt (decode s) b)
+      (lives phase p b))
       ∙ sym (length-keep (livesIn (decode s .job) (decode s) b) (entriesAt (decode s) b))

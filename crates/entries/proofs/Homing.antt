@@ -4,6 +4,7 @@ use mathlib.Core.Bool.{Bool, _&&_}
 use mathlib.Core.List.{List}
 use Prim.Native.Nat.{ℕ, _≤_}
 use native.Mathlib.Omega.{arith}
+use lib.ListN.{take}
 use Rattle.lists.specs.Lists.{all, bind}
 use Rattle.address.specs.Address.{bucketOf, splitFrom}
 use Rattle.address.specs.MaskLaws.{split-lt}
@@ -14,13 +15,12 @@ use Rattle.model.specs.Calls.{phaseIn}
 use Rattle.image.specs.declared.Meta.{Meta}
 use Rattle.image.specs.Decode.{maxAt, blockOf, decode}
 use Rattle.image.specs.Rules.{placed, copied, buckets, rule7}
-use Rattle.chain.specs.declared.Walk.{Walk}
-use Rattle.chain.specs.Walk.{blocksOf, Walked}
+use Rattle.chain.specs.Walk.{Walked}
 use Rattle.chain.specs.Within.{entriesOn}
 use Rattle.reader.specs.Known.{Known2}
 use Rattle.reader.specs.KnownLaws.{max-pos}
 use Rattle.reader.specs.Job.{phaseAt}
-use Rattle.entries.specs.Tests.{standsIn, markedBy, marksIn}
+use Rattle.entries.specs.Tests.{standsIn, marksIn}
 use Rattle.entries.specs.WalkedLaws.{walk-entries}
 
 module _ (s : List ℕ) where
@@ -47,10 +47,11 @@ module _ (s : List ℕ) where
       go copying = refl
       go clearing = refl
 
-  -- what the test of a bucket's Walk tells
-  pub walk-homed : (phase : Phase) (b : ℕ) → b ≤ maxAt s → (w : Walk) → Walked s (blockOf s b) w → (max : ℕ) → max ≡ maxAt s
-      → all (λ e. standsIn phase (bucketOf max (e .pair .hash)) b) (bind (blocksOf w) (entriesOn s)) ≡ homed phase b
-  walk-homed phase b made w held max e =
+  -- what the test of a bucket's walk tells
+  pub walk-homed : (phase : Phase) (b : ℕ) → b ≤ maxAt s → {bs : List ℕ} {n : ℕ} → Walked s (blockOf s b) bs n
+      → (max : ℕ) → max ≡ maxAt s
+      → all (λ e. standsIn phase (bucketOf max (e .pair .hash)) b) (bind (take n bs) (entriesOn s)) ≡ homed phase b
+  walk-homed phase b made held max e =
       ap₂ (λ (n : ℕ) (es : List Entry). all (λ e. standsIn phase (bucketOf n (e .pair .hash)) b) es) e
       (walk-entries b made held)
 
@@ -72,11 +73,3 @@ module _ (s : List ℕ) where
           let o : splitFrom (maxAt s) ≡ old = cc in
           let n : maxAt s ≡ new = cc in
           record { old-made = omega (arith, o, split-lt (maxAt s) (max-pos k)); new-made = omega (arith, n) }
-
-  -- the marks of the new chain's entries, by the two Walks
-  pub walks-marked : (old new : ℕ) → old ≤ maxAt s → new ≤ maxAt s
-      → (o n : Walk) → Walked s (blockOf s old) o → Walked s (blockOf s new) n
-      → all (markedBy (bind (blocksOf o) (entriesOn s))) (bind (blocksOf n) (entriesOn s))
-      ≡ all (markedBy (entriesAt (decode s) old)) (entriesAt (decode s) new)
-  walks-marked old new old-made new-made o n ho hn =
-      ap₂ (λ (es fs : List Entry). all (markedBy es) fs) (walk-entries old old-made ho) (walk-entries new new-made hn)

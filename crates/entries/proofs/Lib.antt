@@ -1,5 +1,4 @@
 pub mod Walking
-pub mod Alone
 pub mod Distinct
 pub mod Marking
 pub mod Placing

@@ -3,6 +3,7 @@ use address::bucket_of;
 use address::last_split;
 use address::limits::MAX_BLOCKS;
 use chain::links::page_on;
+use chain::links::zero_walk;
 use image::Meta;
 use model::Phase;
 use page::Entry;
@@ -100,12 +101,12 @@ fn count_live(store: &[u8], m: Meta) -> u32
 {
     let max = m.max;
     let phase = read_job(store, m);
+    let mut blocks = zero_walk();
     let mut live = 0;
     let mut b = 0;
     while b <= max {
-        let walk = walk_bucket(store, m, b);
-        let blocks = walk.blocks;
-        live += count_walk(store, &blocks, walk.count, phase, max, b);
+        let count = walk_bucket(store, &mut blocks, m, b);
+        live += count_walk(store, &blocks, count, phase, max, b);
         b += 1;
     }
     live

@@ -8,6 +8,7 @@ use merge::heads::is_head_moved;
 use merge::heads::take_first;
 use merge::heads::zero_keys;
 use merge::heads::zero_tails;
+use merge::heads::zero_tree;
 ghost use mathlib.Core.Path.{_≡_};
 ghost use Prim.Native.Nat.{_%_, _≤_, _<_};
 ghost use lib.ListN.{getD};
@@ -23,7 +24,7 @@ fn pass_before(
     pages: &[u32; MAX_PAGES],
     keys: &mut [u64; MAX_PAGES],
     tails: &mut [u32; MAX_PAGES],
-    tree: &mut [usize; 2 * MAX_PAGES],
+    tree: &mut [u16; 2 * MAX_PAGES],
     n: usize,
     key: u64,
     offset: u32,
@@ -43,7 +44,7 @@ fn is_next_moved(
     store: &[u8],
     pages: &[u32; MAX_PAGES],
     tails: &[u32; MAX_PAGES],
-    tree: &[usize; 2 * MAX_PAGES],
+    tree: &[u16; 2 * MAX_PAGES],
     n: usize,
 ) -> bool
     requires { ⌜ (Pages (now store) (now pages) n) × (getD (now tree) 1 0 < n) ⌝ }
@@ -52,7 +53,7 @@ fn is_next_moved(
         (getD (now (pages .entry)) (getD (now (tree .entry)) 1 0) 0)
         (getD (now (tails .entry)) (getD (now (tree .entry)) 1 0) 0) .moved ⌝ }
 {
-    let j = tree[1];
+    let j = tree[1] as usize;
     is_head_moved(store, pages[j], tails[j])
 }
 
@@ -71,12 +72,14 @@ pub fn all_marked(
 {
     let mut new_keys = zero_keys();
     let mut new_tails = zero_tails();
-    let mut new_tree = start_all(store, new, &mut new_keys, &mut new_tails, n);
+    let mut new_tree = zero_tree();
+    start_all(store, new, &mut new_keys, &mut new_tails, &mut new_tree, n);
     let mut keys = zero_keys();
     let mut tails = zero_tails();
-    let mut tree = start_all(store, old, &mut keys, &mut tails, k);
+    let mut tree = zero_tree();
+    start_all(store, old, &mut keys, &mut tails, &mut tree, k);
     loop {
-        let j = new_tree[1];
+        let j = new_tree[1] as usize;
         let key = new_keys[j];
         if key == NO_KEY {
             return true;

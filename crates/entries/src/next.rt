@@ -1,14 +1,14 @@
-// A merge of all entries of pages: its start, and its next entry held against a pair by the pair's two numbers, its key
-// and its offset.
+// A merge of all entries of pages: its start, and its next entry held against a pair by the pair's two numbers, its
+// key and its offset.
 use merge::MAX_PAGES;
 use merge::heads::start_merge;
 use page::Pair;
 ghost use mathlib.Core.Path.{_≡_};
 ghost use Prim.Native.Nat.{_<_};
-ghost use lib.ListN.{length, getD};
+ghost use lib.ListN.{getD};
 ghost use Rattle.merge.specs.Tree.{maxPages};
 ghost use Rattle.merge.specs.Merge.{joined};
-ghost use Rattle.merge.specs.Heads.{pageAt, Pages, leftOf, Merging};
+ghost use Rattle.merge.specs.Heads.{pageAt, Pages, leftOf, Lent, Merging};
 ghost use Rattle.entries.specs.Next.{nextIs, nextBefore};
 
 // Begins a merge of all entries of the pages.
@@ -17,12 +17,12 @@ pub fn start_all(
     pages: &[u32; MAX_PAGES],
     keys: &mut [u64; MAX_PAGES],
     tails: &mut [u32; MAX_PAGES],
+    tree: &mut [u16; 2 * MAX_PAGES],
     n: usize,
-) -> [usize; 2 * MAX_PAGES]
-    requires { ⌜ Pages (now store) (now pages) n ⌝ }
-    requires { ⌜ (length (now keys) ≡ maxPages) × (length (now tails) ≡ maxPages) ⌝ }
-    ensures { λ r. ⌜ (Merging (now (store .entry)) (now (pages .entry)) n (now (keys .exit)) (now (tails .exit)) r)
-        × (joined (leftOf (now (store .entry)) (now (pages .entry)) (now (tails .exit))) 0 n
+)
+    requires { ⌜ (Pages (now store) (now pages) n) × (Lent (now keys) (now tails) (now tree)) ⌝ }
+    ensures { λ _. ⌜ (Merging (now (store .entry)) (now (pages .entry)) n (now (keys .exit)) (now (tails .exit))
+        (now (tree .exit))) × (joined (leftOf (now (store .entry)) (now (pages .entry)) (now (tails .exit))) 0 n
         ≡ joined (pageAt (now (store .entry)) (now (pages .entry))) 0 n) ⌝ }
 {
     start_merge(
@@ -30,27 +30,28 @@ pub fn start_all(
         pages,
         keys,
         tails,
+        tree,
         n,
         Pair {
             hash: 0,
             block: 0,
             offset: 0,
         },
-    )
+    );
 }
 
 // Whether the next entry has the pair.
 pub fn is_next(
     keys: &[u64; MAX_PAGES],
     tails: &[u32; MAX_PAGES],
-    tree: &[usize; 2 * MAX_PAGES],
+    tree: &[u16; 2 * MAX_PAGES],
     key: u64,
     offset: u32,
 ) -> bool
     requires { ⌜ getD (now tree) 1 0 < maxPages ⌝ }
     ensures { λ r. ⌜ r ≡ nextIs (now (keys .entry)) (now (tails .entry)) (now (tree .entry)) key offset ⌝ }
 {
-    let j = tree[1];
+    let j = tree[1] as usize;
     keys[j] == key && tails[j] / 64 == offset
 }
 
@@ -58,14 +59,14 @@ pub fn is_next(
 pub fn is_next_before(
     keys: &[u64; MAX_PAGES],
     tails: &[u32; MAX_PAGES],
-    tree: &[usize; 2 * MAX_PAGES],
+    tree: &[u16; 2 * MAX_PAGES],
     key: u64,
     offset: u32,
 ) -> bool
     requires { ⌜ getD (now tree) 1 0 < maxPages ⌝ }
     ensures { λ r. ⌜ r ≡ nextBefore (now (keys .entry)) (now (tails .entry)) (now (tree .entry)) key offset ⌝ }
 {
-    let j = tree[1];
+    let j = tree[1] as usize;
     let next = keys[j];
     if next == key {
         return tails[j] / 64 < offset;

@@ -3,8 +3,8 @@ use crate::marks::all_marked;
 use address::bucket_of;
 use address::limits::MAX_BLOCKS;
 use chain::links::page_on;
+use chain::links::zero_walk;
 use image::Meta;
-use merge::walks::join_walks;
 use model::Phase;
 use page::slots::count_entries;
 use page::slots::get_entry;
@@ -80,25 +80,6 @@ fn check_walk_places(
     true
 }
 
-// Whether each entry of the walk `copies` is marked moved exactly if the walk `originals` has its pair.
-fn check_walk_marks(
-    store: &[u8],
-    copies: &[u32; MAX_BLOCKS + 1],
-    originals: &[u32; MAX_BLOCKS + 1],
-    count: usize,
-    total: usize,
-) -> bool
-    requires { ⌜ (Within (now store) (now copies) count) × (PagesOk (now store) (take count (now copies))) ⌝ }
-    requires { ⌜ (Within (now store) (now originals) total) × (PagesOk (now store) (take total (now originals))) ⌝ }
-    requires { ⌜ (1 ≤ count) × (1 ≤ total) ⌝ }
-    ensures { λ r. ⌜ r ≡ all (markedBy (bind (take total (now (originals .entry))) (entriesOn (now (store .entry)))))
-        (bind (take count (now (copies .entry))) (entriesOn (now (store .entry)))) ⌝ }
-{
-    let new = join_walks(copies, count, copies, 0);
-    let old = join_walks(originals, total, originals, 0);
-    all_marked(store, &new, &old, count, total)
-}
-
 // Whether each entry of each chain may stand there.
 fn check_chains(store: &[u8], m: Meta, phase: Phase) -> bool
     requires { ⌜ Known5 (now store) m ⌝ }
@@ -106,11 +87,11 @@ fn check_chains(store: &[u8], m: Meta, phase: Phase) -> bool
         (entriesAt (decode (now (store .entry))) b)) (buckets (now (store .entry))) ⌝ }
 {
     let max = m.max;
+    let mut blocks = zero_walk();
     let mut b = 0;
     while b <= max {
-        let walk = walk_bucket(store, m, b);
-        let blocks = walk.blocks;
-        if !check_walk_places(store, &blocks, walk.count, max, phase, b) {
+        let count = walk_bucket(store, &mut blocks, m, b);
+        if !check_walk_places(store, &blocks, count, max, phase, b) {
             return false;
         }
         b += 1;
@@ -124,11 +105,11 @@ fn check_copies(store: &[u8], m: Meta, new: u32, old: u32) -> bool
     ensures { λ r. ⌜ r ≡ all (markedBy (entriesAt (decode (now (store .entry))) old))
         (entriesAt (decode (now (store .entry))) new) ⌝ }
 {
-    let to = walk_bucket(store, m, new);
-    let from = walk_bucket(store, m, old);
-    let copies = to.blocks;
-    let originals = from.blocks;
-    check_walk_marks(store, &copies, &originals, to.count, from.count)
+    let mut copies = zero_walk();
+    let mut originals = zero_walk();
+    let n = walk_bucket(store, &mut copies, m, new);
+    let k = walk_bucket(store, &mut originals, m, old);
+    all_marked(store, &copies, &originals, n, k)
 }
 
 // While copying, whether each entry of the new chain is marked moved exactly if the old chain has its pair.

@@ -7,7 +7,7 @@ use Prim.Native.Nat.{ℕ, zero, suc, pred, _+_, _-_, _*_, _^_, _≤_, _<_}
 use native.Mathlib.Decide.{decLt}
 use native.Mathlib.Omega.{arith}
 use lib.Dec.{eqb, ltb}
-use lib.ListN.{length, getD, replicate, length-append, length-replicate, length-map}
+use lib.ListN.{length, getD, replicate, length-append, length-replicate, length-map, List·getD-eq-default}
 use lib.Pow.{pow-mono}
 use Rattle.lists.specs.Lists.{bind}
 use Rattle.lists.specs.ListsLaws.{each-append}
@@ -31,6 +31,22 @@ pub bits-part : (cs : List Chain) (k : ℕ) → k < length cs → length (getD c
 bits-part [] k h = absurd (omega arith)
 bits-part (c ∷ cs) zero h = simp length-append (omega (arith, length-map (c .more) (λ (g : Page). g .bit)))
 bits-part (c ∷ cs) (suc k) h = simp length-append (omega (arith, bits-part cs k (omega arith)))
+
+-- of any chain, and of two: their overflow pages are different ones
+pub one-part : (cs : List Chain) (i : ℕ) → length (getD cs i noChain .more) ≤ length (bind cs bitsOf)
+one-part cs i = go (decLt i (length cs))
+  where
+    go : Dec (i < length cs) → length (getD cs i noChain .more) ≤ length (bind cs bitsOf)
+    go (yes h) = bits-part cs i h
+    go (no h) = rw (List·getD-eq-default cs noChain (let q : length cs ≤ i = omega arith in q)) (omega arith)
+
+pub two-parts : (cs : List Chain) (i j : ℕ) → i < j
+    → length (getD cs i noChain .more) + length (getD cs j noChain .more) ≤ length (bind cs bitsOf)
+two-parts [] i j h = omega arith
+two-parts (c ∷ cs) i zero h = absurd (omega arith)
+two-parts (c ∷ cs) zero (suc j) h =
+    simp length-append (omega (arith, one-part cs j, length-map (c .more) (λ (g : Page). g .bit)))
+two-parts (c ∷ cs) (suc i) (suc j) h = simp length-append (omega (arith, two-parts cs i j (omega arith)))
 
 -- ---- buckets and masks
 

@@ -26,4 +26,7 @@ pub mod SoundChainsLaws
 pub mod SoundBitsLaws
 pub mod SoundImagesLaws
 pub mod SoundIndexLaws
+pub mod Before
+pub mod BeforeLaws
+pub mod BeforeTheorem
 pub mod BridgeTheorem

@@ -27,7 +27,7 @@ use Rattle.store.specs.Flags.{noLink}
 use Rattle.image.specs.Decode.{bitOf, metaAt, maxAt, pointAt, sparesAt, roleAt, blockOf, trail, newFlags}
 use Rattle.image.specs.Decode.{oldFlags, decode}
 
--- "store not a multiple of 512 bytes, or N outside 4..128"
+-- "store not a multiple of 512 bytes, or N outside 4..1024"
 unfoldable pub lengthOk : List ℕ → Bool
 lengthOk s = eqb (length s % 512) 0 && sizeOk (blocks s)
 

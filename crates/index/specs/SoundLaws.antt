@@ -27,6 +27,7 @@ use Rattle.plan.specs.declared.Advance.{Advance}
 use Rattle.plan.specs.Plan.{Settles, accepted, declined, Advances, advanced, halted}
 use Rattle.plan.specs.PlanLaws.{fits-none}
 use Rattle.view.specs.ReadsLaws.{reads-laid, reads-size, reads-whole, encode-reads}
+use Rattle.split.specs.declared.Position.{Position}
 use Rattle.split.specs.Seek.{From, Leads}
 use Rattle.index.specs.Sound.{Sound, Stepped, moved, stayed, workedBy}
 
@@ -66,9 +67,10 @@ module _ {s : List ℕ} {c : Change} {images : List ℕ} where
       sound-encode y w = let q = encode-reads y w in record { wf = q .wf; bytes = q .bytes; meta = refl }
   advances-stepped r (halted n) e t f = stayed (ap stepOn e) (f ∙ finished-none s c images n)
 
-  -- the place that it gives is one to search from in the store that it leaves
+  -- the position that it gives is one to search from in the store that it leaves
   pub advances-from : Sound s → {q : Step Index} {a : Advance} → Advances s c images q a → step (decode s) ≡ q
-      → (t : List ℕ) → t ≡ finished s c images → (k : ℕ) → Leads (decode s) k → a ≡ Advance.Next → From (decode t) k
+      → (t : List ℕ) → t ≡ finished s c images → (k : Position) → Leads (decode s) k → a ≡ Advance.Next
+      → From (decode t) k
   advances-from r (advanced {y} p) e t f k g n =
       subst (λ (x : Index). From x k)
       (sym (ap decode (f ∙ p .makes) ∙ decode-encode y (step-wf (decode s) y (r .wf) e))) (g y e)

@@ -10,6 +10,7 @@ pub mod work; // work.rt: the steps of splits
 use model::Refusal;
 use page::Pair;
 use plan::Advance;
+use split::Position;
 
 // What the tests before a call find: a sound store, or the refusal.
 enum Test {
@@ -23,8 +24,8 @@ enum PairTest {
     Failed(Refusal),
 }
 
-// What a step came to, and the place in the old chain that the next one may search from.
+// What a step came to, and the position in the old chain that the next one may search from.
 struct Stride {
     advance: Advance,
-    place: usize,
+    next: Position,
 }

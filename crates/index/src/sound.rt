@@ -6,6 +6,7 @@ use meta::read_meta;
 use model::Answer;
 use page::Pair;
 use removal::plan_remove;
+use split::Position;
 use split::step::plan_step;
 use store::block_at;
 use store::finish;
@@ -51,21 +52,19 @@ pub fn remove_sound(store: &mut [u8], pair: Pair) -> Answer
     plan.answer
 }
 
-// One step; where it stops, the store stays. A job's search begins at the place `from`. What `images` held does not
+// One step; where it stops, the store stays. A job's search begins at the position `from`. What `images` held does not
 // matter.
-pub fn step_sound(store: &mut [u8], images: &mut [u8], from: usize) -> Stride
+pub fn step_sound(store: &mut [u8], images: &mut [u8], from: Position) -> Stride
     requires { ⌜ (Sound (now store)) × (From (decode (now store)) from) ⌝ }
     requires { ⌜ length (now images) ≡ 4096 ⌝ }
     ensures { λ r. ⌜ Stepped (now (store .entry)) (r .advance) (now (store .exit)) ⌝ }
-    ensures { λ r. ⌜ (r .advance ≡ Advance.Next → From (decode (now (store .exit))) (r .place)) ⌝ }
+    ensures { λ r. ⌜ (r .advance ≡ Advance.Next → From (decode (now (store .exit))) (r .next)) ⌝ }
 {
     let m = read_fields(store);
     let plan = plan_step(store, m, from, images);
     let step = plan.step;
     finish(store, step.change, images);
     let advance = step.advance;
-    Stride {
-        advance,
-        place: plan.place,
-    }
+    let next = plan.next;
+    Stride { advance, next }
 }

@@ -5,6 +5,7 @@ use crate::tests::test_call;
 use model::Stop;
 use model::WorkAnswer;
 use plan::Advance;
+use split::step::start;
 ghost use mathlib.Core.Path.{_≡_};
 ghost use Rattle.model.specs.Steps.{iterate};
 ghost use Rattle.outcomes.specs.Outcomes.{stepOutcome, workOutcome};
@@ -19,14 +20,15 @@ fn work_sound(store: &mut [u8], budget: u32) -> WorkAnswer
 {
     let mut images = [0u8; 4096];
     let mut steps: u32 = 0;
-    let mut place = 0;
+    let mut from = start();
     while steps < budget {
-        let stride = step_sound(store, &mut images, place);
+        let stride = step_sound(store, &mut images, from);
         let advance = stride.advance;
         if let Advance::Stopped(stop) = advance {
             return WorkAnswer::Worked { steps, stop };
         }
-        place = stride.place;
+        let next = stride.next;
+        from = next;
         steps += 1;
     }
     WorkAnswer::Worked {

@@ -1,5 +1,5 @@
--- docs/RULES.md 1.6, "a loader once read 0,5 as 0": a line with a comma in it is refused with 10 and its line number, and the store
--- stays.
+-- docs/RULES.md 1.6, "a loader once read 0,5 as 0": a line with a comma in it is refused with 10 and its line number,
+-- and the store stays.
 use mathlib.Core.Path.{_≡_, ap}
 use mathlib.Core.Bool.{true}
 use mathlib.Core.List.{List}

@@ -4,26 +4,24 @@ use mathlib.Core.Path.{_≡_, refl, ap}
 use mathlib.Core.Logic.{_≢_}
 use mathlib.Core.Bool.{Bool, true, false, not}
 use mathlib.Core.List.{List, [], _∷_, map}
-use Prim.Native.Nat.{ℕ, zero, suc, _+_, _*_, _≤_, _<_}
-use native.Mathlib.Decide.{decLt}
+use Prim.Native.Nat.{ℕ, suc, _+_, _*_, _≤_}
 use native.Mathlib.Omega.{arith}
 use borrow.Author.Tests.{eqb-true}
 use lib.Dec.{eqb}
-use lib.ListN.{length, getD, length-append, length-map, List·getD-eq-default}
-use Rattle.lists.specs.Lists.{keep, bind, Each}
+use lib.ListN.{length, length-append, length-map}
+use Rattle.lists.specs.Lists.{keep, Each}
 use Rattle.address.specs.Address.{bucketOf}
 use Rattle.address.specs.MaskLaws.{split-lt}
 use Rattle.page.specs.declared.Pair.{Pair}
 use Rattle.page.specs.declared.Entry.{Entry}
 use Rattle.page.specs.SublistLaws.{sublist-keep, length-sublist}
-use Rattle.model.specs.Index.{Page, Chain, Job, idle, copying, clearing, Index, onPages, entriesIn, noChain, chain}
+use Rattle.model.specs.Index.{Page, Chain, Job, idle, copying, clearing, Index, onPages, entriesIn, chain}
 use Rattle.model.specs.Index.{entriesAt, newBucket, oldBucket}
-use Rattle.model.specs.Pages.{bitsOf}
 use Rattle.model.specs.Held.{sourcesIn, sources, matches}
 use Rattle.model.specs.WellFormed.{MoreOk, ChainOk, Laid}
 use Rattle.model.specs.SortedLaws.{length-sorted}
 use Rattle.model.specs.BoundLaws.{laid-room, bits-le}
-use Rattle.image.specs.BoundLaws.{bits-part}
+use Rattle.image.specs.BoundLaws.{one-part, two-parts}
 use Rattle.model.specs.MachineLaws.{never}
 use Rattle.interpreter.specs.Script.{scriptBlocks}
 
@@ -35,21 +33,6 @@ entries-le c o = simp length-append (omega (arith, o .first .full, go (c .more) 
     go : (gs : List Page) → Each MoreOk gs → length (onPages gs) ≤ 40 * length gs
     go [] h = omega arith
     go (g ∷ gs) h = simp length-append (omega (arith, h .0 .page .full, go gs (h .1)))
-
-one-part : (cs : List Chain) (i : ℕ) → length (getD cs i noChain .more) ≤ length (bind cs bitsOf)
-one-part cs i = go (decLt i (length cs))
-  where
-    go : Dec (i < length cs) → length (getD cs i noChain .more) ≤ length (bind cs bitsOf)
-    go (yes h) = bits-part cs i h
-    go (no h) = rw (List·getD-eq-default cs noChain (let q : length cs ≤ i = omega arith in q)) (omega arith)
-
-two-parts : (cs : List Chain) (i j : ℕ) → i < j
-    → length (getD cs i noChain .more) + length (getD cs j noChain .more) ≤ length (bind cs bitsOf)
-two-parts [] i j h = omega arith
-two-parts (c ∷ cs) i zero h = absurd (omega arith)
-two-parts (c ∷ cs) zero (suc j) h =
-    simp length-append (omega (arith, one-part cs j, length-map (c .more) (λ (g : Page). g .bit)))
-two-parts (c ∷ cs) (suc i) (suc j) h = simp length-append (omega (arith, two-parts cs i j (omega arith)))
 
 module _ (x : Index) (l : Laid x) (small : x .size ≤ scriptBlocks) where
   one-le : (b : ℕ) → length (entriesAt x b) ≤ 5000

@@ -4,13 +4,11 @@ use mathlib.Core.Bool.{Bool, true, false, not, _&&_}
 use mathlib.Core.List.{List, _++_}
 use Prim.Native.Nat.{ℕ, _+_, _*_, _/_, _%_, _≤_, _<_}
 use native.Mathlib.Omega.{arith}
-use borrow.Author.Tests.{leb-true, leb-false, le-leb, lt-leb}
+use borrow.Author.Tests.{leb-true, le-leb, lt-leb}
 use lib.Dec.{eqb, leb}
 use lib.ListN.{length, take, drop, replicate, length-append, length-drop, length-replicate, take-append-drop}
 use lib.Seq.{length-take-le}
-use Rattle.lists.specs.ListsLaws.{and-false}
 use Rattle.lists.specs.Block.{blocks}
-use Rattle.address.specs.Limits.{maxBlocks}
 use Rattle.text.specs.Text.{storeText, refusedText}
 use Rattle.model.specs.declared.Order.{Order}
 use Rattle.model.specs.declared.Refusal.{Refusal}
@@ -27,7 +25,7 @@ use Rattle.image.specs.Rules.{lengthOk}
 use Rattle.outcomes.specs.Outcomes.{Tested, passed, failed, tested, storeInUse, inUseOutcome, Changed, refusing}
 use Rattle.outcomes.specs.Outcomes.{changed, formatReplacing, formatOutcome, lookupOn, lookupOutcome}
 use Rattle.outcomes.specs.OutcomeSoundLaws.{legal-is}
-use Rattle.outcomes.specs.InUseLaws.{format-length, format-inUse, format-accepted, in-use-is}
+use Rattle.outcomes.specs.InUseLaws.{format-inUse, format-accepted, in-use-is}
 use Rattle.interpreter.specs.Script.{Turn, formatTurn, formatLine}
 use Rattle.interpreter.specs.Feed.{storeBytes, over}
 use Rattle.interpreter.specs.Script.{scriptBlocks}
@@ -91,6 +89,21 @@ lookup-roomy s h lent out r l m e = subst (λ (a : LookupAnswer). Roomy a out) e
     go (failed q) = tt
     go (passed x) = room x (leb (length (matches x h)) (length lent / 6)) refl
 
+-- ---- line f
+
+-- Up to the script's N line f is format of N new blocks in the place of the store that stands. Above it line f is
+-- refusal 1, whatever stands and whatever its other numbers are.
+pub line-is-format : (line n : ℕ) (o : Order) (old : List ℕ)
+    → let c = formatReplacing old (replicate (512 * n) 0) o in
+    (n ≤ scriptBlocks
+    → formatLine (leb n scriptBlocks) n o line old ≡ formatTurn line n (o .fill) (c .answer) old (c .store))
+    × (scriptBlocks < n
+    → formatLine (leb n scriptBlocks) n o line old ≡ record { text = refusedText line 1; store = old })
+line-is-format line n o old = (
+  λ few. ap (λ (b : Bool). formatLine b n o line old) (le-leb n scriptBlocks few),
+  λ large. ap (λ (b : Bool). formatLine b n o line old) (lt-leb n scriptBlocks large),
+)
+
 -- ---- format: what it makes goes by the length of the new store alone
 
 module _ (old new : List ℕ) (line n : ℕ) (o : Order) where
@@ -121,7 +134,7 @@ module _ (old new : List ℕ) (line n : ℕ) (o : Order) where
     same : turn new ≡ formatLine (leb n scriptBlocks) n o line old
     same =
         turn-alike (replicate (512 * n) 0) (size ∙ sym (length-replicate (512 * n) 0))
-        ∙ ap (λ (b : Bool). formatLine b n o line old) (sym (le-leb n scriptBlocks few))
+        ∙ sym (line-is-format line n o old .0 few)
 
     pub format-done : d .answer ≡ Answer.Done
         → record { text = storeText n (o .fill); store = d .store } ≡ formatLine (leb n scriptBlocks) n o line old
@@ -159,30 +172,6 @@ unfolding formatOutcome format
 format-overwriting old new o l f p =
     format-accepted new new (orderOf (o .fill) (o .number) 1) l (ap (λ (b : Bool). b && true) (fill-ok o f)) refl
     ∙ sym (format-accepted old new o l f p)
-
--- N above the script's gets 1
-pub format-large : (line n : ℕ) (o : Order) (old : List ℕ) → scriptBlocks < n
-    → record { text = refusedText line 1; store = old } ≡ formatLine (leb n scriptBlocks) n o line old
-format-large line n o old h = ap (λ (b : Bool). formatLine b n o line old) (sym (lt-leb n scriptBlocks h))
-
--- With the largest N that the index has today the script's own test answers what format would.
-pub line-is-format : (line n : ℕ) (o : Order) (old : List ℕ)
-    → let c = formatReplacing old (replicate (512 * n) 0) o in
-    formatLine (leb n scriptBlocks) n o line old ≡ formatTurn line n (o .fill) (c .answer) old (c .store)
-line-is-format line n o old = go (leb n scriptBlocks) refl
-  where
-    unfit : scriptBlocks < n → lengthOk (replicate (512 * n) 0) ≡ false
-    unfit h =
-        legal-is (replicate (512 * n) 0) n (length-replicate (512 * n) 0)
-        ∙ rw (lt-leb n maxBlocks h) (and-false (leb 4 n))
-
-    go : (t : Bool) → leb n scriptBlocks ≡ t
-        → let c = formatReplacing old (replicate (512 * n) 0) o in
-        formatLine t n o line old ≡ formatTurn line n (o .fill) (c .answer) old (c .store)
-    go true e = refl
-    go false e =
-        sym (ap (λ (c : Changed). formatTurn line n (o .fill) (c .answer) old (c .store))
-        (format-length old (replicate (512 * n) 0) o (unfit (leb-false n scriptBlocks e))))
 
 -- ---- refusal 12: "the store tested is the one that stands, with its own N"
 

@@ -42,12 +42,13 @@ abbrev pub formatTurn : (line blocks fill : ℕ) → Answer → (old new : List 
 formatTurn line n fill Answer.Done old new = record { text = storeText n fill; store = new }
 formatTurn line n fill (Answer.Refused r) old new = record { text = refusedText line (refusalNo r); store = old }
 
--- the script's own largest N: "the 5,000 matches that 128 blocks can hold"
+-- the script's own largest N, whatever the library's is: "The script stays at 128" (2026-09), so that 30,000 bytes are
+-- "enough for the 5,000 matches that 128 blocks can hold"
 abbrev pub scriptBlocks : ℕ
 scriptBlocks = 128
 
--- an f, by whether N is at most that: "A number that is outside its field gets 2, N gets 1." For 12 "the store tested
--- is the one that stands, with its own N".
+-- an f, by whether N is at most that: "A number that is outside its field gets 2, N gets 1." Above it 1 comes first,
+-- before 2 and 12. For 12 "the store tested is the one that stands, with its own N".
 abbrev pub formatLine : (small : Bool) → (blocks : ℕ) → Order → (line : ℕ) → (store : List ℕ) → Turn
 formatLine true n o line s =
     let c = formatReplacing s (replicate (512 * n) 0) o in

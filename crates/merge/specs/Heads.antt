@@ -39,6 +39,12 @@ tailOf c (e ∷ es) = e .pair .offset * 64 + c
 abbrev pub firstAt : (s : List ℕ) (b tail : ℕ) → Entry
 firstAt s b tail = entryAt (block s b) (tail % 64)
 
+-- the arrays that a merge is lent have their lengths
+pub record Lent (keys tails tree : List ℕ) : Type 0 where
+  pub keys-size : length keys ≡ maxPages
+  pub tails-size : length tails ≡ maxPages
+  pub tree-size : length tree ≡ 2 * maxPages
+
 module _ (s ks : List ℕ) where
   -- the entries of page i
   abbrev pub pageAt : ℕ → List Entry

@@ -3,11 +3,11 @@ use mathlib.Core.Path.{_≡_, refl, sym, ap, _∙_}
 use mathlib.Core.Logic.{_≢_}
 use mathlib.Core.Bool.{true}
 use mathlib.Core.List.{List, [], _∷_}
-use Prim.Native.Nat.{ℕ, _+_, _%_, _/_, _≤_, _<_}
+use Prim.Native.Nat.{ℕ, _+_, _*_, _%_, _/_, _≤_, _<_}
 use native.Mathlib.Numerals.{add-one}
 use native.Mathlib.Omega.{arith}
 use native.Mathlib.Decide.{decLt}
-use lib.ListN.{length, getD, set, drop}
+use lib.ListN.{length, getD, set, drop, replicate, length-replicate}
 use lib.Seq.{getD-set-same, getD-set-other}
 use Rattle.lists.specs.Block.{block}
 use Rattle.endian.specs.Endian.{u16At}
@@ -18,16 +18,33 @@ use Rattle.page.specs.Allowed.{Allowed}
 use Rattle.page.specs.AllowedLaws.{allowed-sublist}
 use Rattle.page.specs.Entries.{entryAt}
 use Rattle.page.specs.RuleLaws.{number-le}
-use Rattle.merge.specs.Tree.{ahead, Above, Settled, Won, Second}
+use Rattle.merge.specs.Tree.{maxPages, ahead, Above, Settled, Won, Second}
 use Rattle.merge.specs.ReplayLaws.{won-upto, won-first, settled-moved}
 use Rattle.merge.specs.SecondLaws.{next-kept, kept-won}
 use Rattle.merge.specs.Merge.{leads, joined, Best}
 use Rattle.merge.specs.MergeLaws.{best-end}
-use Rattle.merge.specs.Heads.{noKey, pairKey, pairFrom, keyOf, tailOf, pageAt, leftOf, Merging, Moved}
+use Rattle.merge.specs.Heads.{noKey, pairKey, pairFrom, keyOf, tailOf, pageAt, leftOf, Lent, Merging, Moved}
 use Rattle.merge.specs.HeadLaws.{key-done, head-leads, head-on, head-pair, left-done}
 use Rattle.merge.specs.HeadLaws.{left-more, put-left, other-left, heads-put}
 
+-- ---- the arrays of a merge, when they are made and while it is under way
+
+pub zero-lent : {keys tails tree : List ℕ} → keys ≡ replicate maxPages 0 → tails ≡ replicate maxPages 0
+    → tree ≡ replicate (2 * maxPages) 0 → Lent keys tails tree
+zero-lent k t r =
+    record {
+      keys-size = ap length k ∙ length-replicate {A = ℕ} maxPages 0;
+      tails-size = ap length t ∙ length-replicate {A = ℕ} maxPages 0;
+      tree-size = ap length r ∙ length-replicate {A = ℕ} (2 * maxPages) 0;
+    }
+
 module _ {s ks : List ℕ} {n : ℕ} {keys tails tree : List ℕ} (m : Merging s ks n keys tails tree) where
+  pub merging-lent : Lent keys tails tree
+  merging-lent =
+      record { keys-size = m .heads .keys-size; tails-size = m .heads .tails-size; tree-size = m .won .size }
+
+  -- ---- what is left of the pages
+
   pub left-allowed : (i : ℕ) → i < n → Allowed (leftOf s ks tails i)
   left-allowed i h = allowed-sublist (sublist-drop (getD tails i 0 % 64) (pageAt s ks i)) (m .pages .allowed i h)
 

@@ -9,9 +9,9 @@ use lib.Dec.{eqb, ltb, leb}
 use lib.ListN.{length, getD}
 use Rattle.address.specs.Limits.{maxBlocks}
 
--- the most pages of a merge: those of two walks
+-- the most pages of a merge: those of a walk, or of two that have no block in common
 abbrev pub maxPages : ℕ
-maxPages = 2 * suc maxBlocks
+maxPages = suc maxBlocks
 
 -- half of k, d times
 abbrev pub halves : (d : ℕ) → ℕ → ℕ

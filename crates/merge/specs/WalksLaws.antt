@@ -2,7 +2,7 @@
 use mathlib.Core.Path.{_≡_, refl, sym, ap, ap₂, _∙_, subst}
 use mathlib.Core.Bool.{Bool, cond}
 use mathlib.Core.List.{List, [], _∷_, _++_}
-use Prim.Native.Nat.{ℕ, zero, suc, _+_, _-_, _<_}
+use Prim.Native.Nat.{ℕ, zero, suc, _+_, _-_, _≤_, _<_}
 use native.Mathlib.Numerals.{add-one}
 use native.Mathlib.Omega.{arith}
 use native.Mathlib.Decide.{decLt}
@@ -19,6 +19,7 @@ use Rattle.page.specs.Allowed.{Sorted, Allowed}
 use Rattle.page.specs.RuleLaws.{pageOk-allowed}
 use Rattle.chain.specs.Within.{entriesOn, PagesOk, Within}
 use Rattle.chain.specs.WithinLaws.{block-inside, block-sorted, block-fine, walk-turn, walk-done}
+use Rattle.merge.specs.Tree.{maxPages}
 use Rattle.merge.specs.Merge.{joined}
 use Rattle.merge.specs.MergeLaws.{joined-same}
 use Rattle.merge.specs.Heads.{pageAt, Pages, leftOf, CursorsAt}
@@ -38,17 +39,16 @@ walk-joined s bs ks n w at h i (suc m) e =
     ∙ ap (λ (j : ℕ). bind (drop j (take n bs)) (entriesOn s)) (sym (add-one i)))
     ∙ sym (ap (λ (js : List ℕ). bind js (entriesOn s)) (walk-turn w i more))
 
-module _ {s first : List ℕ} {n : ℕ} {second : List ℕ} {k : ℕ} {ks : List ℕ} (bytes : Bytes s)
-    (j : Joined first n second k ks)
-    (w : Within s first n) (fine : PagesOk s (take n first)) (v : Within s second k) (fine′ : PagesOk s
-    (take k second)) where
-  -- block b is one that passes the page rule
-  record Page (b : ℕ) : Type 0 where
-    inside : b < blocks s
-    sorted : Sorted (block s b)
-    allowed : Allowed (entriesOn s b)
+-- ---- the pages of a walk, and of two
 
-  page-at : {bs : List ℕ} {m : ℕ} → Within s bs m → PagesOk s (take m bs) → (i : ℕ) → i < m → Page (getD bs i 0)
+-- block b is one that passes the page rule
+record Page (s : List ℕ) (b : ℕ) : Type 0 where
+  inside : b < blocks s
+  sorted : Sorted (block s b)
+  allowed : Allowed (entriesOn s b)
+
+module _ {s : List ℕ} (bytes : Bytes s) where
+  page-at : {bs : List ℕ} {m : ℕ} → Within s bs m → PagesOk s (take m bs) → (i : ℕ) → i < m → Page s (getD bs i 0)
   page-at {bs} {m} o f i h =
       record {
         inside = block-inside o i h;
@@ -56,32 +56,50 @@ module _ {s first : List ℕ} {n : ℕ} {second : List ℕ} {k : ℕ} {ks : List
         allowed = pageOk-allowed (block s (getD bs i 0)) (Bytes-block s (getD bs i 0) bytes) (block-fine o i h f);
       }
 
-  page-of : (i : ℕ) → i < n + k → Page (getD ks i 0)
-  page-of i h = go (decLt i n)
-    where
-      go : Dec (i < n) → Page (getD ks i 0)
-      go (yes l) = subst Page (sym (j .one i l)) (page-at w fine i l)
-      go (no l) =
-          let m : i - n < k = omega (arith, h, l) in
-          let e : n + (i - n) ≡ i = omega (arith, l) in
-          subst Page (sym (j .two (i - n) m) ∙ ap (λ (x : ℕ). getD ks x 0) e) (page-at v fine′ (i - n) m)
-
-  pub joined-pages : Pages s ks (n + k)
-  joined-pages =
+  pages-by : {ks : List ℕ} {n : ℕ} → n ≤ maxPages → ((i : ℕ) → i < n → Page s (getD ks i 0)) → Pages s ks n
+  pages-by few each =
       record {
-        few = omega (arith, w .few, v .few);
-        inside = λ i h. page-of i h .inside;
-        sorted = λ i h. page-of i h .sorted;
-        allowed = λ i h. page-of i h .allowed;
+        few = few;
+        inside = λ i h. each i h .inside;
+        sorted = λ i h. each i h .sorted;
+        allowed = λ i h. each i h .allowed;
       }
 
-  pub joined-first : joined (pageAt s ks) 0 n ≡ bind (take n first) (entriesOn s)
-  joined-first =
+  pub alone-pages : {bs : List ℕ} {n : ℕ} → Within s bs n → PagesOk s (take n bs) → Pages s bs n
+  alone-pages w fine = pages-by (w .few) (page-at w fine)
+
+  module _ {first : List ℕ} {n : ℕ} {second : List ℕ} {k : ℕ} {ks : List ℕ} (j : Joined first n second k ks)
+      (w : Within s first n) (fine : PagesOk s (take n first)) (v : Within s second k)
+      (fine′ : PagesOk s (take k second)) where
+    page-of : (i : ℕ) → i < n + k → Page s (getD ks i 0)
+    page-of i h = go (decLt i n)
+      where
+        go : Dec (i < n) → Page s (getD ks i 0)
+        go (yes l) = subst (Page s) (sym (j .one i l)) (page-at w fine i l)
+        go (no l) =
+            let m : i - n < k = omega (arith, h, l) in
+            let e : n + (i - n) ≡ i = omega (arith, l) in
+            subst (Page s) (sym (j .two (i - n) m) ∙ ap (λ (x : ℕ). getD ks x 0) e) (page-at v fine′ (i - n) m)
+
+    pub joined-pages : n + k ≤ maxPages → Pages s ks (n + k)
+    joined-pages few = pages-by few page-of
+
+-- ---- their entries
+
+pub alone-entries : {s bs : List ℕ} {n : ℕ} → Within s bs n
+    → joined (pageAt s bs) 0 n ≡ bind (take n bs) (entriesOn s)
+alone-entries {s} {bs} {n} w =
+    walk-joined s bs bs n w 0 (λ i h. let z : 0 + i ≡ i = omega arith in ap (λ (x : ℕ). getD bs x 0) z) 0 n
+    (omega arith)
+
+module _ {s first : List ℕ} {n : ℕ} {second : List ℕ} {k : ℕ} {ks : List ℕ} (j : Joined first n second k ks) where
+  pub joined-first : Within s first n → joined (pageAt s ks) 0 n ≡ bind (take n first) (entriesOn s)
+  joined-first w =
       walk-joined s first ks n w 0
       (λ i h. let z : 0 + i ≡ i = omega arith in ap (λ (x : ℕ). getD ks x 0) z ∙ j .one i h) 0 n (omega arith)
 
-  pub joined-second : joined (pageAt s ks) n k ≡ bind (take k second) (entriesOn s)
-  joined-second =
+  pub joined-second : Within s second k → joined (pageAt s ks) n k ≡ bind (take k second) (entriesOn s)
+  joined-second v =
       let z : n ≡ n + 0 = omega arith in
       ap (λ (i : ℕ). joined (pageAt s ks) i k) z ∙ walk-joined s second ks k v n (j .two) 0 k (omega arith)
 

@@ -10,14 +10,14 @@ use page::slots::count_entries;
 use page::slots::get_entry;
 use store::block_at;
 ghost use mathlib.Core.Path.{_≡_};
-ghost use Prim.Native.Nat.{_+_, _/_, _%_, _≤_, _<_};
+ghost use Prim.Native.Nat.{_+_, _*_, _/_, _%_, _≤_, _<_};
 ghost use lib.ListN.{length, getD, set, drop, replicate};
 ghost use Rattle.lists.specs.Block.{blocks, block};
 ghost use Rattle.page.specs.Entries.{entriesOf};
 ghost use Rattle.page.specs.Allowed.{Sorted};
 ghost use Rattle.merge.specs.Tree.{maxPages};
 ghost use Rattle.merge.specs.Heads.{noKey, pairFrom, keyOf, tailOf, firstAt};
-ghost use Rattle.merge.specs.Heads.{pageAt, Pages, Heads, Merging, CursorsAt, Moved};
+ghost use Rattle.merge.specs.Heads.{pageAt, Pages, Heads, Lent, Merging, CursorsAt, Moved};
 
 // The key where nothing is left: no entry has it.
 pub const NO_KEY: u64 = 18446744073709551615;
@@ -32,6 +32,12 @@ pub fn zero_tails() -> [u32; MAX_PAGES]
     ensures { λ r. ⌜ r ≡ replicate maxPages 0 ⌝ }
 {
     [0u32; MAX_PAGES]
+}
+
+pub fn zero_tree() -> [u16; 2 * MAX_PAGES]
+    ensures { λ r. ⌜ r ≡ replicate (2 * maxPages) 0 ⌝ }
+{
+    [0u16; 2 * MAX_PAGES]
 }
 
 // Page `i`.
@@ -108,22 +114,23 @@ fn put_heads(
     }
 }
 
-// Begins a merge of the pages' entries from the sorted place of a pair on.
+// Begins a merge of the pages' entries from the sorted place of a pair on, in the arrays that the caller lends.
 pub fn start_merge(
     store: &[u8],
     pages: &[u32; MAX_PAGES],
     keys: &mut [u64; MAX_PAGES],
     tails: &mut [u32; MAX_PAGES],
+    tree: &mut [u16; 2 * MAX_PAGES],
     n: usize,
     from: Pair,
-) -> [usize; 2 * MAX_PAGES]
+)
     requires { ⌜ Pages (now store) (now pages) n ⌝ }
-    requires { ⌜ (length (now keys) ≡ maxPages) × (length (now tails) ≡ maxPages) ⌝ }
-    ensures { λ r. ⌜ (Merging (now (store .entry)) (now (pages .entry)) n (now (keys .exit)) (now (tails .exit)) r)
-        × (CursorsAt (now (store .entry)) (now (pages .entry)) from n (now (tails .exit))) ⌝ }
+    requires { ⌜ Lent (now keys) (now tails) (now tree) ⌝ }
+    ensures { λ _. ⌜ (Merging (now (store .entry)) (now (pages .entry)) n (now (keys .exit)) (now (tails .exit))
+        (now (tree .exit))) × (CursorsAt (now (store .entry)) (now (pages .entry)) from n (now (tails .exit))) ⌝ }
 {
     put_heads(store, pages, keys, tails, n, from);
-    build_tree(keys, tails, n)
+    build_tree(keys, tails, tree, n);
 }
 
 // Puts the head of page `j` anew, one slot on.
@@ -151,7 +158,7 @@ pub fn take_first(
     pages: &[u32; MAX_PAGES],
     keys: &mut [u64; MAX_PAGES],
     tails: &mut [u32; MAX_PAGES],
-    tree: &mut [usize; 2 * MAX_PAGES],
+    tree: &mut [u16; 2 * MAX_PAGES],
     n: usize,
 )
     requires { ⌜ (Merging (now store) (now pages) n (now keys) (now tails) (now tree)) × (1 ≤ n) ⌝ }
@@ -159,7 +166,7 @@ pub fn take_first(
     ensures { λ _. ⌜ Moved (now (store .entry)) (now (pages .entry)) n (now (tree .entry)) (now (tails .entry))
         (now (keys .exit)) (now (tails .exit)) (now (tree .exit)) ⌝ }
 {
-    let j = tree[1];
+    let j = tree[1] as usize;
     advance_head(store, pages, keys, tails, n, j);
     if stays_first(keys, tails, tree, n, j) {
         return;

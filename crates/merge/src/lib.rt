@@ -6,5 +6,5 @@ pub mod walks; // walks.rt: the pages of two walks
 
 use address::limits::MAX_BLOCKS;
 
-// The most pages of a merge: those of two walks.
-pub const MAX_PAGES: usize = 2 * (MAX_BLOCKS + 1);
+// The most pages of a merge: those of a walk, or of two that have no block in common.
+pub const MAX_PAGES: usize = MAX_BLOCKS + 1;

@@ -1,84 +1,83 @@
 // The winner tree. Page i of n is leaf n + i, the nodes below node k are 2 k and 2 k + 1, and each node has the page
 // that is ahead of the two below it; so node 1 has the page that is ahead of all. Node 0 has the page that comes
-// second, or n where it is not known.
+// second, or n where it is not known. Nodes hold the numbers of pages in 16 bits.
 use crate::MAX_PAGES;
 ghost use mathlib.Core.Path.{_≡_};
-ghost use mathlib.Core.Bool.{true};
+ghost use mathlib.Core.Bool.{true, cond};
 ghost use Prim.Native.Nat.{ℕ, _+_, _*_, _-_, _/_, _≤_, _<_};
-ghost use lib.ListN.{length, getD, replicate};
+ghost use lib.ListN.{length, getD};
 ghost use Rattle.merge.specs.Tree.{maxPages, ahead, winner, Above, Settled, Won, NextBest, Second};
 
-// Whether page `a`, whose key is `key`, is ahead of page `b`: its head comes no later.
-fn is_ahead(keys: &[u64; MAX_PAGES], tails: &[u32; MAX_PAGES], a: usize, key: u64, b: usize) -> bool
+// Whether page `a`, whose key is `key`, is ahead of page `b`: its head comes no later. All tests are made, since a branch
+// would be guessed wrong as often as not.
+fn is_ahead(keys: &[u64; MAX_PAGES], tails: &[u32; MAX_PAGES], a: u16, key: u64, b: u16) -> bool
     requires { ⌜ (a < maxPages) × (b < maxPages) × (key ≡ getD (now keys) a 0) ⌝ }
     ensures { λ r. ⌜ r ≡ ahead (now (keys .entry)) (now (tails .entry)) a b ⌝ }
 {
-    let other = keys[b];
-    if key == other {
-        return tails[a] <= tails[b];
-    }
-    key < other
+    let other = keys[b as usize];
+    let later = tails[b as usize];
+    (key < other) | ((key == other) & (tails[a as usize] <= later))
+}
+
+// Page `a` where it is ahead, else page `b`.
+fn pick(ahead: bool, a: u16, b: u16) -> u16
+    ensures { λ r. ⌜ r ≡ cond ahead a b ⌝ }
+{
+    if ahead { a } else { b }
 }
 
 // Of the pages at the two nodes below node `k`, the one that is ahead.
 fn winner_at(
     keys: &[u64; MAX_PAGES],
     tails: &[u32; MAX_PAGES],
-    tree: &[usize; 2 * MAX_PAGES],
+    tree: &[u16; 2 * MAX_PAGES],
     k: usize,
-) -> usize
+) -> u16
     requires { ⌜ (k < maxPages) × (getD (now tree) (2 * k) 0 < maxPages)
         × (getD (now tree) (2 * k + 1) 0 < maxPages) ⌝ }
     ensures { λ r. ⌜ r ≡ winner (now (keys .entry)) (now (tails .entry)) (now (tree .entry)) k ⌝ }
 {
     let a = tree[2 * k];
     let b = tree[2 * k + 1];
-    if is_ahead(keys, tails, a, keys[a], b) {
+    if is_ahead(keys, tails, a, keys[a as usize], b) {
         a
     } else {
         b
     }
 }
 
-fn zero_tree() -> [usize; 2 * MAX_PAGES]
-    ensures { λ r. ⌜ r ≡ replicate (2 * maxPages) 0 ⌝ }
+// Puts the leaves.
+fn put_leaves(tree: &mut [u16; 2 * MAX_PAGES], n: usize)
+    requires { ⌜ (n ≤ maxPages) × (length (now tree) ≡ 2 * maxPages) ⌝ }
+    ensures { λ _. ⌜ (length (now (tree .exit)) ≡ 2 * maxPages)
+        × ((i : ℕ) → i < n → getD (now (tree .exit)) (n + i) 0 ≡ i) ⌝ }
 {
-    [0usize; 2 * MAX_PAGES]
-}
-
-// The tree with its leaves alone.
-fn put_leaves(n: usize) -> [usize; 2 * MAX_PAGES]
-    requires { ⌜ n ≤ maxPages ⌝ }
-    ensures { λ r. ⌜ (length r ≡ 2 * maxPages) × ((i : ℕ) → i < n → getD r (n + i) 0 ≡ i) ⌝ }
-{
-    let mut tree = zero_tree();
     let mut i = 0;
     while i < n {
-        tree[n + i] = i;
+        tree[n + i] = i as u16;
         i += 1;
     }
-    tree
 }
 
-// The tree of `n` pages. The second is not known.
+// Fills the tree of `n` pages. The second is not known.
 pub fn build_tree(
     keys: &[u64; MAX_PAGES],
     tails: &[u32; MAX_PAGES],
+    tree: &mut [u16; 2 * MAX_PAGES],
     n: usize,
-) -> [usize; 2 * MAX_PAGES]
-    requires { ⌜ n ≤ maxPages ⌝ }
-    ensures { λ r. ⌜ (Won (now (keys .entry)) (now (tails .entry)) n r)
-        × (Second (now (keys .entry)) (now (tails .entry)) n r) ⌝ }
+)
+    requires { ⌜ (n ≤ maxPages) × (length (now tree) ≡ 2 * maxPages) ⌝ }
+    ensures { λ _. ⌜ (Won (now (keys .entry)) (now (tails .entry)) n (now (tree .exit)))
+        × (Second (now (keys .entry)) (now (tails .entry)) n (now (tree .exit))) ⌝ }
 {
-    let mut tree = put_leaves(n);
+    put_leaves(tree, n);
     let mut k = n;
     while 1 < k {
         k -= 1;
-        let page = winner_at(keys, tails, &tree, k);
+        let page = winner_at(keys, tails, tree, k);
         tree[k] = page;
     }
-    tree[0] = n;
-    tree
+    tree[0] = n as u16;
 }
 
 // Makes the nodes above leaf n + `j` right again, whose head has changed. The page that is ahead goes up with them,
@@ -86,7 +85,7 @@ pub fn build_tree(
 pub fn replay(
     keys: &[u64; MAX_PAGES],
     tails: &[u32; MAX_PAGES],
-    tree: &mut [usize; 2 * MAX_PAGES],
+    tree: &mut [u16; 2 * MAX_PAGES],
     n: usize,
     j: usize,
 )
@@ -94,16 +93,14 @@ pub fn replay(
         × Settled (now keys) (now tails) n (now tree) (Above ((n + j) / 2)) ⌝ }
     ensures { λ _. ⌜ Won (now (keys .entry)) (now (tails .entry)) n (now (tree .exit)) ⌝ }
 {
-    let mut page = j;
+    let mut page = j as u16;
     let mut key = keys[j];
     let mut k = n + j;
     while 1 < k {
         let up = k / 2;
         let other = tree[4 * up + 1 - k];
-        if !is_ahead(keys, tails, page, key, other) {
-            page = other;
-            key = keys[other];
-        }
+        page = pick(is_ahead(keys, tails, page, key, other), page, other);
+        key = keys[page as usize];
         tree[up] = page;
         k = up;
     }
@@ -114,26 +111,26 @@ pub fn replay(
 fn second_best(
     keys: &[u64; MAX_PAGES],
     tails: &[u32; MAX_PAGES],
-    tree: &[usize; 2 * MAX_PAGES],
+    tree: &[u16; 2 * MAX_PAGES],
     n: usize,
     j: usize,
-) -> usize
+) -> u16
     requires { ⌜ (j < n) × (n ≤ maxPages) × Won (now keys) (now tails) n (now tree) ⌝ }
     ensures { λ r. ⌜ (r < n → NextBest (now (keys .entry)) (now (tails .entry)) n j r) ⌝ }
 {
     if n == 1 {
-        return n;
+        return n as u16;
     }
     let leaf = n + j;
     let mut k = leaf / 2;
     let mut page = tree[4 * k + 1 - leaf];
-    let mut key = keys[page];
+    let mut key = keys[page as usize];
     while 1 < k {
         let up = k / 2;
         let other = tree[4 * up + 1 - k];
         if !is_ahead(keys, tails, page, key, other) {
             page = other;
-            key = keys[other];
+            key = keys[other as usize];
         }
         k = up;
     }
@@ -145,7 +142,7 @@ fn second_best(
 pub fn put_second(
     keys: &[u64; MAX_PAGES],
     tails: &[u32; MAX_PAGES],
-    tree: &mut [usize; 2 * MAX_PAGES],
+    tree: &mut [u16; 2 * MAX_PAGES],
     n: usize,
     j: usize,
 )
@@ -153,19 +150,19 @@ pub fn put_second(
     ensures { λ _. ⌜ (Won (now (keys .entry)) (now (tails .entry)) n (now (tree .exit)))
         × (Second (now (keys .entry)) (now (tails .entry)) n (now (tree .exit))) ⌝ }
 {
-    if tree[1] != j {
-        tree[0] = n;
+    if tree[1] != j as u16 {
+        tree[0] = n as u16;
         return;
     }
     let page = second_best(keys, tails, tree, n, j);
     tree[0] = page;
 }
 
-// Whether page `j` is ahead of the page that comes second, where that is known.
+// Whether page `j` is ahead of the page that comes second, where that is known. Inside a run the keys alone tell it.
 pub fn stays_first(
     keys: &[u64; MAX_PAGES],
     tails: &[u32; MAX_PAGES],
-    tree: &[usize; 2 * MAX_PAGES],
+    tree: &[u16; 2 * MAX_PAGES],
     n: usize,
     j: usize,
 ) -> bool
@@ -174,8 +171,12 @@ pub fn stays_first(
         × (ahead (now (keys .entry)) (now (tails .entry)) j (getD (now (tree .entry)) 0 0) ≡ true)) ⌝ }
 {
     let second = tree[0];
-    if n <= second {
+    if n as u16 <= second {
         return false;
     }
-    is_ahead(keys, tails, j, keys[j], second)
+    let key = keys[j];
+    if key < keys[second as usize] {
+        return true;
+    }
+    is_ahead(keys, tails, j as u16, key, second)
 }

@@ -1,22 +1,17 @@
-// The pages of two walks as those of one merge.
+// The pages of two walks, that have no block in common, as those of one merge.
 use crate::MAX_PAGES;
 use address::limits::MAX_BLOCKS;
+use chain::links::zero_walk;
 ghost use mathlib.Core.Path.{_≡_};
-ghost use Prim.Native.Nat.{suc, _≤_};
-ghost use lib.ListN.{length, replicate};
+ghost use Prim.Native.Nat.{suc, _+_, _≤_};
+ghost use lib.ListN.{length};
 ghost use Rattle.address.specs.Limits.{maxBlocks};
 ghost use Rattle.merge.specs.Tree.{maxPages};
 ghost use Rattle.merge.specs.Walks.{Copied, Joined};
 
-fn zero_pages() -> [u32; MAX_PAGES]
-    ensures { λ r. ⌜ r ≡ replicate maxPages 0 ⌝ }
-{
-    [0u32; MAX_PAGES]
-}
-
 // Copies the blocks of a walk to the pages from place `at` on.
 fn copy_walk(pages: &mut [u32; MAX_PAGES], walk: &[u32; MAX_BLOCKS + 1], at: usize, n: usize)
-    requires { ⌜ (n ≤ suc maxBlocks) × (at ≤ suc maxBlocks) × (length (now pages) ≡ maxPages) ⌝ }
+    requires { ⌜ (at + n ≤ maxPages) × (length (now pages) ≡ maxPages) ⌝ }
     ensures { λ _. ⌜ Copied (now (pages .entry)) (now (walk .entry)) at n (now (pages .exit)) ⌝ }
 {
     let mut i = 0;
@@ -33,10 +28,10 @@ pub fn join_walks(
     second: &[u32; MAX_BLOCKS + 1],
     k: usize,
 ) -> [u32; MAX_PAGES]
-    requires { ⌜ (n ≤ suc maxBlocks) × (k ≤ suc maxBlocks) ⌝ }
+    requires { ⌜ n + k ≤ suc maxBlocks ⌝ }
     ensures { λ r. ⌜ Joined (now (first .entry)) n (now (second .entry)) k r ⌝ }
 {
-    let mut pages = zero_pages();
+    let mut pages = zero_walk();
     copy_walk(&mut pages, first, 0, n);
     copy_walk(&mut pages, second, n, k);
     pages

@@ -23,7 +23,7 @@ use Rattle.model.specs.Steps.{Worked, step, iterate}
 
 -- ---- refusals 1, 2 and 12
 
--- "N outside 4..128"
+-- "N outside 4..1024"
 abbrev pub sizeOk : ℕ → Bool
 sizeOk n = leb 4 n && leb n maxBlocks
 

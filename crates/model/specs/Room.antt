@@ -30,7 +30,7 @@ pub record NoPage (x : Index) (b : ℕ) : Type 0 where
   -- "the next block past the made ones" is not "below N"
   pub blocks : x .size ≤ made (x .spares) (point (x .maxBucket))
 
--- Begin: the new bucket "needs a new group", and "2^(s+1) + spares[s] + 1" is above N
+-- Begin: the new bucket "needs a new point", and "(buckets in all at point s+1) + spares[s] + 1" is above N
 pub record NoPoint (x : Index) : Type 0 where
   pub needed : point (x .maxBucket) < point (suc (x .maxBucket))
   pub blocks : x .size < bucketsAt (suc (point (x .maxBucket))) + topBit x + 1

@@ -38,14 +38,13 @@ widen x sp =
       chains = x .chains ++ noChain ∷ [];
     }
 
--- by whether the new bucket needs a new point (the rules' "new group"), and whether there is room for it;
--- "spares[s+1] = spares[s]"
+-- by whether the new bucket "needs a new point", and whether there is room for it; "spares[s+1] = spares[s]"
 abbrev pub beginIn : (newPoint room : Bool) → Index → Option Index
 beginIn false room x = some (widen x (x .spares))
 beginIn true true x = some (widen x (x .spares ++ topBit x ∷ []))
 beginIn true false x = none
 
--- "if it needs a new group, 2^(s+1) + spares[s] + 1 must be at most N, else no room"
+-- "if it needs a new point, (buckets in all at point s+1) + spares[s] + 1 must be at most N, else no room"
 unfoldable pub begin : Index → Option Index
 begin x =
     let s = point (x .maxBucket) in

@@ -1,13 +1,15 @@
 // The page of a bucket, its flags and its chain.
 use crate::roles::home_of;
-use chain::Walk;
+use address::limits::MAX_BLOCKS;
 use chain::links::walk_chain;
 use image::Meta;
 use store::block_at;
 use store::flags_at;
 ghost use mathlib.Core.Path.{_≡_};
-ghost use Prim.Native.Nat.{_≤_};
+ghost use Prim.Native.Nat.{suc, _≤_};
+ghost use lib.ListN.{length};
 ghost use Rattle.lists.specs.Block.{block};
+ghost use Rattle.address.specs.Limits.{maxBlocks};
 ghost use Rattle.store.specs.Store.{flagsAt};
 ghost use Rattle.image.specs.Decode.{blockOf};
 ghost use Rattle.chain.specs.Walk.{Walked};
@@ -28,10 +30,10 @@ pub fn bucket_flags(store: &[u8], m: Meta, b: u32) -> u16
     flags_at(bucket_page(store, m, b))
 }
 
-// The blocks of bucket `b`'s chain, as the next fields lead.
-pub fn walk_bucket(store: &[u8], m: Meta, b: u32) -> Walk
-    requires { ⌜ (Known2 (now store) m) × (b ≤ m .max) ⌝ }
-    ensures { λ r. ⌜ Walked (now (store .entry)) (blockOf (now (store .entry)) b) r ⌝ }
+// Puts the blocks of bucket `b`'s chain, as the next fields lead, into `blocks`, and gives their number.
+pub fn walk_bucket(store: &[u8], blocks: &mut [u32; MAX_BLOCKS + 1], m: Meta, b: u32) -> usize
+    requires { ⌜ (Known2 (now store) m) × (b ≤ m .max) × (length (now blocks) ≡ suc maxBlocks) ⌝ }
+    ensures { λ r. ⌜ Walked (now (store .entry)) (blockOf (now (store .entry)) b) (now (blocks .exit)) r ⌝ }
 {
-    walk_chain(store, home_of(m, b))
+    walk_chain(store, blocks, home_of(m, b))
 }

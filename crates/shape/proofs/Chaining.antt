@@ -18,10 +18,9 @@ use Rattle.image.specs.declared.Meta.{Meta}
 use Rattle.store.specs.Flags.{noLink}
 use Rattle.image.specs.Decode.{maxAt, blockOf, trail}
 use Rattle.image.specs.Rules.{buckets, isOverflow, linkOk, linked, rule4}
-use Rattle.chain.specs.declared.Walk.{Walk}
 use Rattle.chain.specs.Walk.{Sized, walk, Walked}
-use Rattle.chain.specs.WalkLaws.{walk-few, walk-next}
-use Rattle.chain.specs.WithinLaws.{walked-some, walked-getD}
+use Rattle.chain.specs.WalkLaws.{walk-next}
+use Rattle.chain.specs.WithinLaws.{walked-some, walked-few, walked-getD}
 use Rattle.reader.specs.Known.{Known2}
 use Rattle.shape.specs.LoopLaws.{passed, failed, run-turn, run-done, left, left-start, left-turn, left-done}
 use Rattle.shape.specs.ChainedLaws.{chained, pages-linked}
@@ -33,26 +32,26 @@ linked-cons : (s : List ℕ) (b k j : ℕ) (js : List ℕ) → nextAt (block s k
 unfolding linked
 linked-cons s b k j js e = rw (eq-eqb (nextAt (block s k)) j e)
 
-module _ (s : List ℕ) (b : ℕ) (w : Walk) (held : Walked s (blockOf s b) w) where
+module _ (s : List ℕ) (b : ℕ) {bs : List ℕ} {n : ℕ} (held : Walked s (blockOf s b) bs n) where
   abbrev ks : List ℕ
   ks = walk s (blockOf s b)
 
   abbrev at : ℕ → ℕ
-  at i = getD (w .blocks) i 0
+  at i = getD bs i 0
 
   pub chain-start : linked s b (at 0) (drop (0 + 1) ks) ≡ chained s b
   unfolding walk
   chain-start = ap (λ (k : ℕ). linked s b k (trail s b)) (walked-getD held 0 (omega (arith, walked-some held)))
 
   module _ (i : ℕ) where
-    link-next : i + 1 < w .count → nextAt (block s (at i)) ≡ at (i + 1)
+    link-next : i + 1 < n → nextAt (block s (at i)) ≡ at (i + 1)
     link-next h =
         ap (λ (k : ℕ). nextAt (block s k)) (walked-getD held i (omega arith))
         ∙ sym (walk-next s (blockOf s b) i (omega (arith, held .count)))
         ∙ ap (λ (n : ℕ). getD ks n 0) (sym (add-one i))
         ∙ sym (walked-getD held (i + 1) h)
 
-    pub chain-turn : i + 1 < w .count
+    pub chain-turn : i + 1 < n
         → linked s b (at i) (drop (i + 1) ks) ≡ linkOk s b (at i) (at (i + 1)) && linked s b (at (i + 1)) (drop (i + 1 + 1) ks)
     chain-turn h =
         ap (linked s b (at i))
@@ -60,16 +59,13 @@ module _ (s : List ℕ) (b : ℕ) (w : Walk) (held : Walked s (blockOf s b) w) w
         ∙ ap₂ (λ (k n : ℕ). k ∷ drop n ks) (sym (walked-getD held (i + 1) h)) (sym (add-one (i + 1))))
         ∙ linked-cons s b (at i) (at (i + 1)) (drop (i + 1 + 1) ks) (link-next h)
 
-    pub chain-end : w .count ≤ i + 1 → linked s b (at i) (drop (i + 1) ks) ≡ eqb (nextAt (block s (at i))) noLink
+    pub chain-end : n ≤ i + 1 → linked s b (at i) (drop (i + 1) ks) ≡ eqb (nextAt (block s (at i))) noLink
     unfolding linked
     chain-end h = ap (linked s b (at i)) (drop-of-length-le ks {i = i + 1} (omega (arith, held .count)))
 
-  trail-count : w .count ≡ suc (length (trail s b))
+  trail-count : n ≡ suc (length (trail s b))
   unfolding walk
   trail-count = held .count
-
-  pub trail-few : Sized s → w .count ≤ suc maxBlocks
-  trail-few sized = omega (arith, held .count, walk-few s (blockOf s b), sized .few)
 
 -- ---- from bucket to bucket
 
@@ -96,17 +92,16 @@ linking-start s =
 
 module _ (s : List ℕ) (links b : ℕ) (so-far : Linking s links b) where
   module _ (more : b ≤ maxAt s) where
-    pub linking-turn : (w : Walk) → Walked s (blockOf s b) w → Sized s → chained s b ≡ true
-        → Linking s (links + (w .count - 1)) (b + 1)
-    linking-turn w held sized good =
+    pub linking-turn : {bs : List ℕ} {n : ℕ} → Walked s (blockOf s b) bs n → Sized s → chained s b ≡ true
+        → Linking s (links + (n - 1)) (b + 1)
+    linking-turn held sized good =
         let here : linksFrom s b ≡ length (trail s b) + linksFrom s (b + 1) =
         ap (λ (ks : List ℕ). length (bind ks (trail s))) (run-turn b (suc (maxAt s)) (omega arith))
         ∙ length-append (trail s b) (bind (upFrom (b + 1) (suc (maxAt s) - (b + 1))) (trail s)) in
-        let n = trail-count s b w held in
         record {
           upto = omega arith;
-          few = omega (arith, so-far .few, trail-few s b w held sized);
-          count = omega (arith, so-far .count, here, n);
+          few = omega (arith, so-far .few, walked-few held sized);
+          count = omega (arith, so-far .count, here, trail-count s b held);
           rest = passed _ _ _ (left-turn (chained s) (suc (maxAt s)) b (omega arith)) good ∙ so-far .rest;
         }
 

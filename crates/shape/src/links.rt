@@ -1,6 +1,7 @@
 // Rule 4: chains link by link, and each overflow page in one of them.
 use address::limits::MAX_BLOCKS;
 use chain::links::next_block;
+use chain::links::zero_walk;
 use image::Meta;
 use page::slots::count_entries;
 use reader::buckets::walk_bucket;
@@ -39,7 +40,7 @@ fn check_link(store: &[u8], m: Meta, b: u32, k: u32, j: u32) -> bool
 // Whether the walk of bucket `b` is linked, and ends.
 fn check_chain(store: &[u8], blocks: &[u32; MAX_BLOCKS + 1], count: usize, m: Meta, b: u32) -> bool
     requires { ⌜ Known2 (now store) m ⌝ }
-    requires { ⌜ Walked (now store) (blockOf (now store) b) (record { count = count; blocks = now blocks }) ⌝ }
+    requires { ⌜ Walked (now store) (blockOf (now store) b) (now blocks) count ⌝ }
     ensures { λ r. ⌜ r ≡ chained (now (store .entry)) b ⌝ }
 {
     let mut i = 0;
@@ -76,12 +77,11 @@ pub fn check_links(store: &[u8], m: Meta) -> bool
     ensures { λ r. ⌜ r ≡ rule4 (now (store .entry)) ⌝ }
 {
     let max = m.max;
+    let mut blocks = zero_walk();
     let mut links = 0;
     let mut b = 0;
     while b <= max {
-        let walk = walk_bucket(store, m, b);
-        let blocks = walk.blocks;
-        let count = walk.count;
+        let count = walk_bucket(store, &mut blocks, m, b);
         if !check_chain(store, &blocks, count, m, b) {
             return false;
         }

@@ -17,8 +17,9 @@ use Rattle.chain.specs.Search.{pairOn, foundAs, findIn}
 use Rattle.chain.specs.Within.{entriesOn, Within, PageOn}
 use Rattle.chain.specs.WithinLaws.{rest-turn, rest-done, search-here, search-later}
 use Rattle.split.specs.declared.Mover.{Mover}
-use Rattle.split.specs.Seek.{Before, Seeks, nothing, Located, located, foundOn}
-use Rattle.split.specs.SeekLaws.{before-part, sought-part, seeks-at, seeks-entry, seeks-none, located-at}
+use Rattle.split.specs.Seek.{Before, After, Seeks, nothing, Located, located, foundOn}
+use Rattle.split.specs.SeekLaws.{before-part, after-part, sought-part, seeks-at, seeks-entry, seeks-none}
+use Rattle.split.specs.SeekLaws.{located-at}
 
 -- all entries of the pair pass
 abbrev pub PairPasses : (Entry → Bool) → Pair → Type 0
@@ -48,6 +49,13 @@ module _ {s bs : List ℕ} {n : ℕ} (ok : Within s bs n) {t : Entry → Bool} {
     page-start j z =
         ap (λ (d : ℕ). tally t (take (j - d) (entriesOf l))) (h .number)
         ∙ before-part t (h .front) (entriesOf l) fs j (ap (λ (es : List Entry). tally t (take j es)) (sym turn) ∙ z)
+
+    -- where none from the place j on passes, none of the page does
+    pub page-after : (u : Entry → Bool) (j : ℕ) → After u (bind (take n bs) (entriesOn s)) j
+        → After u (entriesOf l) (j - k)
+    page-after u j z =
+        ap (λ (d : ℕ). tally u (drop (j - d) (entriesOf l))) (h .number)
+        ∙ after-part u (h .front) (entriesOf l) fs j (ap (λ (es : List Entry). tally u (drop j es)) (sym turn) ∙ z)
 
     pub page-found : {r : Mover} → Seeks t (entriesOf l) r → {e : Entry} {j b m : ℕ} → r ≡ Mover.At e j b m
         → Seeks t (bind (take n bs) (entriesOn s)) (Mover.At e (k + j) b m)

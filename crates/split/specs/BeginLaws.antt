@@ -13,7 +13,7 @@ use lib.ListN.{length, getD, set, replicate, length-append, List·getD-append}
 use lib.Seq.{set-at, set-getD}
 use Rattle.lists.specs.Lists.{any, find, upFrom}
 use Rattle.lists.specs.ListsLaws.{tally-bind}
-use Rattle.address.specs.Limits.{maxBlocks, lastPoint}
+use Rattle.address.specs.Limits.{maxBlocks, pointBound}
 use Rattle.address.specs.Address.{bucketsAt, splitFrom, highMask, lowMask, point, bucketPoint, bucketBlock, made}
 use Rattle.address.specs.OverLaws.{buckets-grow, buckets-mono}
 use Rattle.address.specs.MaskLaws.{split-lt}
@@ -47,18 +47,18 @@ module _ (x : Index) (l : Laid x) where
 
   -- ---- the new overflow point
 
-  point-low : point (x .maxBucket) < lastPoint
+  point-low : point (x .maxBucket) < pointBound
   point-low = point-under (x .spares) s (x .size) (l .spares .room) (l .size)
 
-  pub point-small : point (suc (x .maxBucket)) ≤ lastPoint
+  pub point-small : point (suc (x .maxBucket)) ≤ pointBound
   point-small = go (ltb s (point (suc m))) refl
     where
-      go : (k : Bool) → ltb s (point (suc m)) ≡ k → point (suc m) ≤ lastPoint
+      go : (k : Bool) → ltb s (point (suc m)) ≡ k → point (suc m) ≤ pointBound
       go true e = omega (arith, point-low, point-next m true e)
       go false e = omega (arith, point-low, point-next m false e)
 
   pub buckets-small : bucketsAt (point (suc (x .maxBucket))) ≤ maxBlocks
-  buckets-small = omega (arith, buckets-last, buckets-mono (point (suc m)) lastPoint point-small)
+  buckets-small = omega (arith, buckets-last, buckets-mono (point (suc m)) pointBound point-small)
 
   -- ---- room
 

@@ -1,10 +1,12 @@
 pub mod Mover
+pub mod Spot
 pub mod Seek
 pub mod SeekLaws
 pub mod OldChainLaws
 pub mod MoverLaws
 pub mod Step
 pub mod StepLaws
+pub mod SpotLaws
 pub mod FromLaws
 pub mod CopyLaws
 pub mod Job

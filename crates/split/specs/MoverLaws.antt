@@ -29,7 +29,6 @@ use Rattle.image.specs.declared.Meta.{Meta}
 use Rattle.image.specs.Decode.{blockOf, decode}
 use Rattle.frame.specs.Frame.{chainBlocks}
 use Rattle.chain.specs.declared.Found.{Found}
-use Rattle.chain.specs.declared.Walk.{Walk}
 use Rattle.chain.specs.Walk.{Walked}
 use Rattle.chain.specs.Search.{isFound, findIn}
 use Rattle.chain.specs.Within.{PagesOk, Within}
@@ -40,9 +39,9 @@ use Rattle.view.specs.PlacesLaws.{find-read}
 use Rattle.view.specs.ChainLaws.{blocks-within, blocks-pages, walks-blocks, walks-count}
 use Rattle.view.specs.HeldLaws.{isFound-findAt}
 use Rattle.split.specs.declared.Mover.{Mover}
-use Rattle.split.specs.Mover.{movable, NewChain}
-use Rattle.split.specs.Seek.{Before, Seeks, sought, nothing, foundOn}
-use Rattle.split.specs.SeekLaws.{before-find, before-all, before-next}
+use Rattle.split.specs.Mover.{movable, copied, NewChain}
+use Rattle.split.specs.Seek.{Before, After, Seeks, sought, nothing, foundOn}
+use Rattle.split.specs.SeekLaws.{before-find, before-all, before-next, after-at}
 
 -- ---- the walk along the new chain
 
@@ -58,8 +57,8 @@ module _ {s : List ℕ} {m : Meta} (r : Reads s m) where
     copies-pages = blocks-pages r (newBucket (decode s)) new-made bs n (h .blocks) (h .count)
 
   -- a walk of it
-  pub walks-copies : {w : Walk} → Walked s (blockOf s (m .max)) w → NewChain (decode s) (w .blocks) (w .count)
-  walks-copies {w} h =
+  pub walks-copies : {bs : List ℕ} {n : ℕ} → Walked s (blockOf s (m .max)) bs n → NewChain (decode s) bs n
+  walks-copies h =
       let y = decode s in
       record {
         blocks = walks-blocks r (m .max) (omega arith) h ∙ ap (λ (b : ℕ). chainBlocks y b (chain y b)) (reads-max r);
@@ -89,6 +88,13 @@ module _ {s : List ℕ} {m : Meta} (r : Reads s m) (e : Entry) where
 
     pub movable-clear : (c : Bool) → c ≡ false → b ≡ m .max → true ≡ movable c (decode s) e
     movable-clear c k q = sym (ap (λ (d : Bool). movable d x e) k ∙ moves-home q)
+
+    pub movable-fresh : (c : Bool) → c ≡ true → copied (decode s) e ≡ false → b ≡ m .max → true ≡ movable c (decode s) e
+    movable-fresh c k z q =
+        sym
+        (ap (λ (d : Bool). movable d x e) k
+        ∙ ap (λ (t : Bool). t && not (copied x e)) (moves-home q)
+        ∙ ap not z)
 
     -- f is what the search for a copy found in the new chain
     pub movable-copy : {c : Bool} {bs : List ℕ} {n : ℕ} → c ≡ true → NewChain (decode s) bs n → b ≡ m .max
@@ -136,6 +142,12 @@ module _ (t : Entry → Bool) (l : List ℕ) (i : ℕ) where
         let g = getD-entriesOf l i (entryAt l i) more in
         let first = find-here t (entriesOf l) i (entryAt l i) inList (ap t g ∙ h) ∙ ap some g in
         sought {k = i} (before-find t (entriesOf l) i z ∙ first) (record { inside = inList; here = g; first = z })
+
+    -- where none from slot k on passes, it does not
+    pub slot-after : (k : ℕ) → After t (entriesOf l) k → k ≤ i → t (entryAt l i) ≡ false
+    slot-after k z h =
+        ap t (sym (getD-entriesOf l i (entryAt l i) more))
+        ∙ after-at t (entriesOf l) k i (entryAt l i) z h inList
 
     -- a search of the sorted page for its pair finds it there
     pub slot-found : Sorted l → (b : ℕ) → foundOn b (entriesOf l) (entryAt l i .pair) ≡ Found.At b i

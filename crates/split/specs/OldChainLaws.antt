@@ -7,7 +7,7 @@ use Prim.Native.Nat.{ℕ, pred, _+_, _*_, _≤_, _<_}
 use native.Mathlib.Decide.{decLt}
 use native.Mathlib.Numerals.{add-one}
 use native.Mathlib.Omega.{arith}
-use lib.ListN.{length, getD, take, drop, take-append-drop, length-append, length-map}
+use lib.ListN.{length, getD, take, drop, take-append-drop, length-append}
 use lib.Seq.{take-suc, take-length}
 use Rattle.lists.specs.Lists.{tally, find, bind, any}
 use Rattle.lists.specs.ListsLaws.{bind-append, tally-le, any-no, zero-any, find-no}
@@ -19,14 +19,12 @@ use Rattle.page.specs.Allowed.{Sorted}
 use Rattle.page.specs.Entries.{entriesOf}
 use Rattle.page.specs.EntriesLaws.{length-entriesOf}
 use Rattle.page.specs.RuleLaws.{number-le}
-use Rattle.model.specs.Index.{Page, Index, chain, entriesAt}
-use Rattle.model.specs.BoundLaws.{bits-le, laid-room}
+use Rattle.model.specs.Index.{chain, entriesAt}
 use Rattle.store.specs.Store.{nextAt}
 use Rattle.store.specs.Flags.{noLink}
 use Rattle.image.specs.declared.Meta.{Meta}
 use Rattle.image.specs.Decode.{blockOf, decode}
-use Rattle.image.specs.BoundLaws.{bits-part}
-use Rattle.frame.specs.Frame.{blockOfBit, chainBlocks}
+use Rattle.frame.specs.Frame.{chainBlocks}
 use Rattle.frame.specs.ListsLaws.{find-zero, find-right}
 use Rattle.chain.specs.Walk.{walk}
 use Rattle.chain.specs.WalkLaws.{walk-next, walk-link, walk-last}
@@ -35,8 +33,7 @@ use Rattle.chain.specs.Within.{entriesOn, PagesOk, Within, PageOn}
 use Rattle.chain.specs.WithinLaws.{block-inside, block-whole, block-page}
 use Rattle.chain.specs.FindLaws.{any-bind}
 use Rattle.view.specs.Reads.{Reads}
-use Rattle.view.specs.ReadsLaws.{reads-laid, reads-max, reads-size}
-use Rattle.view.specs.ChainLaws.{walk-read, blocks-within, pages-read, entries-read}
+use Rattle.view.specs.ChainLaws.{walk-read, walk-bounded, blocks-within, pages-read, entries-read}
 use Rattle.view.specs.Places.{findAt}
 use Rattle.view.specs.PlacesLaws.{find-read}
 use Rattle.split.specs.Seek.{Before}
@@ -135,9 +132,6 @@ module _ (s ks : List ℕ) (i : ℕ) where
 
 module _ {s : List ℕ} {m : Meta} (r : Reads s m) (b : ℕ) (made : b ≤ m .max) {first : ℕ} (home : first ≡ blockOf s b)
   where
-    abbrev x : Index
-    x = decode s
-
     read-walk : walk s first ≡ chainBlocks (decode s) b (chain (decode s) b)
     read-walk = ap (walk s) home ∙ walk-read r b made
 
@@ -149,20 +143,8 @@ module _ {s : List ℕ} {m : Meta} (r : Reads s m) (b : ℕ) (made : b ≤ m .ma
     pub read-pages : PagesOk s (walk s first)
     read-pages = subst (PagesOk s) (sym read-walk) (pages-read r b made)
 
-    -- no chain has more blocks than the store
     pub read-short : length (walk s first) ≤ blocks s
-    read-short =
-        let l = reads-laid r in
-        let k : b < length (x .chains) = omega (arith, l .whole, reads-max r) in
-        omega (
-          arith,
-          ap length read-walk,
-          length-map (chain x b .more) (λ (g : Page). blockOfBit x (g .bit)),
-          bits-part (x .chains) b k,
-          bits-le x l,
-          laid-room x l,
-          reads-size r,
-        )
+    read-short = subst (λ (k : ℕ). length (walk s k) ≤ blocks s) (sym home) (walk-bounded r b made .short)
 
     pub read-entries : bind (walk s first) (entriesOn s) ≡ entriesAt (decode s) b
     read-entries = ap (λ (ks : List ℕ). bind ks (entriesOn s)) read-walk ∙ entries-read r b made

@@ -1,10 +1,11 @@
--- A search along entries from a place on, before which none passes the test; the places from which a step may search.
+-- A search along entries from a place on, before which none passes the test; the positions from which a step may
+-- search.
 use mathlib.Core.Path.{_≡_}
 use mathlib.Core.Bool.{Bool, true, false}
 use mathlib.Core.List.{List}
 use mathlib.Core.Option.{none, some}
-use Prim.Native.Nat.{ℕ, _+_, _<_}
-use lib.ListN.{length, getD, take}
+use Prim.Native.Nat.{ℕ, _+_, _≤_, _<_}
+use lib.ListN.{length, getD, take, drop}
 use Rattle.lists.specs.Lists.{tally, find}
 use Rattle.page.specs.declared.Pair.{Pair}
 use Rattle.page.specs.declared.Entry.{Entry}
@@ -13,11 +14,21 @@ use Rattle.model.specs.Index.{Job, copying, clearing, Index, entriesAt, oldBuck
 use Rattle.model.specs.Steps.{next, step}
 use Rattle.chain.specs.declared.Found.{Found}
 use Rattle.split.specs.declared.Mover.{Mover}
-use Rattle.split.specs.Mover.{movable}
+use Rattle.split.specs.declared.Position.{Position}
+use Rattle.split.specs.Mover.{movable, copied}
+use Rattle.split.specs.Spot.{SpotIn}
 
 -- none of the first k entries passes
 abbrev pub Before : (Entry → Bool) → List Entry → ℕ → Type 0
 Before t es k = tally t (take k es) ≡ 0
+
+-- none of those from the place k on passes
+abbrev pub After : (Entry → Bool) → List Entry → ℕ → Type 0
+After t es k = tally t (drop k es) ≡ 0
+
+-- where they are fresh, none of them has a copy
+abbrev pub Fresh : (fresh : Bool) → Index → List Entry → ℕ → Type 0
+Fresh f x es k = f ≡ true → After (copied x) es k
 
 -- e stands at the place k, before which none passes
 pub record Stands (t : Entry → Bool) (es : List Entry) (e : Entry) (k : ℕ) : Type 0 where
@@ -54,10 +65,13 @@ abbrev pub jobOf : (copying : Bool) → Job
 jobOf true = copying
 jobOf false = clearing
 
--- none of the first k entries of the old chain is left for the job to move
-abbrev pub From : Index → ℕ → Type 0
-From x k = (c : Bool) → x .job ≡ jobOf c → Before (movable c x) (entriesAt x (oldBucket x)) k
+-- none of the entries of the old chain before the position is left for the job to move; where it is fresh, none of the
+-- others has a copy; and where its page is known, it is one of the old chain
+pub record From (x : Index) (p : Position) : Type 0 where
+  pub none : (c : Bool) → x .job ≡ jobOf c → Before (movable c x) (entriesAt x (oldBucket x)) (p .place)
+  pub fresh : x .job ≡ copying → Fresh (p .fresh) x (entriesAt x (oldBucket x)) (p .place)
+  pub page : 1 ≤ p .page .index → SpotIn x (p .page) (p .place)
 
--- the step after this one may search from the place k
-abbrev pub Leads : Index → ℕ → Type 0
-Leads x k = (y : Index) → step x ≡ next y → From y k
+-- the step after this one may search from the position p
+abbrev pub Leads : Index → Position → Type 0
+Leads x p = (y : Index) → step x ≡ next y → From y p

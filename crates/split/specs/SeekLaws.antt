@@ -1,6 +1,6 @@
 -- Searches from a place on, along one list of entries after another.
 use mathlib.Core.Path.{_≡_, refl, sym, ap, _∙_, subst}
-use mathlib.Core.Bool.{Bool, false}
+use mathlib.Core.Bool.{Bool, true, false}
 use mathlib.Core.List.{List, [], _∷_, _++_}
 use mathlib.Core.Option.{none, some}
 use Prim.Native.Nat.{ℕ, zero, suc, _+_, _-_, _≤_, _<_}
@@ -15,7 +15,7 @@ use Rattle.page.specs.declared.Entry.{Entry}
 use Rattle.frame.specs.ListsLaws.{find-zero, find-left, find-right}
 use Rattle.chain.specs.declared.Found.{Found}
 use Rattle.split.specs.declared.Mover.{Mover}
-use Rattle.split.specs.Seek.{Before, Stands, Seeks, sought, nothing, Located, located, nowhere}
+use Rattle.split.specs.Seek.{Before, After, Stands, Seeks, sought, nothing, Located, located, nowhere}
 
 module _ (t : Entry → Bool) where
   -- what is not before the place is after it
@@ -63,6 +63,58 @@ module _ (t : Entry → Bool) where
             ∙ tally-append t bs (take k (es ++ fs))
             ∙ omega (arith, ap (tally t) (take-append-le k es fs (omega (arith, s .inside))), s .first);
       })
+
+  -- ---- where none from a place on passes
+
+  pub after-at : (es : List Entry) (k i : ℕ) (d : Entry) → After t es k → k ≤ i → i < length es
+      → t (getD es i d) ≡ false
+  after-at [] k i d z h l = absurd (omega arith)
+  after-at (e ∷ es) zero zero d z h l = go (t e) (omega arith)
+    where
+      go : (b : Bool) → b2n b ≡ 0 → b ≡ false
+      go true q = absurd (omega arith)
+      go false q = refl
+  after-at (e ∷ es) zero (suc i) d z h l = after-at es zero i d (omega arith) (omega arith) (omega arith)
+  after-at (e ∷ es) (suc k) zero d z h l = absurd (omega arith)
+  after-at (e ∷ es) (suc k) (suc i) d z h l = after-at es k i d z (omega arith) (omega arith)
+
+  pub after-more : (es : List Entry) (k j : ℕ) → k ≤ j → After t es k → After t es j
+  after-more es zero zero h z = z
+  after-more [] zero (suc j) h z = refl
+  after-more (e ∷ es) zero (suc j) h z = after-more es zero j (omega arith) (omega arith)
+  after-more es (suc k) zero h z = absurd (omega arith)
+  after-more [] (suc k) (suc j) h z = refl
+  after-more (e ∷ es) (suc k) (suc j) h z = after-more es k j (omega arith) z
+
+  -- behind the only one that passes
+  pub after-only : (es : List Entry) (k : ℕ) (d : Entry) → k < length es → t (getD es k d) ≡ true → tally t es ≤ 1
+      → After t es (suc k)
+  after-only [] k d l h z = absurd (omega arith)
+  after-only (e ∷ es) zero d l h z = omega (arith, ap b2n h)
+  after-only (e ∷ es) (suc k) d l h z = after-only es k d (omega arith) h (omega arith)
+
+  pub after-left : (es fs : List Entry) (k : ℕ) → After t (es ++ fs) k → After t es k
+  after-left es fs zero z = omega (arith, tally-append t es fs)
+  after-left [] fs (suc k) z = refl
+  after-left (e ∷ es) fs (suc k) z = after-left es fs k z
+
+  pub after-part : (bs es fs : List Entry) (k : ℕ) → After t (bs ++ (es ++ fs)) k → After t es (k - length bs)
+  after-part [] es fs k z =
+      let e : k - 0 ≡ k = omega arith in ap (λ (n : ℕ). tally t (drop n es)) e ∙ after-left es fs k z
+  after-part (b ∷ bs) es fs zero z =
+      let e : 0 - suc (length bs) ≡ 0 - length bs = omega arith in
+      ap (λ (n : ℕ). tally t (drop n es)) e ∙ after-part bs es fs zero (omega arith)
+  after-part (b ∷ bs) es fs (suc k) z =
+      let e : suc k - suc (length bs) ≡ k - length bs = omega arith in
+      ap (λ (n : ℕ). tally t (drop n es)) e ∙ after-part bs es fs k z
+
+  -- one that passes stands behind a place before which none does
+  pub before-from : (es : List Entry) (k i : ℕ) (d : Entry) → Before t es k → i < length es → t (getD es i d) ≡ true
+      → k ≤ i
+  before-from es zero i d z l h = omega arith
+  before-from [] (suc k) i d z l h = absurd (omega arith)
+  before-from (e ∷ es) (suc k) zero d z l h = absurd (omega (arith, ap b2n h))
+  before-from (e ∷ es) (suc k) (suc i) d z l h = omega (arith, before-from es k i d (omega arith) (omega arith) h)
 
 -- ---- what was found
 

@@ -1,7 +1,10 @@
 // One step: of the pending job, or the begin of a split that is wanted.
 use crate::Mover;
+use crate::Position;
 use crate::SplitPlan;
+use crate::Spot;
 use crate::begin::plan_begin;
+use crate::cursor::find_spot;
 use crate::job::plan_cleared;
 use crate::job::plan_copied;
 use crate::search::first_mover;
@@ -20,7 +23,8 @@ use reader::job::read_job;
 use removal::plan_cut;
 use store::Change;
 ghost use mathlib.Core.Path.{_≡_};
-ghost use mathlib.Core.Bool.{true};
+ghost use mathlib.Core.Bool.{true, false};
+ghost use Prim.Native.Nat.{_≤_, _<_};
 ghost use lib.ListN.{length};
 ghost use Rattle.model.specs.Index.{Index, idle, copying, clearing, oldBucket};
 ghost use Rattle.model.specs.Pages.{cut};
@@ -74,29 +78,53 @@ fn step_idle(store: &[u8], m: Meta, images: &mut [u8]) -> StepPlan
     or_full(plan_begin(store, m, images))
 }
 
-// A change as a step, and the place that the next one may search from.
-fn advance_by(change: Change, place: usize) -> SplitPlan
-    ensures { λ r. ⌜ (r .step .change ≡ change) × (r .step .advance ≡ Advance.Next) × (r .place ≡ place) ⌝ }
+// No page of the old chain.
+fn no_spot() -> Spot
+    ensures { λ r. ⌜ r .index ≡ 0 ⌝ }
+{
+    Spot {
+        block: 0,
+        index: 0,
+        passed: 0,
+    }
+}
+
+// The first place, with nothing known of copies.
+pub fn start() -> Position
+    ensures { λ r. ⌜ (r .place ≡ 0) × (r .fresh ≡ false) × (r .page .index ≡ 0) ⌝ }
+{
+    let page = no_spot();
+    Position {
+        place: 0,
+        fresh: false,
+        page,
+    }
+}
+
+// A change as a step, and the position that the next one may search from.
+fn advance_by(change: Change, next: Position) -> SplitPlan
+    ensures { λ r. ⌜ (r .step .change ≡ change) × (r .step .advance ≡ Advance.Next) × (r .next ≡ next) ⌝ }
 {
     SplitPlan {
         step: StepPlan {
             advance: Advance::Next,
             change,
         },
-        place,
+        next,
     }
 }
 
 // The first entry of the old chain without a copy is copied, marked moved; without one copying ends. The search begins
-// at the place `from`, and the next one after the entry that is copied.
-fn step_copying(store: &[u8], m: Meta, from: usize, images: &mut [u8]) -> SplitPlan
+// at the position `from`, and the next one after the entry that is copied: those behind it are as fresh as before.
+fn step_copying(store: &[u8], m: Meta, from: Position, images: &mut [u8]) -> SplitPlan
     requires { ⌜ (Reads (now store) m) × (length (now images) ≡ 4096) ⌝ }
     requires { ⌜ (decode (now store) .job ≡ copying) × (From (decode (now store)) from) ⌝ }
     ensures { λ r. ⌜ Advances (now (store .entry)) (r .step .change) (now (images .exit))
         (step (decode (now (store .entry)))) (r .step .advance) ⌝ }
-    ensures { λ r. ⌜ Leads (decode (now (store .entry))) (r .place) ⌝ }
+    ensures { λ r. ⌜ Leads (decode (now (store .entry))) (r .next) ⌝ }
 {
-    let mover = first_mover(store, m, true, from);
+    let page = find_spot(store, m, from);
+    let mover = first_mover(store, m, true, from.fresh, from.place, page);
     let Mover::At {
         entry,
         place,
@@ -104,13 +132,19 @@ fn step_copying(store: &[u8], m: Meta, from: usize, images: &mut [u8]) -> SplitP
         slot: _,
     } = mover
     else {
-        return advance_by(plan_copied(store, m, images), 0);
+        let change = plan_copied(store, m, images);
+        let first = start();
+        return advance_by(change, first);
     };
     let pair = entry.pair;
     let copy = Entry { pair, moved: true };
     SplitPlan {
         step: or_full(plan_put(store, m, m.max, copy, m.count, images)),
-        place: place + 1,
+        next: Position {
+            place: place + 1,
+            fresh: from.fresh,
+            page,
+        },
     }
 }
 
@@ -135,16 +169,28 @@ fn clear_pair(store: &[u8], m: Meta, pair: Pair, block: u32, slot: u32, images: 
     )
 }
 
+// The page to begin at after the entry at `place` is taken away: the same where an entry before that one stands on it,
+// so that it is not freed.
+fn keep_spot(page: Spot, place: usize) -> Spot
+    ensures { λ r. ⌜ (1 ≤ r .index → (page .passed < place) × (r ≡ page)) ⌝ }
+{
+    if page.passed < place {
+        return page;
+    }
+    no_spot()
+}
+
 // The first entry of the new bucket in the old chain is taken away; without one clearing ends. The search begins at the
-// place `from`.
-fn step_clearing(store: &[u8], m: Meta, from: usize, images: &mut [u8]) -> SplitPlan
+// position `from`.
+fn step_clearing(store: &[u8], m: Meta, from: Position, images: &mut [u8]) -> SplitPlan
     requires { ⌜ (Reads (now store) m) × (length (now images) ≡ 4096) ⌝ }
     requires { ⌜ (decode (now store) .job ≡ clearing) × (From (decode (now store)) from) ⌝ }
     ensures { λ r. ⌜ Advances (now (store .entry)) (r .step .change) (now (images .exit))
         (step (decode (now (store .entry)))) (r .step .advance) ⌝ }
-    ensures { λ r. ⌜ Leads (decode (now (store .entry))) (r .place) ⌝ }
+    ensures { λ r. ⌜ Leads (decode (now (store .entry))) (r .next) ⌝ }
 {
-    let mover = first_mover(store, m, false, from);
+    let page = find_spot(store, m, from);
+    let mover = first_mover(store, m, false, false, from.place, page);
     let Mover::At {
         entry,
         place,
@@ -152,25 +198,36 @@ fn step_clearing(store: &[u8], m: Meta, from: usize, images: &mut [u8]) -> Split
         slot,
     } = mover
     else {
-        return advance_by(plan_cleared(store, m, images), 0);
+        return advance_by(plan_cleared(store, m, images), start());
     };
     let pair = entry.pair;
-    advance_by(clear_pair(store, m, pair, block, slot, images), place)
+    let kept = keep_spot(page, place);
+    let next = Position {
+        place,
+        fresh: false,
+        page: kept,
+    };
+    advance_by(clear_pair(store, m, pair, block, slot, images), next)
 }
 
-// Plans one step of the pending job, or the begin of a split that is wanted. A job's search begins at the place `from`.
-pub fn plan_step(store: &[u8], m: Meta, from: usize, images: &mut [u8]) -> SplitPlan
+// Plans one step of the pending job, or the begin of a split that is wanted, after which there are no copies. A job's
+// search begins at the position `from`.
+pub fn plan_step(store: &[u8], m: Meta, from: Position, images: &mut [u8]) -> SplitPlan
     requires { ⌜ (Reads (now store) m) × (length (now images) ≡ 4096) ⌝ }
     requires { ⌜ From (decode (now store)) from ⌝ }
     ensures { λ r. ⌜ Advances (now (store .entry)) (r .step .change) (now (images .exit))
         (step (decode (now (store .entry)))) (r .step .advance) ⌝ }
-    ensures { λ r. ⌜ Leads (decode (now (store .entry))) (r .place) ⌝ }
+    ensures { λ r. ⌜ Leads (decode (now (store .entry))) (r .next) ⌝ }
 {
     let phase = read_job(store, m);
     match phase {
         Phase::None => SplitPlan {
             step: step_idle(store, m, images),
-            place: 0,
+            next: Position {
+                place: 0,
+                fresh: true,
+                page: no_spot(),
+            },
         },
         Phase::Copying { old: _, new: _ } => step_copying(store, m, from, images),
         Phase::Clearing { old: _, new: _ } => step_clearing(store, m, from, images),

@@ -25,7 +25,11 @@ fn show_check(line: &[u8])
     io::write_all(1, b"\n");
 }
 
-// Block and previous field of each bucket from `at` on. Answers where the buckets end.
+// Buckets in all at point 16: 16 spares place those below it.
+const PLACED_BUCKETS: u32 = 1792;
+
+// Block and previous field of each bucket from `at` on. Answers where the buckets end; the end of the line where one
+// is not placed.
 fn show_buckets(line: &[u8], at: usize, max: u32, spares: [u32; 16]) -> usize
     requires { ⌜ (at ≤ length (now line)) × Small spares ⌝ }
     ensures { λ r. ⌜ Within at r (now (line .entry)) ⌝ }
@@ -35,6 +39,9 @@ fn show_buckets(line: &[u8], at: usize, max: u32, spares: [u32; 16]) -> usize
         let bucket = read_number(line, next);
         if bucket.next == next {
             return next;
+        }
+        if PLACED_BUCKETS <= bucket.value {
+            return line.len();
         }
         put_number(b" ", address::bucket_block(spares, bucket.value) as u64);
         put_number(b"/", address::last_split(max, bucket.value) as u64);

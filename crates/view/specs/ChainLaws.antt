@@ -11,22 +11,22 @@ use Rattle.lists.specs.Block.{blocks, block}
 use Rattle.address.specs.Address.{bucketBlock}
 use Rattle.page.specs.Rule.{pageOk}
 use Rattle.model.specs.Index.{Page, Chain, Index, chain, entriesAt}
+use Rattle.model.specs.BoundLaws.{bits-le, laid-room}
 use Rattle.image.specs.declared.Meta.{Meta}
 use Rattle.image.specs.Layout.{encode}
 use Rattle.store.specs.Flags.{noLink}
 use Rattle.image.specs.Decode.{maxAt, blockOf, trail, readPage, readChain, decode}
 use Rattle.frame.specs.Frame.{blockOfBit, blocksAfter, chainBlocks, pageBlock, placeEntries, pageEntries}
 use Rattle.lists.specs.TestLaws.{each-all}
+use Rattle.image.specs.BoundLaws.{bits-part}
 use Rattle.image.specs.EncodePagesLaws.{max-encode}
 use Rattle.image.specs.EncodeDecodeLaws.{trail-encode}
 use Rattle.image.specs.EncodeChainsLaws.{pagesRule, pages-encode}
 use Rattle.frame.specs.ListsLaws.{getD-map}
 use Rattle.frame.specs.ImagesLaws.{page-inside}
-use Rattle.chain.specs.declared.Walk.{Walk}
-use Rattle.chain.specs.Walk.{walk, blocksOf, Walked}
-use Rattle.chain.specs.WalkLaws.{walk-trail}
+use Rattle.chain.specs.Walk.{walk, Walked, Bounded}
+use Rattle.chain.specs.WalkLaws.{walk-trail, walk-few}
 use Rattle.chain.specs.Within.{entriesOn, PagesOk, Within}
-use Rattle.chain.specs.WithinLaws.{walked-within}
 use Rattle.chain.specs.DecodeLaws.{chain-decode, entries-walk}
 use Rattle.view.specs.Reads.{Reads}
 use Rattle.view.specs.ReadsLaws.{reads-laid, reads-sized, reads-size, reads-max}
@@ -61,6 +61,25 @@ module _ {s : List ℕ} {m : Meta} (r : Reads s m) (b : ℕ) (made : b ≤ m .ma
       each-all (λ k. k < blocks s) noLink (chainBlocks x b (chain x b)) (λ i h.
       rw (reads-size r) (page-inside x (reads-laid r) b i under
       (omega (arith, length-map (chain x b .more) (λ (g : Page). blockOfBit x (g .bit))))))
+
+  -- no chain has more blocks than the store
+  pub walk-bounded : Bounded s (blockOf s b)
+  walk-bounded =
+      let l = reads-laid r in
+      let k : b < length (x .chains) = omega (arith, l .whole, reads-max r) in
+      record {
+        inside = subst (Each (λ k. k < blocks s)) (sym walk-read) blocks-inside;
+        short =
+            omega (
+              arith,
+              ap length walk-read,
+              length-map (chain x b .more) (λ (g : Page). blockOfBit x (g .bit)),
+              bits-part (x .chains) b k,
+              bits-le x l,
+              laid-room x l,
+              reads-size r,
+            );
+      }
 
   pub pages-read : PagesOk s (chainBlocks (decode s) b (chain (decode s) b))
   pages-read =
@@ -97,27 +116,27 @@ module _ {s : List ℕ} {m : Meta} (r : Reads s m) (b : ℕ) (made : b ≤ m .ma
       (number : n ≡ length (take n bs)) where
     pub blocks-within : Within s bs n
     blocks-within =
-        let w : take n bs ≡ walk s (blockOf s b) = e ∙ sym walk-read in
-        walked-within (record { blocks = w; count = number ∙ ap length w }) (reads-sized r)
-        (subst (Each (λ k. k < blocks s)) (sym walk-read) blocks-inside)
+        let size = ap length (e ∙ sym walk-read) in
+        record {
+          few = omega (arith, number, size, walk-few s (blockOf s b), reads-sized r .few);
+          count = sym number;
+          inside = subst (Each (λ k. k < blocks s)) (sym e) blocks-inside;
+        }
 
     pub blocks-pages : PagesOk s (take n bs)
     blocks-pages = subst (PagesOk s) (sym e) pages-read
 
-  -- ---- a Walk of it
+  -- ---- a walk of it
 
-  module _ {w : Walk} (held : Walked s (blockOf s b) w) where
-    pub walks-blocks : blocksOf w ≡ chainBlocks (decode s) b (chain (decode s) b)
+  module _ {bs : List ℕ} {n : ℕ} (held : Walked s (blockOf s b) bs n) where
+    pub walks-blocks : take n bs ≡ chainBlocks (decode s) b (chain (decode s) b)
     walks-blocks = held .blocks ∙ walk-read
 
-    pub walks-count : w .count ≡ length (blocksOf w)
+    pub walks-count : n ≡ length (take n bs)
     walks-count = held .count ∙ ap length (sym (held .blocks))
 
-    pub walks-within : Within s (w .blocks) (w .count)
-    walks-within = blocks-within (w .blocks) (w .count) walks-blocks walks-count
+    pub walks-within : Within s bs n
+    walks-within = blocks-within bs n walks-blocks walks-count
 
-    pub walks-pages : PagesOk s (blocksOf w)
-    walks-pages = blocks-pages (w .blocks) (w .count) walks-blocks walks-count
-
-    pub walks-entries : bind (blocksOf w) (entriesOn s) ≡ entriesAt (decode s) b
-    walks-entries = ap (λ (ks : List ℕ). bind ks (entriesOn s)) walks-blocks ∙ entries-read
+    pub walks-pages : PagesOk s (take n bs)
+    walks-pages = blocks-pages bs n walks-blocks walks-count

@@ -2,19 +2,23 @@
 use mathlib.Core.Path.{_≡_, refl, sym, ap, ap₂, _∙_, subst}
 use mathlib.Core.Bool.{Bool, true, false}
 use mathlib.Core.List.{List, _++_, append-nil}
-use Prim.Native.Nat.{ℕ, _≤_}
+use Prim.Native.Nat.{ℕ, suc, _+_, _≤_, _<_}
 use native.Mathlib.Omega.{arith}
-use lib.ListN.{length, take}
+use lib.ListN.{length, take, length-map}
 use Rattle.lists.specs.Lists.{bind}
+use Rattle.address.specs.Limits.{maxBlocks}
+use Rattle.address.specs.MaskLaws.{split-lt}
 use Rattle.page.specs.declared.Pair.{Pair}
 use Rattle.page.specs.declared.Entry.{Entry}
-use Rattle.model.specs.Index.{Index, chain}
+use Rattle.model.specs.Index.{Page, Index, chain}
 use Rattle.model.specs.Held.{sorted, matches}
+use Rattle.model.specs.WellFormed.{Laid}
 use Rattle.model.specs.SortedLaws.{length-sorted}
+use Rattle.model.specs.BoundLaws.{laid-room, bits-le}
 use Rattle.image.specs.declared.Meta.{Meta}
 use Rattle.image.specs.Decode.{blockOf, decode}
-use Rattle.frame.specs.Frame.{chainBlocks}
-use Rattle.chain.specs.declared.Walk.{Walk}
+use Rattle.image.specs.BoundLaws.{one-part, two-parts}
+use Rattle.frame.specs.Frame.{blockOfBit, chainBlocks}
 use Rattle.chain.specs.Walk.{Walked}
 use Rattle.chain.specs.Within.{entriesOn, PagesOk, Within}
 use Rattle.chain.specs.WithinLaws.{within-none}
@@ -23,10 +27,11 @@ use Rattle.chain.specs.Pairs.{pairsIn}
 use Rattle.chain.specs.Along.{orElse, pairsAlong, findAlong}
 use Rattle.view.specs.declared.Sources.{Sources}
 use Rattle.view.specs.Reads.{Reads}
+use Rattle.view.specs.ReadsLaws.{reads-laid}
 use Rattle.view.specs.Places.{ownBlocks, oldBlocks, isBoth, sourcesOf, heldBy, heldAt, Sourced}
 use Rattle.view.specs.ChainLaws.{entries-read, blocks-within, blocks-pages, walks-blocks, walks-count}
 use Rattle.view.specs.PlacesLaws.{find-read}
-use Rattle.view.specs.SourcesLaws.{home-made, both-made}
+use Rattle.view.specs.SourcesLaws.{sources-both, home-made, both-made}
 use Rattle.view.specs.SourcePairsLaws.{pairsBy, matches-by}
 
 module _ {s : List ℕ} {m : Meta} (r : Reads s m) (h : ℕ) where
@@ -86,6 +91,41 @@ module _ {s : List ℕ} {m : Meta} (r : Reads s m) (h : ℕ) where
         some (Sources.Home b) = omega arith
         some (Sources.Both new old) = omega arith
 
+    -- the pages of two chains are different blocks, so that both fit one walk
+    pub sourced-room : n + k ≤ suc maxBlocks
+    sourced-room =
+        omega (
+          arith,
+          w .own-count,
+          ap length (w .own-blocks),
+          w .old-count,
+          ap length (w .old-blocks),
+          room (sourcesOf x h) refl,
+        )
+      where
+        size : (b : ℕ) → length (chainBlocks x b (chain x b)) ≡ suc (length (chain x b .more))
+        size b = ap suc (length-map (chain x b .more) (λ (g : Page). blockOfBit x (g .bit)))
+
+        laid : Laid x
+        laid = reads-laid r
+
+        room : (f : Sources) → sourcesOf x h ≡ f → length (ownBlocks x f) + length (oldBlocks x f) ≤ suc maxBlocks
+        room (Sources.Home b) e =
+            omega (arith, size b, one-part (x .chains) b, bits-le x laid, laid-room x laid, laid .size)
+        room (Sources.Both new old) e =
+            let i = sources-both x h new old e in
+            let apart : old < new = omega (arith, i .new, i .old, split-lt (x .maxBucket) (laid .two)) in
+            omega (
+              arith,
+              size new,
+              size old,
+              two-parts (x .chains) old new apart,
+              bits-le x laid,
+              laid-room x laid,
+              laid .two,
+              laid .size,
+            )
+
     -- sorted, the pairs along the walks are the matches
     pub sourced-matches : sorted (pairsAlong s (take n own) (take k old) h fresh) ≡ matches (decode s) h
     sourced-matches =
@@ -108,8 +148,8 @@ module _ {s : List ℕ} {m : Meta} (r : Reads s m) (h : ℕ) where
 
   -- ---- how code finds them
 
-  pub sourced-home : (b : ℕ) → sourcesOf (decode s) h ≡ Sources.Home b → {w : Walk} → Walked s (blockOf s b) w
-      → (old : List ℕ) → Sourced (decode s) h (w .blocks) (w .count) old 0 false
+  pub sourced-home : (b : ℕ) → sourcesOf (decode s) h ≡ Sources.Home b → {own : List ℕ} {n : ℕ}
+      → Walked s (blockOf s b) own n → (old : List ℕ) → Sourced (decode s) h own n old 0 false
   sourced-home b e w old =
       let made = home-made r h b e in
       record {
@@ -120,9 +160,9 @@ module _ {s : List ℕ} {m : Meta} (r : Reads s m) (h : ℕ) where
         both = ap isBoth (sym e);
       }
 
-  pub sourced-both : (new old : ℕ) → sourcesOf (decode s) h ≡ Sources.Both new old → {w v : Walk}
-      → Walked s (blockOf s new) w → Walked s (blockOf s old) v
-      → Sourced (decode s) h (w .blocks) (w .count) (v .blocks) (v .count) true
+  pub sourced-both : (new old : ℕ) → sourcesOf (decode s) h ≡ Sources.Both new old → {bs : List ℕ} {n : ℕ}
+      → Walked s (blockOf s new) bs n → {js : List ℕ} {k : ℕ} → Walked s (blockOf s old) js k
+      → Sourced (decode s) h bs n js k true
   sourced-both new old e w v =
       let made = both-made r h new old e in
       record {

@@ -1,17 +1,21 @@
 // Where pairs are held.
-use crate::SourceWalks;
+use crate::SourceCounts;
 use crate::Sources;
 use address::bucket_of;
+use address::limits::MAX_BLOCKS;
 use address::parent_of;
 use chain::Found;
-use chain::Walk;
 use chain::along::find_along;
+use chain::links::zero_walk;
 use image::Meta;
 use page::Pair;
 use reader::buckets::bucket_flags;
 use reader::buckets::walk_bucket;
 use store::flags::POPULATED;
 ghost use mathlib.Core.Path.{_≡_};
+ghost use Prim.Native.Nat.{suc};
+ghost use lib.ListN.{length};
+ghost use Rattle.address.specs.Limits.{maxBlocks};
 ghost use Rattle.image.specs.Decode.{decode};
 ghost use Rattle.model.specs.Held.{held};
 ghost use Rattle.view.specs.Reads.{Reads};
@@ -33,27 +37,28 @@ pub fn sources_of(store: &[u8], m: Meta, hash: u32) -> Sources
     Sources::Both { new: home, old }
 }
 
-// The walks of the chains of these buckets.
-pub fn walk_sources(store: &[u8], m: Meta, hash: u32) -> SourceWalks
-    requires { ⌜ Reads (now store) m ⌝ }
-    ensures { λ r. ⌜ Sourced (decode (now (store .entry))) hash (r .own .blocks) (r .own .count)
-        (r .old .blocks) (r .old .count) (r .fresh) ⌝ }
+// Puts the blocks of these buckets' chains into `own` and `old`. Without an old chain, `old` stays as it is.
+pub fn walk_sources(
+    store: &[u8],
+    own: &mut [u32; MAX_BLOCKS + 1],
+    old: &mut [u32; MAX_BLOCKS + 1],
+    m: Meta,
+    hash: u32,
+) -> SourceCounts
+    requires { ⌜ (Reads (now store) m) × (length (now own) ≡ suc maxBlocks) × (length (now old) ≡ suc maxBlocks) ⌝ }
+    ensures { λ r. ⌜ Sourced (decode (now (store .entry))) hash (now (own .exit)) (r .own)
+        (now (old .exit)) (r .old) (r .fresh) ⌝ }
 {
     let sources = sources_of(store, m, hash);
     match sources {
-        Sources::Home { home } => {
-            let own = walk_bucket(store, m, home);
-            let blocks = own.blocks;
-            let old = Walk { count: 0, blocks };
-            SourceWalks {
-                own,
-                old,
-                fresh: false,
-            }
-        }
-        Sources::Both { new, old } => SourceWalks {
-            own: walk_bucket(store, m, new),
-            old: walk_bucket(store, m, old),
+        Sources::Home { home } => SourceCounts {
+            own: walk_bucket(store, own, m, home),
+            old: 0,
+            fresh: false,
+        },
+        Sources::Both { new, old: from } => SourceCounts {
+            own: walk_bucket(store, own, m, new),
+            old: walk_bucket(store, old, m, from),
             fresh: true,
         },
     }
@@ -64,12 +69,10 @@ pub fn find_held(store: &[u8], m: Meta, pair: Pair) -> Found
     requires { ⌜ Reads (now store) m ⌝ }
     ensures { λ r. ⌜ r ≡ heldAt (decode (now (store .entry))) pair ⌝ }
 {
-    let walks = walk_sources(store, m, pair.hash);
-    let first = walks.own;
-    let second = walks.old;
-    let own = first.blocks;
-    let old = second.blocks;
-    find_along(store, &own, first.count, &old, second.count, pair)
+    let mut own = zero_walk();
+    let mut old = zero_walk();
+    let walks = walk_sources(store, &mut own, &mut old, m, pair.hash);
+    find_along(store, &own, walks.own, &old, walks.old, pair)
 }
 
 pub fn is_held(store: &[u8], m: Meta, pair: Pair) -> bool

@@ -4,8 +4,6 @@ pub mod job; // job.rt: the pending job, standing
 pub mod held; // held.rt: the held entry of a pair
 pub mod lookup; // lookup.rt: the matches written out
 
-use chain::Walk;
-
 // The buckets in whose chains the pairs of a hash code are held: its own; or, where that is being populated, the
 // unmoved entries of the new one and all of the old one.
 pub enum Sources {
@@ -13,10 +11,10 @@ pub enum Sources {
     Both { new: u32, old: u32 },
 }
 
-// The walks of the chains of the sources. There is no block in `old` where there is no old chain; where there is one,
-// only the unmoved entries of `own` count, and `fresh` is true.
-pub struct SourceWalks {
-    pub own: Walk,
-    pub old: Walk,
+// The numbers of blocks in the chains of the sources. `old` is 0 where there is no old chain; where there is one, only
+// the unmoved entries of the own chain count, and `fresh` is true.
+pub struct SourceCounts {
+    pub own: usize,
+    pub old: usize,
     pub fresh: bool,
 }

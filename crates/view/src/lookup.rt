@@ -3,6 +3,7 @@
 use crate::held::walk_sources;
 use address::limits::MAX_BLOCKS;
 use chain::along::count_along;
+use chain::links::zero_walk;
 use endian::put_u16;
 use endian::put_u32;
 use image::Meta;
@@ -14,23 +15,25 @@ use merge::heads::start_merge;
 use merge::heads::take_first;
 use merge::heads::zero_keys;
 use merge::heads::zero_tails;
+use merge::heads::zero_tree;
 use merge::walks::join_walks;
 use model::LookupAnswer;
 use model::Refusal;
 use page::Pair;
 ghost use mathlib.Core.Path.{_≡_};
 ghost use mathlib.Core.Bool.{true, cond};
-ghost use Prim.Native.Nat.{_+_, _%_, _/_, _≤_, _<_};
+ghost use Prim.Native.Nat.{suc, _+_, _%_, _/_, _≤_, _<_};
 ghost use lib.ListN.{length, take};
 ghost use lib.Seq.{sets};
 ghost use Rattle.lists.specs.Block.{blocks};
+ghost use Rattle.address.specs.Limits.{maxBlocks};
 ghost use Rattle.model.specs.Held.{sorted};
 ghost use Rattle.model.specs.Calls.{placeBytes, lookup};
 ghost use Rattle.image.specs.Decode.{decode};
 ghost use Rattle.chain.specs.Within.{PagesOk, Within};
 ghost use Rattle.chain.specs.Pairs.{counts};
 ghost use Rattle.chain.specs.Along.{pairsAlong};
-ghost use Rattle.merge.specs.Heads.{pairFrom, firstAt, leftOf, Merging};
+ghost use Rattle.merge.specs.Heads.{pairFrom, firstAt, pageAt, Pages, leftOf, Merging};
 ghost use Rattle.view.specs.Reads.{Reads};
 ghost use Rattle.view.specs.Left.{pairsLeft, freshAt, NoLower, Told};
 ghost use Rattle.view.specs.Lookup.{written, Listable};
@@ -91,7 +94,7 @@ fn put_left(
     pages: &[u32; MAX_PAGES],
     keys: &mut [u64; MAX_PAGES],
     tails: &mut [u32; MAX_PAGES],
-    tree: &mut [usize; 2 * MAX_PAGES],
+    tree: &mut [u16; 2 * MAX_PAGES],
     output: &mut [u8],
     n: usize,
     k: usize,
@@ -107,7 +110,7 @@ fn put_left(
 {
     let mut at = 0;
     loop {
-        let j = tree[1];
+        let j = tree[1] as usize;
         let key = keys[j];
         if key == NO_KEY {
             return;
@@ -122,7 +125,46 @@ fn put_left(
     }
 }
 
-// Writes the places of the matches along two walks, for which there is room.
+// Writes the places of the matches on `n` own and `k` old pages, for which there is room. The arrays of the merge are
+// made here and in no caller, so that they stand on the stack while it runs alone.
+fn put_pages(
+    store: &[u8],
+    pages: &[u32; MAX_PAGES],
+    output: &mut [u8],
+    n: usize,
+    k: usize,
+    hash: u32,
+    fresh: bool,
+)
+    requires { ⌜ (Pages (now store) (now pages) (n + k)) × (1 ≤ n)
+        × (Listable (pairsLeft (pageAt (now store) (now pages)) n k hash fresh) (now output)) ⌝ }
+    ensures { λ _. ⌜ now (output .exit) ≡ written (sorted (pairsLeft
+        (pageAt (now (store .entry)) (now (pages .entry))) n k hash fresh)) (now (output .entry)) ⌝ }
+{
+    let mut keys = zero_keys();
+    let mut tails = zero_tails();
+    let mut tree = zero_tree();
+    let from = Pair {
+        hash,
+        block: 0,
+        offset: 0,
+    };
+    start_merge(store, pages, &mut keys, &mut tails, &mut tree, n + k, from);
+    put_left(
+        store,
+        pages,
+        &mut keys,
+        &mut tails,
+        &mut tree,
+        output,
+        n,
+        k,
+        hash,
+        fresh,
+    );
+}
+
+// Writes the places of the matches along two walks, for which there is room. One walk alone is merged where it lies.
 fn put_matches(
     store: &[u8],
     own: &[u32; MAX_BLOCKS + 1],
@@ -135,32 +177,17 @@ fn put_matches(
 )
     requires { ⌜ (Within (now store) (now own) n) × (PagesOk (now store) (take n (now own))) ⌝ }
     requires { ⌜ (Within (now store) (now old) k) × (PagesOk (now store) (take k (now old))) ⌝ }
-    requires { ⌜ (1 ≤ n) × (Listable (pairsAlong (now store) (take n (now own)) (take k (now old)) hash fresh)
-        (now output)) ⌝ }
+    requires { ⌜ (1 ≤ n) × (n + k ≤ suc maxBlocks)
+        × (Listable (pairsAlong (now store) (take n (now own)) (take k (now old)) hash fresh) (now output)) ⌝ }
     ensures { λ _. ⌜ now (output .exit) ≡ written (sorted (pairsAlong (now (store .entry)) (take n (now (own .entry)))
         (take k (now (old .entry))) hash fresh)) (now (output .entry)) ⌝ }
 {
+    if k == 0 {
+        put_pages(store, own, output, n, k, hash, fresh);
+        return;
+    }
     let pages = join_walks(own, n, old, k);
-    let mut keys = zero_keys();
-    let mut tails = zero_tails();
-    let from = Pair {
-        hash,
-        block: 0,
-        offset: 0,
-    };
-    let mut tree = start_merge(store, &pages, &mut keys, &mut tails, n + k, from);
-    put_left(
-        store,
-        &pages,
-        &mut keys,
-        &mut tails,
-        &mut tree,
-        output,
-        n,
-        k,
-        hash,
-        fresh,
-    );
+    put_pages(store, &pages, output, n, k, hash, fresh);
 }
 
 pub fn lookup_in(store: &[u8], m: Meta, hash: u32, output: &mut [u8]) -> LookupAnswer
@@ -168,13 +195,11 @@ pub fn lookup_in(store: &[u8], m: Meta, hash: u32, output: &mut [u8]) -> LookupA
     ensures { λ r. ⌜ lookup (decode (now (store .entry))) hash (now (output .entry))
         ≡ record { answer = r; output = now (output .exit) } ⌝ }
 {
-    let walks = walk_sources(store, m, hash);
-    let first = walks.own;
-    let second = walks.old;
-    let own = first.blocks;
-    let n = first.count;
-    let old = second.blocks;
-    let k = second.count;
+    let mut own = zero_walk();
+    let mut old = zero_walk();
+    let walks = walk_sources(store, &mut own, &mut old, m, hash);
+    let n = walks.own;
+    let k = walks.old;
     let matches = count_along(store, &own, n, &old, k, hash, walks.fresh);
     if output.len() / 6 < matches as usize {
         return LookupAnswer::Refused(Refusal::OutputShort { matches });

@@ -1,4 +1,4 @@
-use mathlib.Core.Path.{_≡_, refl, _∙_}
+use mathlib.Core.Path.{_≡_, _∙_}
 use mathlib.Core.List.{_++_}
 use Prim.Native.Nat.{suc, _+_, _-_, _≤_, _<_}
 use native.Mathlib.Omega.{arith}
@@ -12,32 +12,37 @@ use Rattle.chain.proofs.links.walk_chain.Statement.{statement}
 use Rattle.chain.proofs.links.walk_chain.Tie as tie
 
 abbrev Inv-loop : tie.InvT-loop
-Inv-loop store first n blocks₀ last₀ count₀ blocks last count =
+Inv-loop store blocks₀ first n last₀ count₀ blocks last count =
     (1 ≤ count) × (count ≤ n + 1) × (length blocks ≡ suc maxBlocks)
     × (take count blocks ++ follow store (n + 1 - count) last ≡ walk store first)
 
 abbrev μ-loop : tie.MeasureT-loop
-μ-loop store first n blocks₀ last₀ count₀ blocks last count = n + 1 - count
+μ-loop store blocks₀ first n last₀ count₀ blocks last count = n + 1 - count
 
-array-write-blocks : tie.Need-array-write-blocks Inv-loop μ-loop
-array-write-blocks c = omega arith
+element-write-blocks : tie.Need-element-write-blocks Inv-loop μ-loop
+element-write-blocks c = omega arith
 
 loop-holds : tie.Need-loop-holds Inv-loop μ-loop
 unfolding blocks
 loop-holds c =
-    let a = c .before .args in
-    (omega arith, omega arith, refl, begin (a .store .now) (a .first))
+    let s = c .before in
+    let a = s .args in (
+      omega arith,
+      omega arith,
+      length-set (a .blocks .now) 0 (a .first) ∙ s .pre .1,
+      begin (a .store .now) (a .blocks .now) (a .first) (omega (arith, s .pre .1)),
+    )
 
 next-block-requires : tie.Need-next-block-requires Inv-loop μ-loop
-next-block-requires c κs = c .before .before .before .pre
+next-block-requires c κs = c .before .before .before .pre .0
 
 mul-blocks : tie.Need-mul-blocks Inv-loop μ-loop
 unfolding blocks
-mul-blocks c = omega (arith, c .before .before .before .before .before .pre .few)
+mul-blocks c = omega (arith, c .before .before .before .before .before .pre .0 .few)
 
-array-write-blocks-2 : tie.Need-array-write-blocks-2 Inv-loop μ-loop
+element-write-blocks-2 : tie.Need-element-write-blocks-2 Inv-loop μ-loop
 unfolding blocks
-array-write-blocks-2 c = omega (arith, c .before .before .before .before .before .pre .few)
+element-write-blocks-2 c = omega (arith, c .before .before .before .before .before .pre .0 .few)
 
 add-count : tie.Need-add-count Inv-loop μ-loop
 add-count c = omega arith
@@ -51,7 +56,7 @@ loop-again c =
     let s = c .before .before .before .before .before in
     let l = c .before .before .before .loop in
     let r = c .before .next-block in
-    let few : l .count < suc maxBlocks = omega (arith, s .pre .few) in (
+    let few : l .count < suc maxBlocks = omega (arith, s .pre .0 .few) in (
       omega arith,
       omega arith,
       length-set (l .blocks) (l .count) (r .result) ∙ l .inv .2,
@@ -65,8 +70,8 @@ unfolding blocks
 returns c =
     let s = c .before .before .before in
     let l = c .before .loop in
-    spent (s .args .store .now) (l .blocks) (l .count) (l .last) (s .args .first) (omega (arith, s .pre .few))
-    (l .inv .3) (omega arith)
+    spent (s .args .store .now) (l .blocks) (l .count) (l .last) (s .args .first) (l .inv .2)
+    (omega (arith, s .pre .0 .few)) (l .inv .3) (omega arith)
 
 returns-2 : tie.Need-returns-2 Inv-loop μ-loop
 unfolding blocks
@@ -74,8 +79,8 @@ returns-2 c =
     let s = c .before .before .before .before .before in
     let l = c .before .before .before .loop in
     let r = c .before .next-block in
-    ended (s .args .store .now) (l .blocks) (l .count) (l .last) (s .args .first) (omega (arith, s .pre .few))
-    (l .inv .3) (r .result) (r .ensures) (c .if1 .taken)
+    ended (s .args .store .now) (l .blocks) (l .count) (l .last) (s .args .first) (l .inv .2)
+    (omega (arith, s .pre .0 .few)) (l .inv .3) (r .result) (r .ensures) (c .if1 .taken)
 
 pub walk-chain-spec : {M : Type 1} → statement M
 walk-chain-spec =
@@ -83,11 +88,11 @@ walk-chain-spec =
     (tie.spec
     Inv-loop
     μ-loop
-    array-write-blocks
+    element-write-blocks
     loop-holds
     next-block-requires
     mul-blocks
-    array-write-blocks-2
+    element-write-blocks-2
     add-count
     loop-less
     loop-again

@@ -4,13 +4,13 @@ use mathlib.Core.List.{List}
 use Prim.Native.Nat.{ℕ, _≤_, _<_}
 use native.Mathlib.Omega.{arith}
 use borrow.Author.Tests.{not-true, not-false}
-use lib.ListN.{length, getD, length-replicate}
+use lib.ListN.{getD}
 use Rattle.lists.specs.Lists.{all, tally}
 use Rattle.page.specs.declared.Entry.{Entry}
 use Rattle.merge.specs.Tree.{maxPages}
 use Rattle.merge.specs.Merge.{joined}
 use Rattle.merge.specs.Heads.{noKey, pageAt, leftOf, Merging}
-use Rattle.merge.specs.MergingLaws.{merging-upto, merging-done, next-few}
+use Rattle.merge.specs.MergingLaws.{zero-lent, merging-upto, merging-done, next-few}
 use Rattle.shape.specs.LoopLaws.{passed, failed}
 use Rattle.entries.specs.Tests.{markedBy}
 use Rattle.entries.specs.TakenLaws.{taken-less}
@@ -40,15 +40,16 @@ zero-keys-requires c κs = tt
 zero-tails-requires : tie.Need-zero-tails-requires Inv-loop μ-loop
 zero-tails-requires c κs = tt
 
+zero-tree-requires : tie.Need-zero-tree-requires Inv-loop μ-loop
+zero-tree-requires c κs = tt
+
 start-all-requires : tie.Need-start-all-requires Inv-loop μ-loop
 start-all-requires c κs =
-    let m = c .before .before in
+    let t = c .before .before .before in
+    let m = t .before in
     let k = m .before in (
       k .before .before .pre .0 .0,
-      (
-        ap length (k .zero-keys .ensures) ∙ length-replicate {A = ℕ} maxPages 0,
-        ap length (m .zero-tails .ensures) ∙ length-replicate {A = ℕ} maxPages 0,
-      ),
+      zero-lent (k .zero-keys .ensures) (m .zero-tails .ensures) (t .zero-tree .ensures),
     )
 
 zero-keys-requires-2 : tie.Need-zero-keys-requires-2 Inv-loop μ-loop
@@ -57,23 +58,26 @@ zero-keys-requires-2 c κs = tt
 zero-tails-requires-2 : tie.Need-zero-tails-requires-2 Inv-loop μ-loop
 zero-tails-requires-2 c κs = tt
 
+zero-tree-requires-2 : tie.Need-zero-tree-requires-2 Inv-loop μ-loop
+zero-tree-requires-2 c κs = tt
+
 start-all-requires-2 : tie.Need-start-all-requires-2 Inv-loop μ-loop
 start-all-requires-2 c κs =
-    let m = c .before .before in
+    let t = c .before .before .before in
+    let m = t .before in
     let k = m .before in (
-      k .before .before .before .before .before .before .before .pre .1 .0,
-      (
-        ap length (k .zero-keys2 .ensures) ∙ length-replicate {A = ℕ} maxPages 0,
-        ap length (m .zero-tails2 .ensures) ∙ length-replicate {A = ℕ} maxPages 0,
-      ),
+      k .before .before .before .before .before .before .before .before .before .pre .1 .0,
+      zero-lent (k .zero-keys2 .ensures) (m .zero-tails2 .ensures) (t .zero-tree2 .ensures),
     )
 
 abbrev entry : (c : tie.After-start-all2 Inv-loop μ-loop) → tie.Start Inv-loop μ-loop
-entry c = c .before .before .before .before .before .before .before .before .before .before .before
+entry c =
+    let f = c .before .before .before .before .before .before .before in
+    f .before .before .before .before .before .before .before .before
 
 loop-holds : tie.Need-loop-holds Inv-loop μ-loop
 loop-holds c =
-    let f = c .before .before .before .before .before .start-all in
+    let f = c .before .before .before .before .before .before .before .start-all in
     record {
       news = f .ensures .0;
       olds = c .start-all2 .ensures .0;
@@ -90,6 +94,9 @@ upto c = let m = c .loop .inv .news in omega (arith, merging-upto m (some c), m 
 
 array-read-j : tie.Need-array-read-j Inv-loop μ-loop
 array-read-j c = omega arith
+
+cast-j : tie.Need-cast-j Inv-loop μ-loop
+cast-j c = omega (arith, upto c)
 
 mul-key : tie.Need-mul-key Inv-loop μ-loop
 mul-key c = omega (arith, upto c)
@@ -211,12 +218,15 @@ all-marked-spec =
     μ-loop
     zero-keys-requires
     zero-tails-requires
+    zero-tree-requires
     start-all-requires
     zero-keys-requires-2
     zero-tails-requires-2
+    zero-tree-requires-2
     start-all-requires-2
     loop-holds
     array-read-j
+    cast-j
     mul-key
     array-read-key
     returns

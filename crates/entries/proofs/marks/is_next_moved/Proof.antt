@@ -7,6 +7,9 @@ use Rattle.entries.proofs.marks.is_next_moved.Tie as tie
 element-copy-out-j : tie.Need-element-copy-out-j
 element-copy-out-j c = search needs
 
+cast-j : tie.Need-cast-j
+cast-j c = let s = c .before .before in omega (arith, s .pre .0 .1, s .pre .0 .0 .few)
+
 mul-is-head-moved : tie.Need-mul-is-head-moved
 mul-is-head-moved c = let s = c .before .before in omega (arith, s .pre .0 .1, s .pre .0 .0 .few)
 
@@ -33,6 +36,7 @@ is-next-moved-spec =
     tie.close
     (tie.spec
     element-copy-out-j
+    cast-j
     mul-is-head-moved
     element-copy-out-is-head-moved
     mul-is-head-moved-2

@@ -7,6 +7,9 @@ use Rattle.entries.proofs.next.is_next.Tie as tie
 element-copy-out-j : tie.Need-element-copy-out-j
 element-copy-out-j c = search needs
 
+cast-j : tie.Need-cast-j
+cast-j c = search needs
+
 mul-if1 : tie.Need-mul-if1
 mul-if1 c = search needs
 
@@ -34,6 +37,7 @@ is-next-spec =
     tie.close
     (tie.spec
     element-copy-out-j
+    cast-j
     mul-if1
     element-copy-out-if1
     mul-result

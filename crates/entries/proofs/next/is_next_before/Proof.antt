@@ -7,6 +7,9 @@ use Rattle.entries.proofs.next.is_next_before.Tie as tie
 element-copy-out-j : tie.Need-element-copy-out-j
 element-copy-out-j c = search needs
 
+cast-j : tie.Need-cast-j
+cast-j c = search needs
+
 mul-next : tie.Need-mul-next
 mul-next c = search needs
 
@@ -34,6 +37,7 @@ is-next-before-spec =
     tie.close
     (tie.spec
     element-copy-out-j
+    cast-j
     mul-next
     element-copy-out-next
     mul-result

@@ -1,37 +1,28 @@
 use mathlib.Core.Path.{sym, ap, _∙_}
 use native.Mathlib.Omega.{arith}
-use borrow.Author.Needs.{needs}
 use Rattle.lists.specs.Bytes.{Bytes}
 use Rattle.image.specs.Rules.{distinct}
+use Rattle.merge.specs.WalksLaws.{alone-pages, alone-entries}
 use Rattle.entries.proofs.Distinct.{one-page}
-use Rattle.entries.proofs.Alone.{alone-pages, alone-entries}
 use Rattle.entries.proofs.pages.check_distinct.Statement.{statement}
 use Rattle.entries.proofs.pages.check_distinct.Tie as tie
 
-bytes : (c : tie.After-shared-slice-known) → Bytes (c .before .args .store .now)
-bytes c = λ i. omega (arith, c .shared-slice-known .given i)
-
 returns : tie.Need-returns
 returns c =
-    let s = c .before .before in sym (one-page (s .pre .0) (s .pre .1) (c .if1 .taken))
-
-join-walks-requires : tie.Need-join-walks-requires
-join-walks-requires c κs = search needs
+    let s = c .before .before in (sym (one-page (s .pre .0) (s .pre .1) (c .if1 .taken)), s .pre .2)
 
 all-distinct-requires : tie.Need-all-distinct-requires
 all-distinct-requires c κs =
-    let w = c .before in
-    let k = w .before .before in
+    let e = c .before .before .before in
+    let k = e .before in
     let s = k .before in
-    (alone-pages (bytes k) (s .pre .0) (s .pre .1) (w .join-walks .ensures), omega (arith, w .before .if1 .left))
+    let bytes : Bytes (s .args .store .now) = λ i. omega (arith, k .shared-slice-known .given i) in
+    (alone-pages bytes (s .pre .0) (s .pre .1), omega (arith, e .if1 .left), s .pre .2)
 
 returns-2 : tie.Need-returns-2
 returns-2 c =
-    let w = c .before .before in
-    let k = w .before .before in
-    let s = k .before in
-    c .all-distinct .ensures
-    ∙ ap distinct (alone-entries (bytes k) (s .pre .0) (s .pre .1) (w .join-walks .ensures))
+    let s = c .before .before .before .before .before .before in
+    (c .all-distinct .ensures .0 ∙ ap distinct (alone-entries (s .pre .0)), c .all-distinct .ensures .1)
 
 pub check-distinct-spec : {M : Type 1} → statement M
-check-distinct-spec = tie.close (tie.spec returns join-walks-requires all-distinct-requires returns-2)
+check-distinct-spec = tie.close (tie.spec returns all-distinct-requires returns-2)

@@ -28,12 +28,12 @@ same-length-2 c = search needs
 
 returns : tie.Need-returns
 returns c =
-    let f = c .before .before .before .before in
+    let f = c .before .before .before .before .before in
     let p = f .before .before .before .before .before .before in
     let r = p .before .before .before .before .before .before .before .pre .0 .0 in
     let e = p .plan-step .ensures in (
       advances-stepped r (e .0) refl _ (f .finish .ensures),
-      advances-from r (e .0) refl _ (f .finish .ensures) (p .plan-step .result .place) (e .1),
+      advances-from r (e .0) refl _ (f .finish .ensures) (p .plan-step .result .next) (e .1),
     )
 
 pub step-sound-spec : {M : Type 1} → statement M

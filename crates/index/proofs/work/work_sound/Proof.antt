@@ -14,14 +14,22 @@ use Rattle.index.proofs.work.work_sound.Lts as lts
 use Rattle.index.proofs.sound.step_sound.Reads as step-sound-reads
 
 abbrev Inv-loop : tie.InvT-loop
-Inv-loop store₀ budget images₀ steps₀ place₀ store images steps place =
-    Working budget store₀ store steps × From (decode store) place × (length images ≡ 4096)
+Inv-loop store₀ budget images₀ steps₀ from₀ store images steps from =
+    Working budget store₀ store steps × From (decode store) from × (length images ≡ 4096)
 
 abbrev μ-loop : tie.MeasureT-loop
-μ-loop store₀ budget images₀ steps₀ place₀ store images steps place = budget - steps
+μ-loop store₀ budget images₀ steps₀ from₀ store images steps from = budget - steps
+
+start-requires : tie.Need-start-requires Inv-loop μ-loop
+start-requires c κs = search needs
 
 loop-holds : tie.Need-loop-holds Inv-loop μ-loop
-loop-holds c = (working-none _ _ (c .before .pre), from-start (decode (c .before .args .store .now)), refl)
+loop-holds c =
+    let s = c .before .before in (
+      working-none _ _ (s .pre),
+      from-start (decode (s .args .store .now)) (c .start .result) (c .start .ensures),
+      refl,
+    )
 
 slice-aggregate-step-sound : tie.Need-slice-aggregate-step-sound Inv-loop μ-loop
 slice-aggregate-step-sound c = search needs
@@ -53,12 +61,13 @@ loop-less c = omega arith
 
 loop-again : tie.Need-loop-again Inv-loop μ-loop
 loop-again c =
-    let a = c .before .before .before .before .before in
+    let k = c .before in
+    let a = k .before .before .before .before .before in
     let l = a .before .before .before in
     let e = a .step-sound .ensures in (
-      working-next (l .before .loop .inv .0) (l .loop-test .taken) (e .0) (c .enum-told .given .1)
+      working-next (l .before .loop .inv .0) (l .loop-test .taken) (e .0) (k .enum-told .given .1)
           (a .step-sound .kept .0),
-      e .1 (c .enum-told .given .1),
+      e .1 (k .enum-told .given .1),
       a .step-sound .kept .1 .0 ∙ l .before .loop .inv .2,
     )
 
@@ -74,6 +83,7 @@ work-sound-spec =
     (tie.spec
     Inv-loop
     μ-loop
+    start-requires
     loop-holds
     slice-aggregate-step-sound
     step-sound-requires

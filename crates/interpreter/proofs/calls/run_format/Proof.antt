@@ -10,7 +10,7 @@ use Rattle.text.specs.TextLaws.{wrote-as}
 use Rattle.interpreter.specs.Script.{runCommand}
 use Rattle.interpreter.specs.Runs.{Stands}
 use Rattle.interpreter.specs.RunsLaws.{stands-kept, stands-over, runs-as}
-use Rattle.interpreter.specs.RunsLaws.{format-done, format-refused, format-kept, format-large}
+use Rattle.interpreter.specs.RunsLaws.{line-is-format, format-done, format-refused, format-kept}
 use borrow.Author.Needs.{needs}
 use Rattle.interpreter.proofs.calls.run_format.Statement.{statement}
 use Rattle.interpreter.proofs.calls.run_format.Tie as tie
@@ -35,8 +35,8 @@ returns c =
     let s = t .before .before .before in
     let a = s .args in
     runs-as
-    (format-large (a .line) (a .blocks) (orderOf (a .fill) (a .number) (a .overwrite))
-    (take (512 * a .standing) (a .store .now)) (t .if1 .taken))
+    (sym (line-is-format (a .line) (a .blocks) (orderOf (a .fill) (a .number) (a .overwrite))
+    (take (512 * a .standing) (a .store .now)) .1 (t .if1 .taken)))
     (record { store = stands-kept (s .pre); text = c .before .before .put-refused .ensures })
 
 format-standing-requires : tie.Need-format-standing-requires

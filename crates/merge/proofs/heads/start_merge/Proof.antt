@@ -3,14 +3,15 @@ use Rattle.merge.proofs.heads.start_merge.Statement.{statement}
 use Rattle.merge.proofs.heads.start_merge.Tie as tie
 
 put-heads-requires : tie.Need-put-heads-requires
-put-heads-requires c κs = search needs
+put-heads-requires c κs =
+    let s = c .before .before .before in (s .pre .0, (s .pre .1 .keys-size, s .pre .1 .tails-size))
 
 build-tree-requires : tie.Need-build-tree-requires
 build-tree-requires c κs = search needs
 
 returns : tie.Need-returns
 returns c =
-    let p = c .before .before .before in
+    let p = c .before .before .before .before in
     let s = p .before .before .before .before in
     let tree = c .build-tree .ensures in (
       record {

@@ -1,3 +1,4 @@
+use native.Mathlib.Omega.{arith}
 use borrow.Author.Needs.{needs}
 use Rattle.merge.specs.MergingLaws.{merging-upto, next-few, taken-settled, taken-moved, taken-kept}
 use Rattle.merge.proofs.heads.take_first.Statement.{statement}
@@ -5,6 +6,11 @@ use Rattle.merge.proofs.heads.take_first.Tie as tie
 
 element-copy-out-j : tie.Need-element-copy-out-j
 element-copy-out-j c = search needs
+
+cast-j : tie.Need-cast-j
+cast-j c =
+    let p = c .before .before .pre .0 in
+    omega (arith, merging-upto (p .0) (p .1), p .0 .pages .few)
 
 advance-head-requires : tie.Need-advance-head-requires
 advance-head-requires c κs =
@@ -66,6 +72,7 @@ take-first-spec =
     tie.close
     (tie.spec
     element-copy-out-j
+    cast-j
     advance-head-requires
     stays-first-requires
     returns

@@ -8,19 +8,19 @@ use Rattle.merge.proofs.tree.build_tree.Statement.{statement}
 use Rattle.merge.proofs.tree.build_tree.Tie as tie
 
 abbrev Inv-loop : tie.InvT-loop
-Inv-loop keys tails n tree₀ k₀ tree k = (k ≤ n) × Settled keys tails n tree (Under k)
+Inv-loop keys tails tree₀ n k₀ tree k = (k ≤ n) × Settled keys tails n tree (Under k)
 
 abbrev μ-loop : tie.MeasureT-loop
-μ-loop keys tails n tree₀ k₀ tree k = k
+μ-loop keys tails tree₀ n k₀ tree k = k
 
 put-leaves-requires : tie.Need-put-leaves-requires Inv-loop μ-loop
 put-leaves-requires c κs = search needs
 
 loop-holds : tie.Need-loop-holds Inv-loop μ-loop
 loop-holds c =
-    let a = c .before .args in
+    let a = c .before .before .args in
     let e = c .put-leaves .ensures in
-    (omega arith, leaves-settled (a .keys .now) (a .tails .now) (a .n) (c .put-leaves .result) (e .0) (e .1))
+    (omega arith, leaves-settled (a .keys .now) (a .tails .now) (a .n) (c .put-leaves .last .0) (e .0) (e .1))
 
 sub-k : tie.Need-sub-k Inv-loop μ-loop
 sub-k c = omega arith
@@ -28,15 +28,15 @@ sub-k c = omega arith
 winner-at-requires : tie.Need-winner-at-requires Inv-loop μ-loop
 winner-at-requires c κs =
     let l = c .before .before .loop in
-    let a = c .before .before .before .before .args in
+    let a = c .before .before .before .before .before .args in
     pages-below (a .keys .now) (a .tails .now) (a .n) (l .tree) (Under (l .k)) (l .k - 1) (omega arith) (omega arith)
     (omega arith) (λ o. omega arith) (λ o. omega arith) (l .inv .1)
 
 mul-tree : tie.Need-mul-tree Inv-loop μ-loop
 mul-tree c = omega arith
 
-array-write-tree : tie.Need-array-write-tree Inv-loop μ-loop
-array-write-tree c = omega arith
+element-write-tree : tie.Need-element-write-tree Inv-loop μ-loop
+element-write-tree c = omega arith
 
 loop-less : tie.Need-loop-less Inv-loop μ-loop
 loop-less c = omega arith
@@ -44,20 +44,23 @@ loop-less c = omega arith
 loop-again : tie.Need-loop-again Inv-loop μ-loop
 loop-again c =
     let l = c .before .before .before .loop in
-    let a = c .before .before .before .before .before .args in (
+    let a = c .before .before .before .before .before .before .args in (
       omega arith,
       rw (c .winner-at .ensures)
           (built-next (a .keys .now) (a .tails .now) (a .n) (l .tree) (l .k) (omega arith) (omega arith) (omega arith)
           (l .inv .1)),
     )
 
-array-write-tree-2 : tie.Need-array-write-tree-2 Inv-loop μ-loop
-array-write-tree-2 c = omega arith
+cast-tree : tie.Need-cast-tree Inv-loop μ-loop
+cast-tree c = omega arith
+
+element-write-tree-2 : tie.Need-element-write-tree-2 Inv-loop μ-loop
+element-write-tree-2 c = omega arith
 
 returns : tie.Need-returns Inv-loop μ-loop
 returns c =
     let l = c .before .loop in
-    let a = c .before .before .before .args in
+    let a = c .before .before .before .before .args in
     let won = built-won (a .keys .now) (a .tails .now) (a .n) (l .tree) (l .k) (omega arith) (l .inv .1) in
     (won-put won (a .n), second-none won)
 
@@ -72,8 +75,9 @@ build-tree-spec =
     sub-k
     winner-at-requires
     mul-tree
-    array-write-tree
+    element-write-tree
     loop-less
     loop-again
-    array-write-tree-2
+    cast-tree
+    element-write-tree-2
     returns)

@@ -1,8 +1,13 @@
-use mathlib.Core.Path.{sym, _∙_}
+use mathlib.Core.Path.{_≡_, refl, ap, _∙_}
+use mathlib.Core.Bool.{Bool, true, false, _&&_, _||_}
+use Prim.Native.Nat.{ℕ}
+use native.Mathlib.Omega.{arith}
+use native.Mathlib.Decide.{ℕ-discrete}
 use borrow.Author.Needs.{needs}
-use borrow.Author.Tests.{eq-eqb, ne-eqb}
+use borrow.Author.Tests.{eq-eqb, ne-eqb, le-ltb}
+use lib.Dec.{leb, ltb, eqb}
 use lib.ListN.{getD}
-use Rattle.merge.specs.Tree.{ahead}
+use Rattle.merge.specs.Tree.{noLater, ahead}
 use Rattle.merge.proofs.tree.is_ahead.Statement.{statement}
 use Rattle.merge.proofs.tree.is_ahead.Tie as tie
 
@@ -12,36 +17,39 @@ mul-other c = search needs
 element-copy-out-other : tie.Need-element-copy-out-other
 element-copy-out-other c = search needs
 
+mul-later : tie.Need-mul-later
+mul-later c = search needs
+
+element-copy-out-later : tie.Need-element-copy-out-later
+element-copy-out-later c = search needs
+
 mul-result : tie.Need-mul-result
 mul-result c = search needs
 
 element-copy-out-result : tie.Need-element-copy-out-result
 element-copy-out-result c = search needs
 
-mul-result-2 : tie.Need-mul-result-2
-mul-result-2 c = search needs
+-- all three tests are made, so that there is no branch
+flat : (k m l o : ℕ) → ltb k l || (eqb k l && leb m o) ≡ noLater k m l o
+flat k m l o = go (ℕ-discrete k l)
+  where
+    or-none : (b : Bool) → b || false ≡ b
+    or-none true = refl
+    or-none false = refl
 
-element-copy-out-result-2 : tie.Need-element-copy-out-result-2
-element-copy-out-result-2 c = search needs
+    go : Dec (k ≡ l) → ltb k l || (eqb k l && leb m o) ≡ noLater k m l o
+    go (yes e) = rw (le-ltb k l (omega arith), eq-eqb k l e)
+    go (no n) = rw (ne-eqb k l n) (or-none (ltb k l))
 
 returns : tie.Need-returns
 unfolding ahead
 returns c =
-    let s = c .before .before .before .before in
+    let s = c .before .before .before in
     let a = s .args in
-    rw (eq-eqb (getD (a .keys .now) (a .a) 0) (getD (a .keys .now) (a .b) 0)
-    (sym (s .pre .2) ∙ c .before .before .if1 .taken))
-
-returns-2 : tie.Need-returns-2
-unfolding ahead
-returns-2 c =
-    let s = c .before .before in
-    let a = s .args in
-    rw (
-      ne-eqb (getD (a .keys .now) (a .a) 0) (getD (a .keys .now) (a .b) 0) (λ e. c .if1 .left (s .pre .2
-          ∙ e)),
-      s .pre .2,
-    )
+    flat (a .key) (getD (a .tails .now) (a .a) 0) (getD (a .keys .now) (a .b) 0) (getD (a .tails .now) (a .b) 0)
+    ∙ ap
+    (λ (k : ℕ). noLater k (getD (a .tails .now) (a .a) 0) (getD (a .keys .now) (a .b) 0) (getD (a .tails .now) (a .b) 0))
+    (s .pre .2)
 
 pub is-ahead-spec : {M : Type 1} → statement M
 is-ahead-spec =
@@ -49,9 +57,8 @@ is-ahead-spec =
     (tie.spec
     mul-other
     element-copy-out-other
+    mul-later
+    element-copy-out-later
     mul-result
     element-copy-out-result
-    mul-result-2
-    element-copy-out-result-2
-    returns
-    returns-2)
+    returns)

@@ -1,11 +1,10 @@
-use borrow.Author.Needs.{needs}
 use mathlib.Core.Path.{_≡_, _∙_}
 use mathlib.Core.Logic.{_≢_}
 use mathlib.Core.List.{List}
 use Prim.Native.Nat.{ℕ, _+_, _*_, _-_, _≤_, _<_}
 use native.Mathlib.Omega.{arith}
 use native.Mathlib.Decide.{ℕ-discrete}
-use lib.ListN.{length, getD, set, length-set, length-replicate}
+use lib.ListN.{length, getD, set, length-set}
 use lib.Seq.{getD-set-same, getD-set-other}
 use Rattle.merge.specs.Tree.{maxPages}
 use Rattle.merge.proofs.tree.put_leaves.Statement.{statement}
@@ -18,18 +17,16 @@ one n tree i j u (yes e) h = rw e (getD-set-same tree (n + i) i 0 u)
 one n tree i j u (no ne) h = getD-set-other tree (n + i) (n + j) i 0 (λ e. ne (omega arith)) ∙ h ne
 
 abbrev Inv-loop : tie.InvT-loop
-Inv-loop n tree₀ i₀ tree i = (i ≤ n) × (length tree ≡ 2 * maxPages) × ((j : ℕ) → j < i → getD tree (n + j) 0 ≡ j)
+Inv-loop tree₀ n i₀ tree i = (i ≤ n) × (length tree ≡ 2 * maxPages) × ((j : ℕ) → j < i → getD tree (n + j) 0 ≡ j)
 
 abbrev μ-loop : tie.MeasureT-loop
-μ-loop n tree₀ i₀ tree i = n - i
-
-zero-tree-requires : tie.Need-zero-tree-requires Inv-loop μ-loop
-zero-tree-requires c κs = search needs
+μ-loop tree₀ n i₀ tree i = n - i
 
 loop-holds : tie.Need-loop-holds Inv-loop μ-loop
-loop-holds c =
-    let e : length (c .zero-tree .result) ≡ 2 * maxPages = rw (c .zero-tree .ensures, length-replicate) in
-    (omega arith, e, λ j l. absurd (omega arith))
+loop-holds c = (omega arith, c .pre .1, λ j l. absurd (omega arith))
+
+cast-tree : tie.Need-cast-tree Inv-loop μ-loop
+cast-tree c = omega arith
 
 add-tree : tie.Need-add-tree Inv-loop μ-loop
 add-tree c = omega arith
@@ -37,8 +34,8 @@ add-tree c = omega arith
 mul-tree : tie.Need-mul-tree Inv-loop μ-loop
 mul-tree c = omega arith
 
-array-write-tree : tie.Need-array-write-tree Inv-loop μ-loop
-array-write-tree c = omega arith
+element-write-tree : tie.Need-element-write-tree Inv-loop μ-loop
+element-write-tree c = omega arith
 
 add-i : tie.Need-add-i Inv-loop μ-loop
 add-i c = omega arith
@@ -49,7 +46,7 @@ loop-less c = omega arith
 loop-again : tie.Need-loop-again Inv-loop μ-loop
 loop-again c =
     let l = c .before .loop in
-    let n = c .before .before .before .args .n in
+    let n = c .before .before .args .n in
     let at : ℕ = n + l .i in (
       omega arith,
       length-set (l .tree) at (l .i) ∙ l .inv .1,
@@ -67,11 +64,11 @@ put-leaves-spec =
     (tie.spec
     Inv-loop
     μ-loop
-    zero-tree-requires
     loop-holds
+    cast-tree
     add-tree
     mul-tree
-    array-write-tree
+    element-write-tree
     add-i
     loop-less
     loop-again

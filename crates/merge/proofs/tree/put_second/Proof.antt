@@ -6,6 +6,12 @@ use Rattle.merge.proofs.tree.put_second.Tie as tie
 element-copy-out-if1 : tie.Need-element-copy-out-if1
 element-copy-out-if1 c = search needs
 
+cast-if1 : tie.Need-cast-if1
+cast-if1 c = search needs
+
+cast-tree : tie.Need-cast-tree
+cast-tree c = search needs
+
 element-write-tree : tie.Need-element-write-tree
 element-write-tree c = search needs
 
@@ -32,6 +38,8 @@ put-second-spec =
     tie.close
     (tie.spec
     element-copy-out-if1
+    cast-if1
+    cast-tree
     element-write-tree
     returns
     second-best-requires

@@ -1,10 +1,9 @@
-use mathlib.Core.Path.{refl, sym, _∙_}
-use mathlib.Core.Logic.{⊎-elim}
-use Prim.Native.Nat.{_+_, _*_, _-_, _/_, _<_}
+use mathlib.Core.Path.{_≡_, refl, sym, ap, _∙_, subst}
+use mathlib.Core.Bool.{Bool, true, false, cond}
+use mathlib.Core.List.{List}
+use Prim.Native.Nat.{ℕ, _+_, _*_, _-_, _/_, _<_}
 use native.Mathlib.Omega.{arith}
-use borrow.Author.Tests.{not-false}
-use lib.ListN.{getD}
-use Rattle.lists.specs.ListsLaws.{not-yes}
+use lib.ListN.{getD, set}
 use Rattle.merge.specs.Tree.{maxPages}
 use Rattle.merge.specs.ReplayLaws.{Rising, sibling-few, page-few, rise-here, rise-side, risen}
 use Rattle.merge.proofs.tree.replay.Statement.{statement}
@@ -15,6 +14,9 @@ Inv-loop keys tails tree₀ n j page₀ key₀ k₀ tree page key k = Rising key
 
 abbrev μ-loop : tie.MeasureT-loop
 μ-loop keys tails tree₀ n j page₀ key₀ k₀ tree page key k = k
+
+cast-page : tie.Need-cast-page Inv-loop μ-loop
+cast-page c = omega arith
 
 mul-key : tie.Need-mul-key Inv-loop μ-loop
 mul-key c = omega arith
@@ -69,39 +71,83 @@ is-ahead-requires c κs =
     let s = l .before .before in
     (omega (arith, page-few (s .pre .1) (l .loop .inv), s .pre .1), other (c .before), l .loop .inv .key)
 
+pick-requires : tie.Need-pick-requires Inv-loop μ-loop
+pick-requires c κs = tt
+
+either : (b : Bool) (x y m : ℕ) → x < m → y < m → cond b x y < m
+either true x y m h l = h
+either false x y m h l = l
+
+picked : (c : tie.After-pick Inv-loop μ-loop) → c .pick .result < maxPages
+picked c =
+    let g = c .before in
+    let l = g .before .before .before in
+    let s = l .before .before in
+    let few : l .loop .page < maxPages = omega (arith, page-few (s .pre .1) (l .loop .inv), s .pre .1) in
+    omega (arith, c .pick .ensures, either (g .is-ahead .result) _ _ maxPages few (other (g .before .before)))
+
+cast-key : tie.Need-cast-key Inv-loop μ-loop
+cast-key c = omega (arith, picked c)
+
 mul-key-2 : tie.Need-mul-key-2 Inv-loop μ-loop
-mul-key-2 c = omega (arith, other (c .before .before .before))
+mul-key-2 c = omega (arith, picked c)
 
 element-copy-out-key-2 : tie.Need-element-copy-out-key-2 Inv-loop μ-loop
-element-copy-out-key-2 c = omega (arith, other (c .before .before .before))
+element-copy-out-key-2 c = omega (arith, picked c)
 
 mul-tree : tie.Need-mul-tree Inv-loop μ-loop
-mul-tree c = omega (arith, node (c .before .before .before))
+mul-tree c = omega (arith, node (c .before .before .before .before))
 
 element-write-tree : tie.Need-element-write-tree Inv-loop μ-loop
-element-write-tree c = omega (arith, node (c .before .before .before))
+element-write-tree c = omega (arith, node (c .before .before .before .before))
 
 loop-less : tie.Need-loop-less Inv-loop μ-loop
-loop-less c = omega (arith, c .before .before .before .loop-test .taken)
+loop-less c = omega (arith, c .before .before .before .before .loop-test .taken)
 
 loop-again : tie.Need-loop-again Inv-loop μ-loop
-loop-again c =
-    let g = c .before in
-    let v = g .before .before in
-    let l = v .before in
-    let s = l .before .before in
-    let q = getD (l .loop .tree) (4 * (l .loop .k / 2) + 1 - l .loop .k) 0 in
-    let more = v .loop-test .taken in
-    ⊎-elim
-    (λ w.
-    rw (w .2, w .3)
-    (rise-side (s .pre .1) (l .loop .inv) more q refl
-    (sym (g .is-ahead .ensures) ∙ not-yes (g .is-ahead .result) (w .0 .taken))))
-    (λ w.
-    rw (w .1, w .2)
-    (rise-here (s .pre .1) (l .loop .inv) more q refl
-    (sym (g .is-ahead .ensures) ∙ not-false (g .is-ahead .result) (w .0 .left))))
-    (c .if1 .came)
+loop-again c = go (g .is-ahead .result) refl
+  where
+    p : tie.After-pick Inv-loop μ-loop
+    p = c .before
+
+    g : tie.After-is-ahead Inv-loop μ-loop
+    g = p .before
+
+    v : tie.In-loop Inv-loop μ-loop
+    v = g .before .before
+
+    l : tie.At-loop Inv-loop μ-loop
+    l = v .before
+
+    q : ℕ
+    q = getD (l .loop .tree) (4 * (l .loop .k / 2) + 1 - l .loop .k) 0
+
+    keys : List ℕ
+    keys = l .before .before .args .keys .now
+
+    tails : List ℕ
+    tails = l .before .before .args .tails .now
+
+    n : ℕ
+    n = l .before .before .args .n
+
+    up : ℕ
+    up = l .loop .k / 2
+
+    -- with page x at the node above
+    risen-by : ℕ → Type 0
+    risen-by x = Rising keys tails n (set (l .loop .tree) up x) up x (getD keys x 0)
+
+    go : (b : Bool) → g .is-ahead .result ≡ b → risen-by (p .pick .result)
+    go true e =
+        subst risen-by (sym (p .pick .ensures ∙ ap (λ (b : Bool). cond b (l .loop .page) q) e))
+        (subst (Rising keys tails n (set (l .loop .tree) up (l .loop .page)) up (l .loop .page)) (l .loop .inv .key)
+        (rise-here (l .before .before .pre .1) (l .loop .inv) (v .loop-test .taken) q refl
+        (sym (g .is-ahead .ensures) ∙ e)))
+    go false e =
+        subst risen-by (sym (p .pick .ensures ∙ ap (λ (b : Bool). cond b (l .loop .page) q) e))
+        (rise-side (l .before .before .pre .1) (l .loop .inv) (v .loop-test .taken) q refl
+        (sym (g .is-ahead .ensures) ∙ e))
 
 returns : tie.Need-returns Inv-loop μ-loop
 returns c =
@@ -114,6 +160,7 @@ replay-spec =
     (tie.spec
     Inv-loop
     μ-loop
+    cast-page
     mul-key
     element-copy-out-key
     add-k
@@ -124,6 +171,8 @@ replay-spec =
     mul-other-2
     element-copy-out-other
     is-ahead-requires
+    pick-requires
+    cast-key
     mul-key-2
     element-copy-out-key-2
     mul-tree

@@ -15,6 +15,9 @@ Inv-loop keys tails tree n j leaf k₀ page₀ key₀ k page key = Runner keys t
 abbrev μ-loop : tie.MeasureT-loop
 μ-loop keys tails tree n j leaf k₀ page₀ key₀ k page key = k
 
+cast-result : tie.Need-cast-result Inv-loop μ-loop
+cast-result c = omega arith
+
 -- there is no other page
 returns : tie.Need-returns Inv-loop μ-loop
 returns c l = absurd (omega arith)
@@ -44,6 +47,9 @@ beside : (c : tie.Else1 Inv-loop μ-loop)
 beside c =
     let s = c .before in
     omega (arith, climb-leaf (s .pre .2) (s .args .j) (s .pre .0) (c .if1 .left) .page, s .pre .1)
+
+cast-key : tie.Need-cast-key Inv-loop μ-loop
+cast-key c = omega (arith, beside (c .before))
 
 mul-key : tie.Need-mul-key Inv-loop μ-loop
 mul-key c = omega (arith, beside (c .before))
@@ -97,6 +103,9 @@ is-ahead-requires c κs =
     let s = l .before .before .before .before in
     (omega (arith, l .loop .inv .page, s .pre .1), other (c .before), l .loop .inv .key)
 
+cast-key-2 : tie.Need-cast-key-2 Inv-loop μ-loop
+cast-key-2 c = omega (arith, other (c .before .before .before))
+
 mul-key-2 : tie.Need-mul-key-2 Inv-loop μ-loop
 mul-key-2 c = omega (arith, other (c .before .before .before))
 
@@ -145,6 +154,7 @@ second-best-spec =
     (tie.spec
     Inv-loop
     μ-loop
+    cast-result
     returns
     add-leaf
     mul-page
@@ -152,6 +162,7 @@ second-best-spec =
     sub-page
     mul-page-2
     element-copy-out-page
+    cast-key
     mul-key
     element-copy-out-key
     loop-holds
@@ -161,6 +172,7 @@ second-best-spec =
     mul-other-2
     element-copy-out-other
     is-ahead-requires
+    cast-key-2
     mul-key-2
     element-copy-out-key-2
     loop-less

@@ -25,6 +25,9 @@ mul-b-2 c = search needs
 element-copy-out-b : tie.Need-element-copy-out-b
 element-copy-out-b c = search needs
 
+cast-is-ahead : tie.Need-cast-is-ahead
+cast-is-ahead c = search needs
+
 mul-is-ahead : tie.Need-mul-is-ahead
 mul-is-ahead c = search needs
 
@@ -53,6 +56,7 @@ winner-at-spec =
     add-b
     mul-b-2
     element-copy-out-b
+    cast-is-ahead
     mul-is-ahead
     element-copy-out-is-ahead
     is-ahead-requires

@@ -10,8 +10,8 @@ use Rattle.merge.proofs.walks.copy_walk.Statement.{statement}
 use Rattle.merge.proofs.walks.copy_walk.Tie as tie
 
 -- one more block of the walk stands there
-copied-next : (pages₀ walk : List ℕ) (at i : ℕ) (pages : List ℕ) → Copied pages₀ walk at i pages → at + i < length pages
-    → Copied pages₀ walk at (i + 1) (set pages (at + i) (getD walk i 0))
+copied-next : (pages₀ walk : List ℕ) (at i : ℕ) (pages : List ℕ) → Copied pages₀ walk at i pages
+    → at + i < length pages → Copied pages₀ walk at (i + 1) (set pages (at + i) (getD walk i 0))
 copied-next pages₀ walk at i pages c inside =
     record {
       size = length-set pages (at + i) (getD walk i 0) ∙ c .size;
@@ -35,7 +35,7 @@ abbrev μ-loop : tie.MeasureT-loop
 
 loop-holds : tie.Need-loop-holds Inv-loop μ-loop
 loop-holds c =
-    (record { size = c .pre .2; here = λ i h. absurd (omega (arith, h)); before = λ i h. refl }, omega arith)
+    (record { size = c .pre .1; here = λ i h. absurd (omega (arith, h)); before = λ i h. refl }, omega arith)
 
 mul-pages : tie.Need-mul-pages Inv-loop μ-loop
 mul-pages c = omega (arith, c .loop-test .taken, c .before .before .pre .0)
@@ -44,14 +44,14 @@ element-copy-out-pages : tie.Need-element-copy-out-pages Inv-loop μ-loop
 element-copy-out-pages c = omega (arith, c .loop-test .taken, c .before .before .pre .0)
 
 add-pages : tie.Need-add-pages Inv-loop μ-loop
-add-pages c = let s = c .before .before .before in omega (arith, c .before .loop-test .taken, s .pre .0, s .pre .1)
+add-pages c = let s = c .before .before .before in omega (arith, c .before .loop-test .taken, s .pre .0)
 
 mul-pages-2 : tie.Need-mul-pages-2 Inv-loop μ-loop
-mul-pages-2 c = let s = c .before .before .before in omega (arith, c .before .loop-test .taken, s .pre .0, s .pre .1)
+mul-pages-2 c = let s = c .before .before .before in omega (arith, c .before .loop-test .taken, s .pre .0)
 
 element-write-pages : tie.Need-element-write-pages Inv-loop μ-loop
 element-write-pages c =
-    let s = c .before .before .before in omega (arith, c .before .loop-test .taken, s .pre .0, s .pre .1)
+    let s = c .before .before .before in omega (arith, c .before .loop-test .taken, s .pre .0)
 
 add-i : tie.Need-add-i Inv-loop μ-loop
 add-i c = omega arith
@@ -65,7 +65,7 @@ loop-again c =
     let s = l .before in (
       copied-next (s .args .pages .now) (s .args .walk .now) (s .args .at) (l .loop .i) (l .loop .pages)
           (l .loop .inv .0)
-          (omega (arith, l .loop .inv .0 .size, s .pre .0, s .pre .1, c .before .loop-test .taken)),
+          (omega (arith, l .loop .inv .0 .size, s .pre .0, c .before .loop-test .taken)),
       omega (arith, c .before .loop-test .taken),
     )
 

@@ -6,8 +6,8 @@ use lib.ListN.{getD}
 use Rattle.merge.proofs.walks.join_walks.Statement.{statement}
 use Rattle.merge.proofs.walks.join_walks.Tie as tie
 
-zero-pages-requires : tie.Need-zero-pages-requires
-zero-pages-requires c κs = search needs
+zero-walk-requires : tie.Need-zero-walk-requires
+zero-walk-requires c κs = search needs
 
 copy-walk-requires : tie.Need-copy-walk-requires
 copy-walk-requires c κs = search needs
@@ -27,4 +27,4 @@ returns c =
     }
 
 pub join-walks-spec : {M : Type 1} → statement M
-join-walks-spec = tie.close (tie.spec zero-pages-requires copy-walk-requires copy-walk-requires-2 returns)
+join-walks-spec = tie.close (tie.spec zero-walk-requires copy-walk-requires copy-walk-requires-2 returns)

@@ -9,11 +9,11 @@ use Rattle.store.specs.Flags.{noLink}
 use Rattle.image.specs.Decode.{blockOf}
 use Rattle.image.specs.Rules.{linked}
 use Rattle.chain.specs.Walk.{walk}
-use Rattle.chain.specs.WithinLaws.{walked-some}
+use Rattle.chain.specs.WithinLaws.{walked-some, walked-few}
 use Rattle.reader.specs.KnownLaws.{sized}
 use Rattle.shape.specs.LoopLaws.{passed, failed}
 use Rattle.shape.specs.ChainedLaws.{chained}
-use Rattle.shape.proofs.Chaining.{chain-start, chain-turn, chain-end, trail-few}
+use Rattle.shape.proofs.Chaining.{chain-start, chain-turn, chain-end}
 use Rattle.shape.proofs.links.check_chain.Statement.{statement}
 use Rattle.shape.proofs.links.check_chain.Tie as tie
 
@@ -30,8 +30,8 @@ loop-holds c =
     let s = c .before in
     let a = s .args in (
       omega (arith, walked-some (s .pre .1)),
-      trail-few (a .store .now) (a .b) _ (s .pre .1) (sized (s .pre .0)),
-      chain-start (a .store .now) (a .b) _ (s .pre .1),
+      walked-few (s .pre .1) (sized (s .pre .0)),
+      chain-start (a .store .now) (a .b) (s .pre .1),
     )
 
 add-loop : tie.Need-add-loop Inv-loop μ-loop
@@ -60,7 +60,7 @@ returns c =
     let n = c .before in
     let l = n .before .before .before .before in
     let s = l .before .before in
-    let turn = chain-turn (s .args .store .now) (s .args .b) _ (s .pre .1) (l .loop .i)
+    let turn = chain-turn (s .args .store .now) (s .args .b) (s .pre .1) (l .loop .i)
     (n .before .before .before .loop-test .taken) in
     let test = sym (n .check-link .ensures) in
     sym (sym (l .loop .inv .2) ∙ failed _ _ _ turn (test ∙ not-true (n .check-link .result) (c .if1 .taken)))
@@ -76,7 +76,7 @@ loop-again c =
     let n = c .before in
     let l = n .before .before .before .before in
     let s = l .before .before in
-    let turn = chain-turn (s .args .store .now) (s .args .b) _ (s .pre .1) (l .loop .i)
+    let turn = chain-turn (s .args .store .now) (s .args .b) (s .pre .1) (l .loop .i)
     (n .before .before .before .loop-test .taken) in
     let test = sym (n .check-link .ensures) in
     (omega arith, l .loop .inv .1, passed _ _ _ turn (test ∙ not-false (n .check-link .result) (c .if1 .left)) ∙ l .loop .inv .2)
@@ -95,7 +95,7 @@ returns-2 c =
     let l = c .before .before .before in
     let s = l .before .before in
     ap (λ (k : ℕ). eqb k noLink) (c .next-block .ensures)
-    ∙ sym (chain-end (s .args .store .now) (s .args .b) _ (s .pre .1) (l .loop .i)
+    ∙ sym (chain-end (s .args .store .now) (s .args .b) (s .pre .1) (l .loop .i)
     (omega (arith, c .before .before .loop-test .left)))
     ∙ l .loop .inv .2
 

@@ -16,76 +16,73 @@ use Rattle.chain.specs.Walk.{walk}
 use Rattle.chain.specs.Search.{pairOn, findIn}
 use Rattle.chain.specs.Within.{entriesOn, PageOn}
 use Rattle.split.specs.declared.Mover.{Mover}
-use Rattle.split.specs.Mover.{movable}
-use Rattle.split.specs.Seek.{Before, Seeks, moverPlace, shifted, Located, nowhere, foundOn}
+use Rattle.split.specs.Mover.{movable, copied}
+use Rattle.split.specs.Seek.{Before, After, Seeks, moverPlace, shifted, Located, nowhere, foundOn}
 use Rattle.split.specs.SeekLaws.{seeks-entry, seeks-place}
 use Rattle.split.specs.MoverLaws.{movable-same}
 use Rattle.split.specs.OldChainLaws.{chain-page, chain-inside, chain-whole, chain-sorted, chain-few}
 use Rattle.split.specs.OldChainLaws.{link-inside, link-next, link-end, front-parts, front-none, front-pages}
-use Rattle.split.proofs.Searching.{Behind, page-start, page-found, page-located, page-later, walk-end}
+use Rattle.split.proofs.Searching.{Behind, page-start, page-after, page-found, page-located, page-later}
+use Rattle.split.proofs.Searching.{walk-end}
 use Rattle.split.proofs.search.first_in_chain.Statement.{statement}
 use Rattle.split.proofs.search.first_in_chain.Tie as tie
 
 abbrev Inv-loop : tie.InvT-loop
-Inv-loop store first copies walked m copying from block₀ passed₀ i₀ block passed i =
+Inv-loop store first copies walked m copying fresh from block₀ passed₀ i₀ block passed i =
     (i < length (walk store first)) × (block ≡ getD (walk store first) i 0)
     × (Behind store (walk store first) (length (walk store first)) (movable copying (decode store)) passed i)
 
 abbrev μ-loop : tie.MeasureT-loop
-μ-loop store first copies walked m copying from block₀ passed₀ i₀ block passed i = length (walk store first) - i
-
-skip-pages-requires : tie.Need-skip-pages-requires Inv-loop μ-loop
-skip-pages-requires c κs = let h = c .before .pre .0 in (h .0, h .1, h .2)
+μ-loop store first copies walked m copying fresh from block₀ passed₀ i₀ block passed i = length (walk store first) - i
 
 -- the pages that were passed over have no entry to move
-behind : (c : tie.After-skip-pages Inv-loop μ-loop)
-    → let a = c .before .before .args in
+behind : (c : tie.Start Inv-loop μ-loop)
+    → let a = c .args in
     let ks = walk (a .store .now) (a .first) in
-    let r = c .skip-pages .result in
-    Behind (a .store .now) ks (length ks) (movable (a .copying) (decode (a .store .now))) (r .passed) (r .index)
-behind c =
-    let s = c .before .before in
+    Behind (a .store .now) ks (length ks) (movable (a .copying) (decode (a .store .now))) (a .spot .passed)
+    (a .spot .index)
+behind s =
     let store = s .args .store .now in
     let ks = walk store (s .args .first) in
-    let i = c .skip-pages .result .index in
-    let e = c .skip-pages .ensures in
+    let i = s .args .spot .index in
+    let e = s .pre .1 .2 in
     let t = movable (s .args .copying) (decode store) in
     let whole = sym (take-length ks) in
-    let few : length (bind (take i ks) (entriesOn store)) ≤ s .args .from = omega (arith, e .1 .0, e .1 .1 .0) in
+    let few : length (bind (take i ks) (entriesOn store)) ≤ s .args .from = omega (arith, e .passed, e .near) in
     record {
       front = bind (take i ks) (entriesOn store);
       parts =
           subst (λ (js : List ℕ). bind js (entriesOn store)
           ≡ bind (take i ks) (entriesOn store) ++ bind (drop i js) (entriesOn store)) whole (front-parts store ks i);
-      none = front-none store ks i t (s .args .from) (s .pre .1) few;
-      number = e .1 .0;
-      few = e .1 .1 .1;
+      none = front-none store ks i t (s .args .from) (s .pre .1 .0) few;
+      number = e .passed;
+      few = e .few;
       pages =
           λ p u.
           subst (λ (js : List ℕ). find (pairOn store p) js ≡ find (pairOn store p) (drop i js)) whole
-          (front-pages store ks i t (s .args .from) (s .pre .1) few p u);
+          (front-pages store ks i t (s .args .from) (s .pre .1 .0) few p u);
     }
 
 loop-holds : tie.Need-loop-holds Inv-loop μ-loop
-loop-holds c = let e = c .skip-pages .ensures .0 in (e .0, e .1, behind c)
+loop-holds c = let s = c .before in let e = s .pre .1 .2 in (e .inside, e .block, behind s)
 
 cast-block-at : tie.Need-cast-block-at Inv-loop μ-loop
 unfolding blocks
 cast-block-at c =
-    omega (arith, chain-inside (c .before .before .before .pre .0 .0) (c .loop .inv .0) (c .loop .inv .1))
+    omega (arith, chain-inside (c .before .before .pre .0 .0) (c .loop .inv .0) (c .loop .inv .1))
 
 block-at-requires : tie.Need-block-at-requires Inv-loop μ-loop
-block-at-requires c κs = chain-whole (c .before .before .before .pre .0 .0) (c .loop .inv .0) (c .loop .inv .1)
+block-at-requires c κs = chain-whole (c .before .before .pre .0 .0) (c .loop .inv .0) (c .loop .inv .1)
 
 -- the page at index i
 page : (c : tie.After-block-at Inv-loop μ-loop)
     → let l = c .before in
-    let a = l .before .before .before .args in
+    let a = l .before .before .args in
     let ks = walk (a .store .now) (a .first) in
     PageOn (a .store .now) ks (length ks) (l .loop .i) (c .block-at .result .now)
 page c =
     let l = c .before in
-    chain-page (l .before .before .before .pre .0 .0) (l .loop .inv .0) (l .loop .inv .1) (c .block-at .ensures)
+    chain-page (l .before .before .pre .0 .0) (l .loop .inv .0) (l .loop .inv .1) (c .block-at .ensures)
 
 past-requires : tie.Need-past-requires Inv-loop μ-loop
 past-requires c κs = search needs
@@ -94,16 +91,24 @@ first-in-page-requires : tie.Need-first-in-page-requires Inv-loop μ-loop
 first-in-page-requires c κs =
     let p = c .before in
     let l = p .before in
-    let s = l .before .before .before in
+    let s = l .before .before in
     let store = s .args .store .now in
     let ks = walk store (s .args .first) in
     let t = movable (s .args .copying) (decode store) in
     let none : Before t (bind (take (length ks) ks) (entriesOn store)) (s .args .from) =
     subst (λ (js : List ℕ). Before t (bind js (entriesOn store)) (s .args .from)) (sym (take-length ks))
-    (s .pre .1) in (
+    (s .pre .1 .0) in (
       (chain-sorted (page p) (s .pre .0 .1), s .pre .0 .3, s .pre .0 .4),
-      subst (Before t (entriesOf (p .block-at .result .now))) (sym (c .past .ensures))
-          (page-start (s .pre .0 .0) (l .loop .inv .2) (l .loop .inv .0) (page p) (s .args .from) none),
+      (
+        subst (Before t (entriesOf (p .block-at .result .now))) (sym (c .past .ensures))
+            (page-start (s .pre .0 .0) (l .loop .inv .2) (l .loop .inv .0) (page p) (s .args .from) none),
+        λ f.
+            subst (After (copied (decode store)) (entriesOf (p .block-at .result .now))) (sym (c .past .ensures))
+            (page-after (s .pre .0 .0) (l .loop .inv .2) (l .loop .inv .0) (page p) (copied (decode store))
+            (s .args .from)
+            (subst (λ (js : List ℕ). After (copied (decode store)) (bind js (entriesOn store)) (s .args .from))
+            (sym (take-length ks)) (s .pre .1 .1 f))),
+      ),
     )
 
 enum-told : tie.Need-enum-told Inv-loop μ-loop
@@ -114,7 +119,7 @@ enum-told-2 c = search needs
 
 -- a page has at most 40 entries
 few : (c : tie.After-block-at Inv-loop μ-loop) → length (entriesOf (c .block-at .result .now)) ≤ 40
-few c = chain-few (page c) (c .before .before .before .before .pre .0 .1)
+few c = chain-few (page c) (c .before .before .before .pre .0 .1)
 
 -- the place is one of a chain's slots
 near : (c : tie.After-enum-told2 Inv-loop μ-loop)
@@ -132,7 +137,7 @@ near c =
       few p,
       place,
       l .loop .inv .2 .few,
-      l .before .before .before .pre .0 .0 .few,
+      l .before .before .pre .0 .0 .few,
       l .loop .inv .0,
     )
 
@@ -146,7 +151,7 @@ returns c =
     let p = f .before .before in
     let l = p .before in
     let i = l .loop .inv in
-    let s = l .before .before .before in
+    let s = l .before .before in
     let store = s .args .store .now in
     let ks = walk store (s .args .first) in
     let ok = s .pre .0 .0 in
@@ -183,13 +188,13 @@ number c = c .count-entries .ensures ∙ sym (length-entriesOf _)
 -- there is a block after it
 more : (c : tie.After-count-entries Inv-loop μ-loop)
     → let l = c .before .before .before .before .before .before .before .before in
-    let a = l .before .before .before .args in
+    let a = l .before .before .args in
     l .loop .i + 1 < length (walk (a .store .now) (a .first))
 more c =
     let x = c .before .before in
     let p = x .before .before .before .before .before in
     let l = p .before in
-    let s = l .before .before .before in
+    let s = l .before .before in
     link-inside (s .args .first) (page p) (l .loop .inv .0) (x .next-at .ensures) (s .pre .0 .2)
     (c .before .if1 .left)
 
@@ -197,12 +202,12 @@ add-passed : tie.Need-add-passed Inv-loop μ-loop
 add-passed c =
     let p = c .before .before .before .before .before .before .before in
     let l = p .before in
-    omega (arith, few p, number c, l .loop .inv .2 .few, l .before .before .before .pre .0 .0 .few, more c)
+    omega (arith, few p, number c, l .loop .inv .2 .few, l .before .before .pre .0 .0 .few, more c)
 
 add-i : tie.Need-add-i Inv-loop μ-loop
 add-i c =
     let l = c .before .before .before .before .before .before .before .before in
-    omega (arith, l .before .before .before .pre .0 .0 .few, more c)
+    omega (arith, l .before .before .pre .0 .0 .few, more c)
 
 loop-less : tie.Need-loop-less Inv-loop μ-loop
 loop-less c = omega (arith, more c)
@@ -211,7 +216,7 @@ loop-less c = omega (arith, more c)
 later : (c : tie.After-enum-told Inv-loop μ-loop) (j : ℕ)
     → let p = c .before .before .before .before in
     let l = p .before in
-    let a = l .before .before .before .args in
+    let a = l .before .before .args in
     let ks = walk (a .store .now) (a .first) in
     j ≡ length (entriesOf (p .block-at .result .now))
     → Behind (a .store .now) ks (length ks) (movable (a .copying) (decode (a .store .now))) (l .loop .passed + j)
@@ -219,7 +224,7 @@ later : (c : tie.After-enum-told Inv-loop μ-loop) (j : ℕ)
 later c j e =
     let p = c .before .before .before .before in
     let l = p .before in
-    page-later (l .before .before .before .pre .0 .0) (l .loop .inv .2) (l .loop .inv .0) (page p)
+    page-later (l .before .before .pre .0 .0) (l .loop .inv .2) (l .loop .inv .0) (page p)
     (c .before .before .first-in-page .ensures .0) (c .enum-told .given .1) j e (omega (arith, few p))
 
 loop-again : tie.Need-loop-again Inv-loop μ-loop
@@ -227,7 +232,7 @@ loop-again c =
     let x = c .before .before in
     let p = x .before .before .before .before .before in
     let l = p .before in
-    let s = l .before .before .before in (
+    let s = l .before .before in (
       more c,
       link-next (s .args .first) (page p) (l .loop .inv .0) (x .next-at .ensures) (more c),
       later (x .before) (c .count-entries .result) (number c),
@@ -238,7 +243,7 @@ returns-2 c =
     let x = c .before in
     let p = x .before .before .before .before .before in
     let l = p .before in
-    let s = l .before .before .before in
+    let s = l .before .before in
     let store = s .args .store .now in
     let ks = walk store (s .args .first) in
     let t = movable (s .args .copying) (decode store) in
@@ -254,7 +259,6 @@ first-in-chain-spec =
     (tie.spec
     Inv-loop
     μ-loop
-    skip-pages-requires
     loop-holds
     cast-block-at
     block-at-requires

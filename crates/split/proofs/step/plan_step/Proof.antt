@@ -1,9 +1,10 @@
-use mathlib.Core.Path.{sym, _∙_}
+use mathlib.Core.Path.{_≡_, sym, _∙_}
 use borrow.Author.Needs.{needs}
+use Rattle.model.specs.Index.{idle}
 use Rattle.image.specs.Decode.{decode}
 use Rattle.view.specs.ReadsLaws.{reads-known}
 use Rattle.split.specs.StepLaws.{job-at}
-use Rattle.split.specs.FromLaws.{leads-start}
+use Rattle.split.specs.FromLaws.{begin-leads}
 use Rattle.split.proofs.step.plan_step.Statement.{statement}
 use Rattle.split.proofs.step.plan_step.Tie as tie
 
@@ -13,12 +14,18 @@ read-job-requires c κs = reads-known (c .before .before .pre .0 .0)
 enum-told : tie.Need-enum-told
 enum-told c = search needs
 
+-- there is no job
+rests : (c : tie.After-enum-told) → decode (c .before .before .before .before .before .args .store .now) .job ≡ idle
+rests c =
+    let j = c .before .before in
+    job-at (decode (j .before .before .before .args .store .now)) _
+    (sym (c .enum-told .given .1) ∙ j .read-job .ensures)
+
 step-idle-requires : tie.Need-step-idle-requires
-step-idle-requires c κs =
-    let t = c .before in
-    let j = t .before .before in
-    let s = j .before .before .before in
-    (s .pre .0, job-at (decode (s .args .store .now)) _ (sym (t .enum-told .given .1) ∙ j .read-job .ensures))
+step-idle-requires c κs = (c .before .before .before .before .before .before .pre .0, rests (c .before))
+
+no-spot-requires : tie.Need-no-spot-requires
+no-spot-requires c κs = search needs
 
 enum-told-2 : tie.Need-enum-told-2
 enum-told-2 c = search needs
@@ -47,9 +54,12 @@ same-length c = search needs
 
 returns : tie.Need-returns
 returns c =
-    let i = c .before .before in
-    let s = i .before .before .before .before .before .before .before in
-    (i .step-idle .ensures, leads-start (decode (s .args .store .now)))
+    let i = c .before .before .before in
+    let t = i .before .before in
+    let s = t .before .before .before .before .before in (
+      i .step-idle .ensures,
+      begin-leads (decode (s .args .store .now)) (s .pre .0 .0 .wf) (rests t) _ (c .no-spot .ensures),
+    )
 
 same-length-2 : tie.Need-same-length-2
 same-length-2 c = search needs
@@ -70,6 +80,7 @@ plan-step-spec =
     read-job-requires
     enum-told
     step-idle-requires
+    no-spot-requires
     enum-told-2
     step-copying-requires
     enum-told-3

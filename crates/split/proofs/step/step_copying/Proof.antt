@@ -12,8 +12,14 @@ use Rattle.split.specs.CopyLaws.{copy-absent, copy-step, copy-next}
 use Rattle.split.proofs.step.step_copying.Statement.{statement}
 use Rattle.split.proofs.step.step_copying.Tie as tie
 
+find-spot-requires : tie.Need-find-spot-requires
+find-spot-requires c κs = let s = c .before .before in (s .pre .0 .0, s .pre .1 .1 .page)
+
 first-mover-requires : tie.Need-first-mover-requires
-first-mover-requires c κs = let s = c .before .before in (s .pre .0 .0, s .pre .1 .1 true (s .pre .1 .0))
+first-mover-requires c κs =
+    let s = c .before .before .before in
+    let from = s .pre .1 .1 in
+    (s .pre .0 .0, (from .none true (s .pre .1 .0), from .fresh (s .pre .1 .0), c .find-spot .ensures))
 
 enum-known-mover : tie.Need-enum-known-mover
 enum-known-mover c = search needs
@@ -24,9 +30,12 @@ enum-told c = search needs
 plan-copied-requires : tie.Need-plan-copied-requires
 plan-copied-requires c κs =
     let t = c .before in
-    let s = t .before .before .before .before .before in
+    let s = t .before .before .before .before .before .before in
     let none = seeks-none (t .before .before .first-mover .ensures .0) (t .enum-told .given .1) in
     (s .pre .0, (s .pre .1 .0, none))
+
+start-requires : tie.Need-start-requires
+start-requires c κs = search needs
 
 advance-by-requires : tie.Need-advance-by-requires
 advance-by-requires c κs = search needs
@@ -37,19 +46,20 @@ same-length c = search needs
 returns : tie.Need-returns
 returns c =
     let k = c .advance-by .ensures in
-    let p = c .before .before .before in
+    let n = c .before .start .ensures in
+    let p = c .before .before .before .before in
     let t = p .before .before in
-    let s = t .before .before .before .before .before in
+    let s = t .before .before .before .before .before .before in
     let none = seeks-none (t .before .before .first-mover .ensures .0) (t .enum-told .given .1) in
     let x = decode (s .args .store .now) in (
       advances-as (advanced (p .plan-copied .ensures)) (k .0) (k .1) (step-copies x (s .pre .1 .0) none),
-      subst (Leads x) (sym (k .2)) (leads-start x),
+      subst (Leads x) (sym (k .2)) (leads-start x (c .before .start .result) n),
     )
 
 plan-put-requires : tie.Need-plan-put-requires
 plan-put-requires c κs =
     let v = c .before .before .before in
-    let s = v .before .before .before .before .before in
+    let s = v .before .before .before .before .before .before in
     let r = s .pre .0 .0 in
     let e = v .mover .given .0 .0 in
     let first = seeks-entry (v .before .before .first-mover .ensures .0) (v .mover .given .1) in
@@ -58,8 +68,8 @@ plan-put-requires c κs =
 or-full-requires : tie.Need-or-full-requires
 or-full-requires c κs = search needs
 
-add-t17 : tie.Need-add-t17
-add-t17 c =
+add-t19 : tie.Need-add-t19
+add-t19 c =
     let v = c .before .before .before .before .before .before .before in
     omega (arith, v .before .before .first-mover .ensures .1 .1, ap moverPlace (v .mover .given .1))
 
@@ -70,7 +80,7 @@ returns-2 : tie.Need-returns-2
 returns-2 c =
     let p = c .before .before .before in
     let v = p .before .before .before .before in
-    let s = v .before .before .before .before .before in
+    let s = v .before .before .before .before .before .before in
     let r = s .pre .0 .0 in
     let x = decode (s .args .store .now) in
     let found = v .before .before .first-mover .ensures .0 in
@@ -78,22 +88,25 @@ returns-2 c =
     let at = v .mover .given .0 in
     let k = c .or-full .ensures in (
       advances-as (places-advances (p .plan-put .ensures)) (k .0) (k .1) (copy-step r (s .pre .1 .0) (at .0) first),
-      copy-leads x (r .wf) (at .0) (s .pre .1 .0) first (at .1 .0) (seeks-place found (v .mover .given .1)),
+      copy-leads x (r .wf) (at .0) (s .pre .1 .0) first (s .args .from) (s .pre .1 .1) (at .1 .0)
+          (seeks-place found (v .mover .given .1)) _ (v .before .before .before .find-spot .ensures),
     )
 
 pub step-copying-spec : {M : Type 1} → statement M
 step-copying-spec =
     tie.close
     (tie.spec
+    find-spot-requires
     first-mover-requires
     enum-known-mover
     enum-told
     plan-copied-requires
+    start-requires
     advance-by-requires
     same-length
     returns
     plan-put-requires
     or-full-requires
-    add-t17
+    add-t19
     same-length-2
     returns-2)

@@ -23,12 +23,17 @@ read-number-requires c κs = omega arith
 returns : tie.Need-returns Inv-loop μ-loop
 returns c = c .before .before .before .before .loop .inv
 
+returns-2 : tie.Need-returns-2 Inv-loop μ-loop
+returns-2 c =
+    let i = c .before .before .before .before .before .before .loop .inv in
+    record { from = omega (arith, i .from, i .upto); upto = omega arith }
+
 slice-aggregate-put-number : tie.Need-slice-aggregate-put-number Inv-loop μ-loop
 slice-aggregate-put-number c = refl
 
 bucket-block-requires : tie.Need-bucket-block-requires Inv-loop μ-loop
 bucket-block-requires c κs =
-    let s = c .before .before .before .before .before .before .before in
+    let s = c .before .before .before .before .before .before .before .before .before in
     (omega (arith, buckets-sixteen), bucket-fits _ _ (s .pre .1) (omega arith))
 
 cast-put-number : tie.Need-cast-put-number Inv-loop μ-loop
@@ -58,8 +63,8 @@ loop-less c = omega arith
 loop-again : tie.Need-loop-again Inv-loop μ-loop
 loop-again c = record { from = omega arith; upto = omega arith }
 
-returns-2 : tie.Need-returns-2 Inv-loop μ-loop
-returns-2 c = c .before .loop .inv
+returns-3 : tie.Need-returns-3 Inv-loop μ-loop
+returns-3 c = c .before .loop .inv
 
 pub show-buckets-spec : {M : Type 1} → statement M
 show-buckets-spec =
@@ -70,6 +75,7 @@ show-buckets-spec =
     loop-holds
     read-number-requires
     returns
+    returns-2
     slice-aggregate-put-number
     bucket-block-requires
     cast-put-number
@@ -81,4 +87,4 @@ show-buckets-spec =
     skip-byte-requires
     loop-less
     loop-again
-    returns-2)
+    returns-3)

@@ -45,6 +45,9 @@ upto c =
 element-copy-out-j : tie.Need-element-copy-out-j Inv-loop μ-loop
 element-copy-out-j c = search needs
 
+cast-j : tie.Need-cast-j Inv-loop μ-loop
+cast-j c = omega (arith, upto (c .before))
+
 mul-key : tie.Need-mul-key Inv-loop μ-loop
 mul-key c = omega (arith, upto (c .before))
 
@@ -147,6 +150,7 @@ put-left-spec =
     μ-loop
     loop-holds
     element-copy-out-j
+    cast-j
     mul-key
     element-copy-out-key
     same-length
