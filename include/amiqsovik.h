@@ -1,7 +1,7 @@
 /* Amiqsovik's hash index: the calls for C, in target/staticlib/libamiqsovik.a (`rt staticlib amiqsovik`), for x86-64
  * Linux.
  *
- * An index is a store: one byte array of N blocks of 512 bytes, N from 4 to 128, that the caller owns. It holds
+ * An index is a store: one byte array of N blocks of 512 bytes, N from 4 to 1,024, that the caller owns. It holds
  * pairs of a 32-bit hash code and a reading's place: a block number (32 bits) and an offset (16 bits). A pair is
  * held once or not at all.
  *
@@ -11,6 +11,7 @@
  * - Only the bytes of the arrays that are handed in are read, and only those of arrays that are not const are
  *   written. Nothing is allocated, and no state is kept from call to call: the store's bytes are all there is. The
  *   library needs memcpy, memmove and memset of the host, and nothing else.
+ * - A call takes at most 64 KiB of stack. That is not proved: rust/compare/tests/stack.rs measures it.
  * - An array is a pointer and its length in bytes. It needs no alignment. With length 0 the pointer may be NULL and
  *   is not followed. With any other length it points to that many bytes, all of them initialised.
  * - Two arrays of one call must not overlap. While a call runs, nobody else writes to its arrays, and nobody else
@@ -32,18 +33,20 @@ extern "C" {
 
 /* The version of this header, and of the archive made from the same sources. 1.0.0 is document 01, whole; 1.0.1 is
  * quicker (request 2026-02); 2.0.0 has a store number (request 2026-03); 3.0.0 formats no store in use unless told to
- * overwrite, and has amiqsovik_in_use (request 2026-04). The first number goes up when a program that was right may
- * have to change: a call's arguments, the answer to a call that was accepted, the bytes of a store. The second goes up
- * when calls are added, the third when neither is so.
+ * overwrite, and has amiqsovik_in_use (request 2026-04); 3.1.0 takes stores of 129 to 1,024 blocks (request 2026-09).
+ * The first number goes up when a program that was right may have to change: a call's arguments, the answer to a call
+ * that was accepted, the bytes of a store. The second goes up when calls are added, or take what they refused, the
+ * third when neither is so.
  *
- * The bytes of stores for 2.0.0 and 3.0.0 are the same. A store that was sound for 1.0.0 or 1.0.1 is DAMAGED for both,
- * with block 0: the old check of that block is never the new one. No call converts it: a host formats a new store and
- * inserts the pairs again, from its own records. It is not IN_USE either: format takes it without a word. */
+ * The bytes of stores are the same since 2.0.0; before 3.1.0 more than 128 blocks are LENGTH. A store that was sound
+ * for 1.0.0 or 1.0.1 is DAMAGED since then, with block 0: the old check of that block is never the new one. No call
+ * converts it: a host formats a new store and inserts the pairs again, from its own records. It is not IN_USE either:
+ * format takes it without a word. */
 #define AMIQSOVIK_VERSION_MAJOR 3
-#define AMIQSOVIK_VERSION_MINOR 0
+#define AMIQSOVIK_VERSION_MINOR 1
 #define AMIQSOVIK_VERSION_PATCH 0
 #define AMIQSOVIK_VERSION (AMIQSOVIK_VERSION_MAJOR * 10000 + AMIQSOVIK_VERSION_MINOR * 100 + AMIQSOVIK_VERSION_PATCH)
-#define AMIQSOVIK_VERSION_TEXT "3.0.0"
+#define AMIQSOVIK_VERSION_TEXT "3.1.0"
 
 /* A word that nobody looks at may be a refusal: compilers that can do so warn. */
 #if defined(__GNUC__)
@@ -63,7 +66,7 @@ extern "C" {
 
 #define AMIQSOVIK_BLOCK_BYTES 512
 #define AMIQSOVIK_MIN_BLOCKS 4
-#define AMIQSOVIK_MAX_BLOCKS 128
+#define AMIQSOVIK_MAX_BLOCKS 1024
 #define AMIQSOVIK_MATCH_BYTES 6   /* a match in the output of a lookup */
 #define AMIQSOVIK_RESULT_BYTES 28 /* what amiqsovik_standing writes */
 
@@ -79,7 +82,7 @@ static inline uint32_t amiqsovik_gives(uint64_t word) { return (uint32_t)(word >
  * said of it. Where several fit, the call answers the first of 255, 1, 2, 3, 4, 8, 5 or 6, 7; format answers the first
  * of 1, 2, 12. Later versions may have further numbers: whatever is not DONE is a refusal. */
 #define AMIQSOVIK_DONE 0
-#define AMIQSOVIK_LENGTH 1         /* the store is not a multiple of 512 bytes, or N is outside 4..128 */
+#define AMIQSOVIK_LENGTH 1         /* the store is not a multiple of 512 bytes, or N is outside 4..1024 */
 #define AMIQSOVIK_NUMBER 2         /* an argument is outside its range: see the calls */
 #define AMIQSOVIK_DAMAGED 3        /* a block's check is wrong; gives the lowest such block */
 #define AMIQSOVIK_NOT_AN_INDEX 4   /* checks right, a rule of sound stores broken; gives the lowest such rule, 1..8 */
@@ -130,7 +133,10 @@ AMIQSOVIK_MUST_USE uint64_t amiqsovik_remove(uint8_t *store, size_t store_length
 
 /* Lists the places of the pairs held under a hash code, ascending by block, then offset: six bytes each, the block
  * and then the offset, little-endian (amiqsovik_match_block and amiqsovik_match_offset read them). Later output
- * bytes stay. DONE, which gives the number of matches, LENGTH, DAMAGED, NOT_AN_INDEX or OUTPUT_SHORT. */
+ * bytes stay. DONE, which gives the number of matches, LENGTH, DAMAGED, NOT_AN_INDEX or OUTPUT_SHORT.
+ *
+ * A store that these calls made has at most 40 * (N - 3) matches of one hash code: 40,840 in 1,024 blocks, for which
+ * an output of 245,040 bytes is long enough. (A sound store that no calls make may have 40 * (N - 2).) */
 AMIQSOVIK_MUST_USE uint64_t amiqsovik_lookup(const uint8_t *AMIQSOVIK_RESTRICT store, size_t store_length,
                                              uint32_t hash, uint8_t *AMIQSOVIK_RESTRICT output,
                                              size_t output_length);

@@ -75,10 +75,13 @@ def examples_02():
     for line in (SOURCE / "02" / "stores.txt").read_text().splitlines():
         kind, *words = line.split()
         if kind == "S":
-            blocks = [unused(int(words[1]), k) for k in range(int(words[0]))]
+            small = int(words[0]) <= MOST_BLOCKS
+            blocks = [unused(int(words[1]), k) for k in range(int(words[0]))] if small else None
+        elif blocks is None:
+            continue
         elif kind == "B":
             blocks[int(words[0])] = block_of(words[1:])
-        elif kind == "V" and len(blocks) <= MOST_BLOCKS:
+        elif kind == "V":
             yield b"".join(blocks), " ".join(words)
 
 

@@ -1,5 +1,5 @@
-/* Tests what the header says of refusals, of stores in use, of store numbers, of standing's result, of names and of
- * the version. It is C and C++; `try` builds and runs it. It exits with 0 if all of it holds.
+/* Tests what the header says of refusals, of sizes, of stores in use, of store numbers, of standing's result, of names
+ * and of the version. It is C and C++; `try` builds and runs it. It exits with 0 if all of it holds.
  */
 #include <stdio.h>
 #include <string.h>
@@ -126,6 +126,24 @@ static void refusals(const uint8_t *sound)
     same("the store", memcmp(store, sound, BYTES) == 0, 1);
 }
 
+/* The fewest and the most blocks of a store, and one fewer and one more. */
+static void sizes(void)
+{
+    static uint8_t store[(AMIQSOVIK_MAX_BLOCKS + 1) * AMIQSOVIK_BLOCK_BYTES];
+    static const size_t blocks[] = {AMIQSOVIK_MIN_BLOCKS, AMIQSOVIK_MAX_BLOCKS};
+    size_t i, length;
+
+    same("the most blocks", AMIQSOVIK_MAX_BLOCKS, 1024);
+    for (i = 0; i < 2; i++) {
+        length = blocks[i] * AMIQSOVIK_BLOCK_BYTES;
+        same("a good size", amiqsovik_format(store, length, 1, 9, 1), word(AMIQSOVIK_DONE, 0));
+        same("a good size", amiqsovik_verify(store, length), word(AMIQSOVIK_DONE, 0));
+    }
+    length = (AMIQSOVIK_MIN_BLOCKS - 1) * AMIQSOVIK_BLOCK_BYTES;
+    same("too few blocks", amiqsovik_format(store, length, 1, 9, 1), word(AMIQSOVIK_LENGTH, 0));
+    same("too many blocks", amiqsovik_format(store, sizeof store, 1, 9, 1), word(AMIQSOVIK_LENGTH, 0));
+}
+
 /* A store of four blocks has no room for a 41st pair of one code. */
 static void no_room(void)
 {
@@ -226,6 +244,7 @@ int main(void)
     version();
     standings(sound);
     refusals(sound);
+    sizes();
     no_room();
     in_use(sound);
     wrong_blocks(sound);

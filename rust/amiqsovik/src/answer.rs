@@ -7,7 +7,7 @@ use core::fmt;
 #[derive(Debug, Clone, Copy, PartialEq, Eq, Hash)]
 #[non_exhaustive]
 pub enum Refusal {
-    /// 1: the store is not 4 to 128 blocks of 512 bytes.
+    /// 1: the store is not 4 to 1,024 blocks of 512 bytes.
     Length,
     /// 2: an offset of 0 or above 65535, a reading block of 4294967295, a fill outside 1..=40, or a budget above
     /// 65535.
@@ -113,7 +113,7 @@ impl Refusal {
 impl fmt::Display for Refusal {
     fn fmt(&self, f: &mut fmt::Formatter<'_>) -> fmt::Result {
         match self {
-            Refusal::Length => f.write_str("the store is not 4 to 128 blocks of 512 bytes"),
+            Refusal::Length => f.write_str("the store is not 4 to 1,024 blocks of 512 bytes"),
             Refusal::Number => f.write_str("a number is outside its field"),
             Refusal::Damaged { block } => write!(f, "block {block} of the store is damaged"),
             Refusal::NotAnIndex { rule } => write!(f, "the store is not an index: it breaks rule {rule}"),

@@ -157,6 +157,9 @@ pub fn remove(store: &mut [u8], hash: u32, block: u32, offset: u32) -> Result<()
 /// Writes the readings held under a hash code to the output, 6 bytes each, and gives them. Later bytes of the output
 /// stay as they are.
 ///
+/// A store of N blocks that these calls made has at most 40 (N - 3) readings under one hash code: 40,840 in 1,024
+/// blocks, for which an output of 245,040 bytes is long enough. (A sound store that no calls make may have 40 (N - 2).)
+///
 /// # Errors
 ///
 /// [`Length`](Refusal::Length), [`Damaged`](Refusal::Damaged), [`NotAnIndex`](Refusal::NotAnIndex) or

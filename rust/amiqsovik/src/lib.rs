@@ -1,9 +1,10 @@
 //! Amiqsovik's hash index: a safe interface to the proved one.
 //!
-//! A store is a byte slice of 4 to 128 blocks of 512 bytes that you own and lend. The index keeps pairs in it: a
+//! A store is a byte slice of 4 to 1,024 blocks of 512 bytes that you own and lend. The index keeps pairs in it: a
 //! 32-bit hash code and the place of a [`Reading`]. The code behind the calls is machine-checked: whatever bytes and
 //! numbers it is given, each call ends, and either is done or gives a [`Refusal`] and writes nothing. It allocates
-//! nothing, and needs no `std`.
+//! nothing, and needs no `std`. A call takes at most 64 KiB of stack, which is not proved, but measured by
+//! `compare/tests/stack.rs`.
 //!
 //! The eight calls are functions over slices, format two of them; [`Store`] has them as methods.
 //!
@@ -38,5 +39,9 @@ pub use calls::{format, format_over, in_use, insert, lookup, remove, standing, v
 pub use matches::{Matches, Reading, MATCH_SIZE};
 pub use store::Store;
 
-/// The bytes of a block. A store has 4 to 128 of them.
+/// The bytes of a block.
 pub const BLOCK_SIZE: usize = 512;
+/// The fewest blocks that a store has.
+pub const MIN_BLOCKS: usize = 4;
+/// The most blocks that a store has.
+pub const MAX_BLOCKS: usize = 1024;

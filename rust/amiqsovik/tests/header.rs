@@ -1,6 +1,6 @@
 //! The package and include/amiqsovik.h say the same of the version, the sizes and the names.
 
-use amiqsovik::{Refusal, Stop, BLOCK_SIZE, MATCH_SIZE};
+use amiqsovik::{format_over, Refusal, Stop, BLOCK_SIZE, MATCH_SIZE, MAX_BLOCKS, MIN_BLOCKS};
 
 const HEADER: &str = include_str!("../../../include/amiqsovik.h");
 
@@ -24,6 +24,16 @@ fn sizes() {
     assert_eq!(defined("BLOCK_BYTES"), BLOCK_SIZE.to_string());
     assert_eq!(defined("MATCH_BYTES"), MATCH_SIZE.to_string());
     assert_eq!((defined("RESULT_BYTES"), defined("RESULT_SHORT")), ("28", "255"));
+    assert_eq!(defined("MIN_BLOCKS"), MIN_BLOCKS.to_string());
+    assert_eq!(defined("MAX_BLOCKS"), MAX_BLOCKS.to_string());
+}
+
+/// The archive takes just these numbers of blocks.
+#[test]
+fn fewest_and_most_blocks() {
+    let format = |blocks| format_over(&mut vec![0; blocks * BLOCK_SIZE], 1, 0);
+    assert_eq!([MIN_BLOCKS, MAX_BLOCKS].map(format), [Ok(()); 2]);
+    assert_eq!([0, MIN_BLOCKS - 1, MAX_BLOCKS + 1, 2 * MAX_BLOCKS].map(format), [Err(Refusal::Length); 4]);
 }
 
 #[test]

@@ -7,6 +7,7 @@
 #![deny(unsafe_code)]
 
 pub mod book;
+pub mod brink;
 pub mod build;
 #[allow(unsafe_code)]
 pub mod foreign;
@@ -21,3 +22,4 @@ pub mod spoil;
 pub mod stores;
 pub mod twin;
 pub mod vectors;
+pub mod word;

@@ -2,8 +2,9 @@
 
 use crate::build::found;
 use crate::side::{Reply, Side};
-use crate::stores::{chain, copying, copying_one_code, crowd, even, leaving, wanting, Order};
-use crate::stores::{CODE, EACH, LAST_CODE, LAST_CODE_PLACES, LEAVERS};
+use crate::stores::{chain, copying, copying_one_code, crowd, even, leaving, longest, wanting, Order, Split};
+use crate::stores::{last_code_places, leavers, CODE, EACH, LAST_CODE};
+use crate::word::word;
 use std::hint::black_box;
 
 /// A call, and what it has to answer.
@@ -22,14 +23,19 @@ enum Call {
     Work(u32, u32, u8),
     /// The same, sealed once by the ordinary side.
     SealedOnce(u32, u32, u8),
+    /// Work that makes the one split that is wanted.
+    WholeSplit,
 }
 
 /// A store of `stores`.
 #[derive(Clone, Copy)]
 enum Kind {
-    Even,
-    Splitting,
+    /// So many buckets.
+    Even(u32, Split),
     Chain(u32),
+    Longest,
+    /// The same with one entry less, so that there is room for one.
+    NearlyLongest,
     Crowd(u32, Order),
     Copying,
     CopyingOneCode,
@@ -63,8 +69,8 @@ impl Row {
     /// How often the call is made for its instructions to be counted: often where each time differs.
     pub fn times(&self) -> u32 {
         match self.kind {
-            Kind::Even => 8,
-            Kind::Wanting | Kind::Leaving => 1,
+            Kind::Even(_, Split::Over) => 8,
+            Kind::Wanting | Kind::Even(_, Split::Wanted) | Kind::Leaving => 1,
             _ => 2,
         }
     }
@@ -76,63 +82,110 @@ impl Row {
 
     pub fn store(&self) -> Vec<u8> {
         match self.kind {
-            Kind::Even => even(self.blocks, EACH, false),
             // Of 4 blocks the old bucket has one page, which holds the entries of both.
-            Kind::Splitting => even(self.blocks, if self.blocks == 4 { 20 } else { EACH }, true),
+            Kind::Even(buckets, Split::Copying) if self.blocks == 4 => even(4, buckets, 20, Split::Copying),
+            Kind::Even(buckets, split) => even(self.blocks, buckets, EACH, split),
             Kind::Chain(pages) => chain(self.blocks, pages),
+            Kind::Longest => longest(self.blocks, 0),
+            Kind::NearlyLongest => longest(self.blocks, 1),
             Kind::Crowd(matches, order) => crowd(self.blocks, matches, order),
-            Kind::Copying => copying(),
+            Kind::Copying => copying(self.blocks),
             Kind::CopyingOneCode => copying_one_code(self.blocks),
             Kind::Wanting => wanting(self.blocks),
-            Kind::Leaving => leaving(),
+            Kind::Leaving => leaving(self.blocks),
         }
     }
 }
 
-/// All rows: calls by N, verdicts by the pages of a chain, lookups by matches, whole splits by the entries of a chain.
+/// The sizes of the rows on the longest chains.
+const SIZES: [u32; 3] = [16, 128, 1024];
+
+/// All rows: calls by N, verdicts by the pages of a chain, lookups by matches, jobs, whole splits.
 pub fn rows() -> Vec<Row> {
+    [by_size(), verdicts(), lookups(), jobs(), splits()].concat()
+}
+
+/// Calls on even buckets: half as many as blocks, and as many as 1,024 blocks have room for.
+fn by_size() -> Vec<Row> {
     let calls = [
-        ("verdict", Call::Verdict, Kind::Even),
-        ("lookup of 4", Call::Lookup(4), Kind::Even),
-        ("insert and removal", Call::Pair, Kind::Even),
-        ("work, one step", Call::Work(1, 1, 0), Kind::Splitting),
+        ("verdict", Call::Verdict, Split::Over),
+        ("lookup of 4", Call::Lookup(4), Split::Over),
+        ("insert and removal", Call::Pair, Split::Over),
+        ("work, one step", Call::Work(1, 1, 0), Split::Copying),
     ];
-    let by_size = calls.iter().flat_map(|&(name, call, kind)| [4, 16, 64, 128].map(|n| Row::new(n, name, call, kind)));
+    let rows = |(name, call, split)| {
+        let half = |blocks| Row::new(blocks, name, call, Kind::Even(blocks / 2, split));
+        let most = Row::new(1024, format!("{name}, 896 buckets"), call, Kind::Even(896, split));
+        [4, 16, 64, 128, 1024].map(half).into_iter().chain([most])
+    };
+    calls.into_iter().flat_map(rows).collect()
+}
+
+/// Verdicts of chains.
+fn verdicts() -> Vec<Row> {
     let chain = |pages| Row::new(128, format!("verdict, chain of {pages}"), Call::Verdict, Kind::Chain(pages));
+    let longest = |blocks| Row::new(blocks, "verdict, longest chain", Call::Verdict, Kind::Longest);
+    let copying = |blocks| Row::new(blocks, "verdict, long copying", Call::Verdict, Kind::Copying);
+    [1, 16, 64, 125].map(chain).into_iter().chain(SIZES.map(longest)).chain(SIZES.map(copying)).collect()
+}
+
+/// Lookups by matches, and one on the longest chain.
+fn lookups() -> Vec<Row> {
     let lookup = |blocks, name: String, matches, order| {
         Row::new(blocks, name, Call::Lookup(matches), Kind::Crowd(matches, order))
     };
+    let interleaved = |(blocks, m)| lookup(blocks, format!("lookup of {m}"), m, Order::Interleaved);
+    let in_order = |(blocks, m)| lookup(blocks, format!("lookup of {m}, in order"), m, Order::Ascending);
     let all = |blocks| {
         let matches = (blocks - 3) * EACH;
         lookup(blocks, format!("lookup of all, {matches}"), matches, Order::Ascending)
     };
-    let held = LAST_CODE_PLACES;
-    by_size
-        .chain([1, 16, 64, 125].map(chain))
-        .chain([Row::new(128, "verdict, long copying", Call::Verdict, Kind::Copying)])
-        .chain([1, 40, 640, 2_560, 5_000].map(|m| lookup(128, format!("lookup of {m}"), m, Order::Interleaved)))
-        .chain([640, 2_560, 5_000].map(|m| lookup(128, format!("lookup of {m}, in order"), m, Order::Ascending)))
-        .chain([16, 64, 128].map(all))
-        .chain([Row::new(128, format!("lookup of {held}, copying"), Call::Lookup(held), Kind::CopyingOneCode)])
-        .chain([Row::new(128, "work, one step, long copying", Call::Work(1, 1, 0), Kind::Copying)])
-        .chain([Row::new(128, "format refused, in use", Call::Kept, Kind::Even)])
-        .chain([Row::new(128, "format over", Call::Over, Kind::Even)])
-        .chain(splits())
+    let one = |blocks| Row::new(blocks, "lookup of 1, longest chain", Call::Lookup(1), Kind::Longest);
+    let copying = |blocks| {
+        let held = last_code_places(blocks);
+        Row::new(blocks, format!("lookup of {held}, copying"), Call::Lookup(held), Kind::CopyingOneCode)
+    };
+    let crowds = [1, 40, 640, 2_560, 5_000].map(|matches| (128, matches));
+    let ordered = [640, 2_560, 5_000].map(|matches| (128, matches));
+    (crowds.into_iter().chain([(16, 520), (1024, 40_840)]).map(interleaved))
+        .chain(ordered.into_iter().chain([(1024, 40_840)]).map(in_order))
+        .chain([16, 64, 128, 1024].map(all))
+        .chain(SIZES.map(one))
+        .chain([128, 1024].map(copying))
         .collect()
 }
 
-/// Whole splits, each in one call; then the same, sealed once by the ordinary side.
+/// Changes of long chains, and formats.
+fn jobs() -> Vec<Row> {
+    let step = |blocks| Row::new(blocks, "work, one step, long copying", Call::Work(1, 1, 0), Kind::Copying);
+    let pair = |blocks| Row::new(blocks, "insert and removal, longest chain", Call::Pair, Kind::NearlyLongest);
+    let formats = [("format refused, in use", Call::Kept), ("format over", Call::Over)];
+    let formats = formats
+        .into_iter()
+        .flat_map(|(name, call)| SIZES.map(|blocks| Row::new(blocks, name, call, Kind::Even(blocks / 2, Split::Over))));
+    SIZES.map(step).into_iter().chain(SIZES.map(pair)).chain(formats).collect()
+}
+
+/// Whole splits, each in one call; then the same, sealed once by the ordinary side. Then splits of one of many buckets.
 fn splits() -> Vec<Row> {
     let wanted = |blocks| {
         let (name, steps) = (format!("work, whole split of {}", 10 * blocks), 10 * blocks + 3);
         Row::new(blocks, name, Call::Work(65_535, steps, 9), Kind::Wanting)
     };
     // Here more splits are wanted, so the budget ends the call.
-    let (name, steps) = (format!("work, whole split, {LEAVERS} of 3960"), 2 * LEAVERS + 3);
-    let long = Row::new(128, name, Call::Work(steps, steps, 0), Kind::Leaving);
-    let splits = [wanted(16), wanted(64), wanted(128), long];
+    let long = |blocks| {
+        let (all, leave) = leavers(blocks);
+        let (name, steps) = (format!("work, whole split, {leave} of {all}"), 2 * leave + 3);
+        Row::new(blocks, name, Call::Work(steps, steps, 0), Kind::Leaving)
+    };
+    let even =
+        |blocks| Row::new(blocks, "work, whole split, even", Call::WholeSplit, Kind::Even(blocks / 2, Split::Wanted));
+    // Bucket 512 needs a new point, of 128 buckets.
+    let name = "work, whole split, even, to 513 buckets";
+    let phase = Row::new(1024, name, Call::WholeSplit, Kind::Even(513, Split::Wanted));
+    let splits = [wanted(16), wanted(64), wanted(128), long(128), wanted(1024), long(1024)];
     let once = splits.clone().map(Row::sealed_once);
-    splits.into_iter().chain(once).collect()
+    splits.into_iter().chain(once).chain(SIZES.map(even)).chain([phase]).collect()
 }
 
 /// A hash code, with the first and the last place that stand under it, as a lookup writes them.
@@ -156,6 +209,8 @@ pub struct Bench {
     store: Vec<u8>,
     scratch: Vec<u8>,
     codes: Vec<Code>,
+    /// The steps of the next split.
+    steps: u32,
     output: Vec<u8>,
 }
 
@@ -163,12 +218,13 @@ impl Bench {
     pub fn new(row: &Row) -> Self {
         let store = row.store();
         let codes = match row.kind {
-            Kind::Even => first_codes(&store),
+            Kind::Even(_, Split::Over) | Kind::Longest | Kind::NearlyLongest => first_codes(&store),
             Kind::CopyingOneCode => vec![LAST_CODE],
             _ => vec![CODE],
         };
         let codes = codes.into_iter().map(|hash| Code::new(&store, hash)).collect();
-        Bench { call: row.call, scratch: store.clone(), store, codes, output: vec![0; 30_000] }
+        let steps = 2 * movers(&store) + 3;
+        Bench { call: row.call, scratch: store.clone(), store, codes, steps, output: vec![0; 6 * 40_840] }
     }
 
     /// Makes the call `times` times. Each must be answered as it has to.
@@ -190,6 +246,7 @@ impl Bench {
                 }
                 Call::Work(budget, steps, stop) => self.work(S::work, budget, steps, stop),
                 Call::SealedOnce(budget, steps, stop) => self.work(S::work_sealed_once, budget, steps, stop),
+                Call::WholeSplit => self.work(S::work, 65_535, self.steps, 9),
             };
             assert!(right, "the call was not answered as it has to");
         }
@@ -198,7 +255,7 @@ impl Bench {
     /// Whether work on a copy of the store makes so many steps and stops so.
     fn work(&mut self, work: impl Fn(&mut [u8], u32) -> Reply, budget: u32, steps: u32, stop: u8) -> bool {
         self.scratch.copy_from_slice(&self.store);
-        work(black_box(&mut self.scratch), budget) == Reply { steps, stop, ..Reply::default() }
+        work(black_box(&mut self.scratch), budget) == Reply::worked(steps, stop)
     }
 
     /// Whether a lookup is done, gives so many matches, and writes the first and the last of them.
@@ -219,8 +276,14 @@ fn written((block, offset): (u32, u32)) -> [u8; 6] {
     [a, b, c, d, e, f]
 }
 
-/// The first hash code of each bucket page.
+/// The entries that go to the next bucket.
+fn movers(store: &[u8]) -> u32 {
+    let new = word(store, 16) + 1;
+    found(store).filter(|entry| entry.pair.0 % (new + 1).next_power_of_two() == new).count() as u32
+}
+
+/// The first hash code of each bucket page, up to 64 of them.
 fn first_codes(store: &[u8]) -> Vec<u32> {
     let pages = store.chunks_exact(512).filter(|page| page[504] == 2 && page[0] > 0);
-    pages.map(|page| u32::from_le_bytes([page[4], page[5], page[6], page[7]])).collect()
+    pages.map(|page| word(page, 4)).take(64).collect()
 }

@@ -1,5 +1,7 @@
 //! The check of a block from outside, bit by bit: both sides go by a table of their own.
 
+use crate::word::word;
+
 /// Where the meta block has the store's number.
 pub const NUMBER: usize = 104;
 
@@ -21,7 +23,7 @@ pub fn check(number: u32, at: usize, block: &[u8]) -> u32 {
 
 /// The number of a store that has a whole block.
 pub fn number(store: &[u8]) -> u32 {
-    u32::from_le_bytes(std::array::from_fn(|i| store[NUMBER + i]))
+    word(store, NUMBER)
 }
 
 /// Writes the number of a store, and no check.

@@ -21,6 +21,11 @@ impl Reply {
         Reply { number, gives, ..Reply::default() }
     }
 
+    /// Work that made so many steps and stopped so.
+    pub fn worked(steps: u32, stop: u8) -> Self {
+        Reply { steps, stop, ..Reply::default() }
+    }
+
     /// What a word of the archive says.
     fn of(word: u64) -> Self {
         let (number, stop, steps) = (word as u8, (word >> 8) as u8, (word >> 16) as u16);
@@ -101,7 +106,7 @@ impl Side for Proved {
 
     fn work(store: &mut [u8], budget: u32) -> Reply {
         match amiqsovik::work(store, budget) {
-            Ok(did) => Reply { steps: did.steps, stop: did.stop.number(), ..Reply::default() },
+            Ok(did) => Reply::worked(did.steps, did.stop.number()),
             Err(refusal) => proved(Err(refusal)),
         }
     }
@@ -193,7 +198,7 @@ fn ordinary(answer: Result<(), ordinary::Refusal>) -> Reply {
 
 fn worked(answer: Result<ordinary::Worked, ordinary::Refusal>) -> Reply {
     match answer {
-        Ok(did) => Reply { steps: did.steps, stop: did.stop.number(), ..Reply::default() },
+        Ok(did) => Reply::worked(did.steps, did.stop.number()),
         Err(refusal) => ordinary(Err(refusal)),
     }
 }

@@ -1,6 +1,6 @@
 //! The stores that the benchmark measures on: sound, and the same in every run.
 
-use crate::build::{deal, encode, Chains, Entries, Layout, NONE};
+use crate::build::{deal, encode, point_of, Chains, Entries, Layout, IN_ALL, NONE};
 use crate::random::Random;
 
 /// 70 % of the 40 entries of a page.
@@ -10,33 +10,57 @@ pub const CODE: u32 = 2;
 /// The number of the stores.
 const NUMBER: u32 = 0x5EC0_11E7;
 
-/// As many buckets as `blocks` blocks have room for, `each` random pairs in each, four to a hash code, and fill `each`.
-/// If `splitting`, the last split is in the midst of its copying.
-pub fn even(blocks: u32, each: u32, splitting: bool) -> Vec<u8> {
+/// The last split of `even`.
+#[derive(Debug, Clone, Copy, PartialEq, Eq)]
+pub enum Split {
+    /// It is over.
+    Over,
+    /// It is in the midst of its copying.
+    Copying,
+    /// It is the one that is wanted.
+    Wanted,
+}
+
+/// So many buckets, the last split's new one too, `each` random pairs a bucket, four to a hash code, and fill `each`.
+/// All blocks that no bucket of the last point needs are overflow pages. Where they are few, no bucket needs one.
+pub fn even(blocks: u32, buckets: u32, each: u32, split: Split) -> Vec<u8> {
     let mut random = Random::new(u64::from(blocks) + 1);
-    let point = (1..7).filter(|s| (1 << s) + 2 <= blocks).max().unwrap_or(1);
-    let mut spares = [0; 16];
-    spares[1..point as usize].fill(1);
-    spares[point as usize] = blocks - (1 << point) - 1;
-    let layout = Layout { blocks, max: (1 << point) - 1, point, spares, number: NUMBER };
-    let (old, new) = (layout.max ^ (1 << layout.max.ilog2()), layout.max);
-    let mut buckets = vec![Entries::new(); layout.max as usize + 1];
-    for _ in 0..each * (layout.max + 1) / 4 {
-        let hash = random.number();
-        let home = match layout.bucket_of(hash) {
-            bucket if splitting && bucket == new => old,
-            bucket => bucket,
+    let (old, new) = ((buckets - 1) ^ (1 << (buckets - 1).ilog2()), buckets - 1);
+    let max = if split == Split::Wanted { new - 1 } else { new };
+    let bits = blocks - IN_ALL[point_of(new)] - 1;
+    let layout = spread(blocks, max, bits);
+    let most = if bits < buckets / 2 { 36 } else { usize::MAX };
+    let mut homes = vec![Entries::new(); max as usize + 1];
+    for _ in 0..each * buckets / 4 {
+        let (hash, home) = loop {
+            let hash = random.number();
+            let home = match layout.bucket_of(hash) {
+                bucket if split == Split::Copying && bucket == new => old,
+                bucket => bucket,
+            };
+            if homes[home as usize].len() < most {
+                break (hash, home);
+            }
         };
-        buckets[home as usize].extend((0..4).map(|_| (under(&mut random, hash), false)));
+        homes[home as usize].extend((0..4).map(|_| (under(&mut random, hash), false)));
     }
-    if splitting {
-        let guests = buckets[old as usize].keys().filter(|pair| layout.bucket_of(pair.0) == new);
-        buckets[new as usize] = guests.step_by(2).map(|&pair| (pair, true)).collect();
+    if split == Split::Copying {
+        let guests = homes[old as usize].keys().filter(|pair| layout.bucket_of(pair.0) == new);
+        homes[new as usize] = guests.step_by(2).map(|&pair| (pair, true)).collect();
     }
     let mut free: Vec<u32> = (1..layout.bits()).rev().map(|bit| layout.bit_block(bit)).collect();
     let chain = |(entries, bucket)| deal(&mut random, layout.bucket_block(bucket), entries, &mut free);
-    let chains: Chains = buckets.into_iter().zip(0..).map(chain).collect();
-    encode(&layout, each, u32::from(splitting), (old, new), &chains)
+    let chains: Chains = homes.into_iter().zip(0..).map(chain).collect();
+    encode(&layout, each, u32::from(split == Split::Copying), (old, new), &chains)
+}
+
+/// A layout with all overflow pages but bit 0 at the last point.
+fn spread(blocks: u32, max: u32, bits: u32) -> Layout {
+    let point = point_of(max);
+    let mut spares = [0; 16];
+    spares[1..point].fill(1);
+    spares[point] = bits;
+    Layout { blocks, max, point: point as u32, spares, number: NUMBER }
 }
 
 /// One chain of so many pages, of random pairs, its entries dealt to its pages at random.
@@ -44,6 +68,14 @@ pub fn chain(blocks: u32, pages: u32) -> Vec<u8> {
     let mut random = Random::new(u64::from(pages));
     let entries = (0..pages * EACH).map(|_| (of(&mut random, 4, 0), false)).collect();
     let pages = interleaved(&mut random, entries, pages);
+    lone(blocks, pages)
+}
+
+/// The longest chain that there is, of full pages of random pairs, all but so many at its end.
+pub fn longest(blocks: u32, but: u32) -> Vec<u8> {
+    let mut random = Random::new(u64::from(blocks) + 2);
+    let entries = (0..(blocks - 3) * 40 - but).map(|_| (of(&mut random, 4, 0), false)).collect();
+    let pages = interleaved(&mut random, entries, blocks - 3);
     lone(blocks, pages)
 }
 
@@ -65,31 +97,47 @@ pub fn crowd(blocks: u32, matches: u32, order: Order) -> Vec<u8> {
     lone(blocks, pages)
 }
 
-/// In the midst of a long copying job: an old chain of 64 pages, half of whose entries are the new bucket's and half of
-/// those, the first ones, copied; a new chain of 40 pages, its entries inserted since for the rest. 128 blocks.
-pub fn copying() -> Vec<u8> {
-    let mut random = Random::new(7);
-    let halves = (0..64 * EACH).map(|i| of(&mut random, 4, if i % 2 == 0 { 0 } else { 2 })).collect();
-    copied(&mut random, 128, 2, halves, |random| of(random, 4, 2))
+/// The pages of the old and of the new chain of the long copying jobs of so many blocks.
+pub fn job_pages(blocks: u32) -> (u32, u32) {
+    match blocks {
+        16 => (7, 4),
+        108..=128 => (64, 40),
+        1024 => (512, 320),
+        _ => panic!("no job for {blocks} blocks"),
+    }
 }
 
-/// The hash code of `copying_one_code`, and its number of places: those of the old chain, and those inserted since.
+/// In the midst of a long copying job: half of the old chain's entries are the new bucket's and half of those, the
+/// first ones, copied; the new chain has entries inserted since for the rest.
+pub fn copying(blocks: u32) -> Vec<u8> {
+    let mut random = Random::new(7);
+    let all = job_pages(blocks).0 * EACH;
+    let halves = (0..all).map(|i| of(&mut random, 4, if i % 2 == 0 { 0 } else { 2 })).collect();
+    copied(&mut random, blocks, 2, halves, |random| of(random, 4, 2))
+}
+
+/// The hash code of `copying_one_code`.
 pub const LAST_CODE: u32 = u32::MAX;
-pub const LAST_CODE_PLACES: u32 = 64 * EACH + 224;
+
+/// Its number of places: those of the old chain, and those inserted since.
+pub fn last_code_places(blocks: u32) -> u32 {
+    let (old, new) = job_pages(blocks);
+    old * EACH + (new * EACH - old * EACH / 2)
+}
 
 /// The same with `LAST_CODE` alone, so that all entries of the old chain are the new bucket's. The places end with the
-/// last that there is. `blocks` are 108, which leaves no free page, to 128.
+/// last that there is. Of 108 to 128 blocks, 108 leave no free page.
 pub fn copying_one_code(blocks: u32) -> Vec<u8> {
     let mut random = Random::new(8);
     let place = |i| (LAST_CODE, NONE - 1 - i % 2, 65_535 - (i / 2 * 3) as u16);
-    let mut pairs: Vec<Pair> = (0..LAST_CODE_PLACES).map(place).collect();
+    let mut pairs: Vec<Pair> = (0..last_code_places(blocks)).map(place).collect();
     random.shuffle(&mut pairs);
-    let mut fresh = pairs.split_off(64 * EACH as usize);
+    let mut fresh = pairs.split_off((job_pages(blocks).0 * EACH) as usize);
     copied(&mut random, blocks, 3, pairs, |_| fresh.pop().unwrap_or_default())
 }
 
-/// Copying to bucket `new`, 2 or 3: these pairs in an old chain of 64 pages, the first half of those of the new bucket
-/// copied, and with fresh ones in a chain of 40 pages.
+/// Copying to bucket `new`, 2 or 3: these pairs in the old chain, the first half of those of the new bucket copied, and
+/// with fresh ones in the new chain.
 fn copied(
     random: &mut Random,
     blocks: u32,
@@ -98,15 +146,16 @@ fn copied(
     mut fresh: impl FnMut(&mut Random) -> Pair,
 ) -> Vec<u8> {
     let old = new - 2;
+    let (old_number, new_number) = job_pages(blocks);
     let mut spares = [0; 16];
-    spares[1..3].copy_from_slice(&[64, 64 + 39]);
+    spares[1..3].copy_from_slice(&[old_number, old_number + new_number - 1]);
     let layout = Layout { blocks, max: new, point: 2, spares, number: NUMBER };
-    let old_pages = interleaved(random, old_pairs.into_iter().map(|pair| (pair, false)).collect(), 64);
+    let old_pages = interleaved(random, old_pairs.into_iter().map(|pair| (pair, false)).collect(), old_number);
     let guests = old_pages.iter().flatten().filter(|(pair, _)| layout.bucket_of(pair.0) == new);
     let mut copies: Vec<_> = guests.map(|(&pair, _)| (pair, true)).collect();
     copies.truncate(copies.len() / 2);
-    copies.resize_with(40 * EACH as usize, || (fresh(random), false));
-    let new_pages = interleaved(random, copies.into_iter().collect(), 40);
+    copies.resize_with((new_number * EACH) as usize, || (fresh(random), false));
+    let new_pages = interleaved(random, copies.into_iter().collect(), new_number);
     let mut free = (1..layout.bits()).map(|bit| layout.bit_block(bit));
     let mut chain = |bucket, pages| linked(&layout, bucket, pages, &mut free);
     let mut chains: Chains = (0..=new).map(|bucket| chain(bucket, vec![Entries::new()])).collect();
@@ -120,11 +169,8 @@ fn copied(
 pub fn wanting(blocks: u32) -> Vec<u8> {
     let mut random = Random::new(u64::from(blocks));
     let size = blocks / 4;
-    let (point, old, new) = (size.ilog2(), size / 2 - 1, size - 1);
-    let mut spares = [0; 16];
-    spares[1..point as usize].fill(1);
-    spares[point as usize] = blocks / 2;
-    let layout = Layout { blocks, max: new - 1, point, spares, number: NUMBER };
+    let (old, new) = (size / 2 - 1, size - 1);
+    let layout = spread(blocks, new - 1, blocks / 2);
     let halves = (0..10 * blocks).map(|i| (of(&mut random, size, if i % 2 == 0 { old } else { new }), false)).collect();
     let mut pages = Some(interleaved(&mut random, halves, blocks / 2));
     let mut free = (1..layout.bits()).map(|bit| layout.bit_block(bit));
@@ -136,18 +182,24 @@ pub fn wanting(blocks: u32) -> Vec<u8> {
     encode(&layout, 40, 0, (0, 0), &chains)
 }
 
-/// How many of the pairs of `leaving` move with the split that it wants.
-pub const LEAVERS: u32 = 1_000;
+/// The number of the pairs of `leaving`, and how many of them move with the split that it wants.
+pub fn leavers(blocks: u32) -> (u32, u32) {
+    match blocks {
+        128 => (99 * 40, 1_000),
+        1024 => (800 * 40, 8_000),
+        _ => panic!("nobody leaves {blocks} blocks"),
+    }
+}
 
-/// A store that wants a split of a chain of 99 full pages with 3,960 random pairs, most of which stay: `LEAVERS` move,
-/// and fill the last of 128 blocks. It wants more splits after that one. A store that wants one alone has at most 40
-/// pairs for each bucket and for the new one, so no more full pages than that, and 128 blocks have no room for 99 of
-/// each.
-pub fn leaving() -> Vec<u8> {
+/// A store that wants a split of a chain of full pages of random pairs, of which a quarter or so move, and fill the
+/// last blocks. It wants more splits after that one. A store that wants one alone has at most 40 pairs for each bucket
+/// and for the new one, so no more full pages than that, and there is no room for as many of each.
+pub fn leaving(blocks: u32) -> Vec<u8> {
     let mut random = Random::new(9);
-    let pairs = (0..99 * 40).map(|i| (of(&mut random, 4, if i < LEAVERS { 2 } else { 0 }), false)).collect();
-    let pages = interleaved(&mut random, pairs, 99);
-    lone(128, pages)
+    let (all, leave) = leavers(blocks);
+    let pairs = (0..all).map(|i| (of(&mut random, 4, if i < leave { 2 } else { 0 }), false)).collect();
+    let pages = interleaved(&mut random, pairs, all / 40);
+    lone(blocks, pages)
 }
 
 type Pair = (u32, u32, u16);

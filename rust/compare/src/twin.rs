@@ -1,6 +1,7 @@
 //! One store, kept twice: every call is made on both and compared.
 
 use crate::side::{Ordinary, Proved, Reply, Side, State};
+use crate::word::places;
 
 /// The same bytes in the hands of both implementations.
 #[derive(Clone)]
@@ -81,12 +82,7 @@ impl Twin {
         );
         let written = if reply.done() { 6 * reply.gives as usize } else { 0 };
         assert_eq!(output[written..], blank[written..], "{}: {call} wrote past its matches", self.label);
-        let places = output[..written].chunks_exact(6);
-        let places = places.map(|place| {
-            let block = u32::from_le_bytes([place[0], place[1], place[2], place[3]]);
-            (block, u16::from_le_bytes([place[4], place[5]]))
-        });
-        (reply, places.collect())
+        (reply, places(&output[..written]).collect())
     }
 
     fn read<T: PartialEq + std::fmt::Debug>(
@@ -112,8 +108,9 @@ impl Twin {
         let answer = proved(&mut self.proved);
         let other = ordinary(&mut self.ordinary);
         assert_eq!(answer, other, "{}: {call}: answers differ (proved, ordinary)", self.label);
-        if let Some(at) = (0..before.len()).find(|&at| self.proved[at] != self.ordinary[at]) {
-            let (block, byte) = (at / 512, at % 512);
+        if self.proved != self.ordinary {
+            let at = (0..before.len()).find(|&at| self.proved[at] != self.ordinary[at]);
+            let (block, byte) = at.map_or((0, 0), |at| (at / 512, at % 512));
             panic!("{}: {call}: {answer:?}: stores differ at block {block}, byte {byte}", self.label);
         }
         assert!(answer.done() || before == self.proved, "{}: {call}: refused, but changed the store", self.label);

@@ -5,6 +5,7 @@ use crate::numbered::{numbered, unnumbered};
 use crate::seal::check;
 use crate::sha256::first8;
 use crate::side::{Reply, Side};
+use crate::word::places;
 
 /// A file of tests/vectors.
 pub fn file(name: &str) -> String {
@@ -198,9 +199,8 @@ fn lookup<S: Side>(store: &[u8], hash: u32, room: u32) -> String {
     let reply = S::lookup(store, hash, &mut output);
     let matches = if reply.done() { reply.gives as usize } else { 0 };
     let mut said = format!("{} {matches}", plain(reply));
-    for place in output[..6 * matches].chunks_exact(6) {
-        let block = u32::from_le_bytes([place[0], place[1], place[2], place[3]]);
-        said += &format!(" {block}/{}", u16::from_le_bytes([place[4], place[5]]));
+    for (block, offset) in places(&output[..6 * matches]) {
+        said += &format!(" {block}/{offset}");
     }
     assert!(output[6 * matches..].iter().all(|&byte| byte == 0xEE), "lookup {hash} {room} wrote past its matches");
     said

@@ -35,7 +35,7 @@ fn runs(seeds: std::ops::Range<u64>, codes: u32, places: u32, calls: u32) {
         let blocks = 6 + 5 * (seed as usize % 4);
         run(seed, blocks, 1 + 3 * (seed as u32 % 3), calls, &mut maker, &mut tally);
     }
-    assert!(tally.counted > 0 && tally.disturbed > 0, "{tally:?}");
+    assert!(tally.counted > 0 && tally.disturbed > 0 && tally.moved > 0, "{tally:?}");
     // More than the last formats of each list.
     assert!(tally.kept > lists && tally.emptied > 0, "{tally:?}");
 }

@@ -9,10 +9,6 @@ use compare::twin::Twin;
 
 const MOST: u32 = 65_535;
 
-fn worked(steps: u32, stop: u8) -> Reply {
-    Reply { steps, stop, ..Reply::default() }
-}
-
 /// The bytes that work leaves when nothing but work is called, and what it answers.
 fn whole(twin: &Twin) -> (Reply, Vec<u8>) {
     let mut twin = twin.clone();
@@ -24,7 +20,7 @@ fn whole(twin: &Twin) -> (Reply, Vec<u8>) {
 fn every_budget() {
     let twin = Twin::new(wanting(16), "wanting");
     let (reply, end) = whole(&twin);
-    assert_eq!(reply, worked(163, 9));
+    assert_eq!(reply, Reply::worked(163, 9));
     for budget in 0..=164 {
         let mut twin = twin.clone();
         twin.label = format!("wanting, work {budget}");
@@ -32,7 +28,7 @@ fn every_budget() {
         for budget in [budget, 3, MOST] {
             let steps = left.min(budget);
             let stop = if steps == budget { 0 } else { 9 };
-            assert_eq!(twin.work(budget), worked(steps, stop), "{}", twin.label);
+            assert_eq!(twin.work(budget), Reply::worked(steps, stop), "{}", twin.label);
             assert!(twin.verify().done(), "{}", twin.label);
             left -= steps;
         }
@@ -42,7 +38,7 @@ fn every_budget() {
 
 #[test]
 fn random_budgets() {
-    for (name, store) in [("copying", copying()), ("one code", copying_one_code(128))] {
+    for (name, store) in [("copying", copying(128)), ("one code", copying_one_code(128))] {
         let twin = Twin::new(store, name);
         let (reply, end) = whole(&twin);
         for seed in 0..6 {
@@ -59,7 +55,7 @@ fn random_budgets() {
                     break reply.stop;
                 }
             };
-            assert_eq!(worked(steps, stop), reply, "{}", twin.label);
+            assert_eq!(Reply::worked(steps, stop), reply, "{}", twin.label);
             assert!(twin.bytes() == end, "{}: other bytes", twin.label);
         }
     }
@@ -71,13 +67,13 @@ fn twice(twin: &Twin, first: u32, second: u32) {
     let (a, b) = (parted.work(first), parted.work(second));
     let together = once.work(first + second);
     let label = format!("{}, {first} and {second}", twin.label);
-    assert_eq!(worked(a.steps + b.steps, b.stop), together, "{label}");
+    assert_eq!(Reply::worked(a.steps + b.steps, b.stop), together, "{label}");
     assert!(parted.bytes() == once.bytes(), "{label}: other bytes");
 }
 
 #[test]
 fn two_calls_as_one() {
-    let long = [copying(), copying_one_code(128), copying_one_code(108), wanting(64), wanting(128)];
+    let long = [copying(128), copying_one_code(128), copying_one_code(108), wanting(64), wanting(128)];
     let mut random = Random::new(11_000);
     for (number, store) in long.into_iter().enumerate() {
         let twin = Twin::new(store, format!("long {number}"));
@@ -103,7 +99,8 @@ fn sealed_once() {
         let (answer, other) = (ordinary::work(&mut each, budget), ordinary::work_sealed_once(&mut once, budget));
         assert!(answer == other && each == once, "{label}, work {budget}: {answer:?} and {other:?}");
     };
-    for (number, store) in [copying(), copying_one_code(128), copying_one_code(108), wanting(16)].iter().enumerate() {
+    for (number, store) in [copying(128), copying_one_code(128), copying_one_code(108), wanting(16)].iter().enumerate()
+    {
         for budget in [0, 1, 2, 5, 40, 479, 480, 481, 900, 1_400, MOST, MOST + 1] {
             same(store.clone(), budget, format!("long {number}"));
         }
@@ -129,11 +126,11 @@ fn copies(twin: &Twin) -> Vec<(u32, u32, u32)> {
 fn goes_on(mut twin: Twin, steps: u32, wanting: u32, rest: Reply) {
     let mut random = Random::new(12_000);
     let before = copies(&twin).len();
-    assert_eq!(twin.work(MOST), worked(steps, 7), "{}", twin.label);
+    assert_eq!(twin.work(MOST), Reply::worked(steps, 7), "{}", twin.label);
     let copied = copies(&twin).len();
     assert!(copied > before && twin.standing().1.phase == 1, "{}: {before} and {copied} copies", twin.label);
-    assert_eq!(twin.work(MOST), worked(0, 7), "{}", twin.label);
-    for (removals, reply) in [(1, worked(1, 7)), (3, worked(3, 7)), (wanting - 4, rest)] {
+    assert_eq!(twin.work(MOST), Reply::worked(0, 7), "{}", twin.label);
+    for (removals, reply) in [(1, Reply::worked(1, 7)), (3, Reply::worked(3, 7)), (wanting - 4, rest)] {
         let mut pairs = copies(&twin);
         random.shuffle(&mut pairs);
         for &(hash, block, offset) in &pairs[..removals as usize] {
@@ -154,7 +151,7 @@ fn no_room_in_the_midst_of_copying() {
     }
     // The split that is wanted takes the last blocks, so that 40 of 60 entries find room.
     // Of those, 20 are removed with their copies, so that 40 are copied and 40 cleared in the end.
-    goes_on(twin, 41, 20, worked(16 + 1 + 40 + 1, 9));
+    goes_on(twin, 41, 20, Reply::worked(16 + 1 + 40 + 1, 9));
     // Here 480 more copies find room, and after the split there is none for the next one to begin.
-    goes_on(Twin::new(copying_one_code(108), "one code"), 480, 416, worked(412 + 1 + 1376 + 1, 7));
+    goes_on(Twin::new(copying_one_code(108), "one code"), 480, 416, Reply::worked(412 + 1 + 1376 + 1, 7));
 }

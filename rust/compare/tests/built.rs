@@ -50,7 +50,7 @@ fn small_and_middle() {
 }
 
 #[test]
-fn largest() {
+fn of_128_blocks() {
     let mut seen = Seen::default();
     for seed in 0..12 {
         let mut random = Random::new(3000 + seed);

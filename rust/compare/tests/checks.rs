@@ -21,7 +21,7 @@ fn verdict(store: &[u8], label: String) -> Reply {
 #[test]
 fn right_checks_of_any_bytes() {
     for seed in 0..20 {
-        let store = random_blocks(seed, 128);
+        let store = random_blocks(seed, if seed < 4 { 1024 } else { 128 });
         assert_eq!(verdict(&store, format!("seed {seed}")), Reply::refused(4, 1));
         assert!(store.chunks_exact(512).all(|block| ordinary::crc32c(&block[..508]) == crc32c(&block[..508])));
     }

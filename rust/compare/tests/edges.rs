@@ -16,13 +16,14 @@ fn filled(pairs: u32) -> Twin {
 
 #[test]
 fn lengths() {
-    let whole = sound(&mut Random::new(1), 128, 1, 40);
+    let whole = sound(&mut Random::new(1), 1024, 1, 40);
     let mut lengths = vec![0, 1, 27, 28, 511, 512, 513, 3 * 512, 4 * 512 - 1, 4 * 512 + 1, 127 * 512 + 511];
-    lengths.extend([128 * 512 - 512 + 1, 100 * 512 + 256]);
+    lengths.extend([128 * 512 - 512 + 1, 100 * 512 + 256, 1023 * 512 + 1, 1024 * 512 - 1]);
     let mut stores: Vec<Vec<u8>> = lengths.iter().map(|&len| whole[..len].to_vec()).collect();
     stores.push([whole.clone(), vec![0]].concat());
     stores.push([whole.clone(), vec![0; 512]].concat());
-    stores.push([whole.clone(), whole].concat());
+    stores.push([whole.clone(), whole.clone()].concat());
+    assert!(Twin::new(whole.clone(), "all blocks").verify().done());
     for store in stores {
         let mut twin = Twin::new(store.clone(), format!("{} bytes", store.len()));
         let length = Reply::refused(1, 0);
@@ -72,7 +73,7 @@ fn numbers() {
         assert!(twin.remove(hash, u32::MAX - 1, 65_535).done());
         assert_eq!(twin.remove(hash, u32::MAX - 1, 65_535).number, 6);
     }
-    assert_eq!(twin.work(65_535), Reply { stop: 9, ..Reply::default() });
+    assert_eq!(twin.work(65_535), Reply::worked(0, 9));
     assert_eq!(twin.work(0), Reply::default());
 }
 

@@ -6,7 +6,7 @@ use compare::random::Random;
 use compare::seal::{check, number, seal_all, set_number, UNSEEN};
 use compare::side::Reply;
 use compare::spoil::{damage, spoil};
-use compare::stores::{chain, copying, copying_one_code, crowd, even, leaving, wanting, Order};
+use compare::stores::{chain, copying, copying_one_code, crowd, even, leaving, longest, wanting, Order, Split};
 use compare::twin::Twin;
 use std::collections::BTreeMap;
 
@@ -56,13 +56,15 @@ fn judged(random: &mut Random, twin: &Twin) -> Reply {
 #[test]
 fn live_stores() {
     let mut random = Random::new(15_000);
-    let mut stores = vec![copying(), copying_one_code(128), leaving(), chain(128, 125), wanting(16), wanting(128)];
+    let mut stores =
+        vec![copying(128), copying_one_code(128), leaving(128), chain(128, 125), wanting(16), wanting(128)];
     stores.extend([
-        even(4, 20, false),
-        even(64, 28, true),
-        even(128, 28, false),
+        even(4, 2, 20, Split::Over),
+        even(64, 32, 28, Split::Copying),
+        even(128, 64, 28, Split::Over),
         crowd(128, 5_000, Order::Interleaved),
     ]);
+    stores.extend([even(1024, 512, 28, Split::Wanted), copying(1024), longest(1024, 0)]);
     stores.extend([crowd(128, 1, Order::Ascending), crowd(4, 40, Order::Ascending)]);
     for (i, store) in stores.into_iter().enumerate() {
         assert_eq!(judged(&mut random, &Twin::new(store, format!("live {i}"))), IN_USE, "live {i}");
@@ -143,8 +145,8 @@ fn spoilt_stores() {
 #[test]
 fn lengths() {
     let mut random = Random::new(15_400);
-    let whole = sound(&mut random, 128, 1, 40);
-    let mut stores: Vec<Vec<u8>> = [0, 1, 511, 512, 513, 3 * 512, 4 * 512 - 1, 4 * 512 + 1, 128 * 512 - 1]
+    let whole = sound(&mut random, 1024, 1, 40);
+    let mut stores: Vec<Vec<u8>> = [0, 1, 511, 512, 513, 3 * 512, 4 * 512 - 1, 4 * 512 + 1, 1024 * 512 - 1]
         .map(|length| whole[..length].to_vec())
         .into();
     stores.extend([[whole.clone(), vec![0]].concat(), [whole.clone(), vec![0; 512]].concat()]);
@@ -153,7 +155,7 @@ fn lengths() {
         assert_eq!(judged(&mut random, &Twin::new(store, &label)), LENGTH, "{label}");
     }
     // Whole blocks, but not all of them: no index.
-    for blocks in [4, 5, 64, 127] {
+    for blocks in [4, 5, 64, 127, 128, 129, 1023] {
         let twin = Twin::new(whole[..blocks * 512].to_vec(), format!("first {blocks} blocks"));
         assert_eq!((twin.verify(), judged(&mut random, &twin)), (Reply::refused(4, 1), DONE), "{}", twin.label);
     }

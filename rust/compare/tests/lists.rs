@@ -53,7 +53,7 @@ fn many_codes_in_middle_stores() {
 }
 
 #[test]
-fn many_codes_in_the_largest_store() {
+fn many_codes_in_128_blocks() {
     let mut seen = Seen::default();
     let mut maker = Maker::new(200, 1000, 2, false);
     maker.budget = 40;
@@ -63,7 +63,7 @@ fn many_codes_in_the_largest_store() {
 }
 
 #[test]
-fn few_codes_in_the_largest_store() {
+fn few_codes_in_128_blocks() {
     let mut seen = Seen::default();
     let mut maker = Maker::new(300, 2, 500, true);
     run(300, 128, 8, 500, &mut maker, &mut seen);

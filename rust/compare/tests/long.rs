@@ -4,7 +4,7 @@ use compare::build::found;
 use compare::random::Random;
 use compare::side::Reply;
 use compare::spoil::{change, Change};
-use compare::stores::{chain, copying, copying_one_code, LAST_CODE, LAST_CODE_PLACES};
+use compare::stores::{chain, copying, copying_one_code, last_code_places, LAST_CODE};
 use compare::twin::Twin;
 use std::collections::{BTreeMap, BTreeSet};
 
@@ -20,11 +20,12 @@ fn wanted(kind: Change, populated: bool) -> Option<Reply> {
 
 #[test]
 fn long_chains() {
-    let stores = [(chain(128, 125), None), (copying(), Some(2)), (copying_one_code(128), Some(3))];
+    let stores = [(chain(128, 125), None, 240), (copying(128), Some(2), 240), (copying_one_code(128), Some(3), 240)];
+    let larger = [(chain(1024, 1021), None, 40), (copying(1024), Some(2), 40), (copying_one_code(1024), Some(3), 40)];
     let mut seen: BTreeMap<(bool, u8, u32), u32> = BTreeMap::new();
-    for (number, (store, populated)) in stores.into_iter().enumerate() {
+    for (number, (store, populated, times)) in stores.into_iter().chain(larger).enumerate() {
         assert!(Twin::new(store.clone(), format!("store {number}")).verify().done());
-        for seed in 0..240 {
+        for seed in 0..times {
             let mut random = Random::new(9000 + seed);
             let kind = [Change::Copy, Change::Marked, Change::Shifted, Change::Mark][seed as usize % 4];
             let mut store = store.clone();
@@ -55,7 +56,7 @@ fn lookups_while_copying() {
     let mut twin = Twin::new(copying_one_code(128), "one code");
     let all = places(twin.bytes());
     let number = all.len();
-    assert_eq!(number as u32, LAST_CODE_PLACES);
+    assert_eq!((number, last_code_places(128)), (2_016, 2_016));
     assert_eq!(all.last(), Some(&(u32::MAX - 1, 65_535)));
     let mut phases = BTreeSet::new();
     // 896 entries to copy, the end of the copying, 1,792 to clear, the end of the job, and the begin of the next.
@@ -63,7 +64,7 @@ fn lookups_while_copying() {
         let reply = twin.work(budget);
         let (_, state) = twin.standing();
         assert!(reply.done() && twin.verify().done(), "work {budget}: {reply:?}");
-        assert_eq!(state.count, LAST_CODE_PLACES, "work {budget}");
+        assert_eq!(state.count, 2_016, "work {budget}");
         phases.insert(state.phase);
         let full = Reply { gives: number as u32, ..Reply::default() };
         for room in [6 * number, 6 * number + 1, 30_000] {

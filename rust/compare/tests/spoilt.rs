@@ -76,7 +76,7 @@ fn broken_rules() {
 fn any_bytes() {
     for seed in 0..60 {
         let mut random = Random::new(7000 + seed);
-        let blocks = random.within(4, 128) as usize;
+        let blocks = random.within(4, if seed < 8 { 1024 } else { 128 }) as usize;
         let mut store: Vec<u8> = (0..blocks * 512).map(|_| random.word() as u8).collect();
         if seed % 2 == 0 {
             seal_all(&mut store);

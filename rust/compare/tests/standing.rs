@@ -2,14 +2,11 @@
 //! a refusal writes none.
 
 use compare::build::sound;
+use compare::foreign::c::amiqsovik_standing;
 use compare::random::Random;
 use compare::side::{Ordinary, Side};
 use compare::spoil::{damage, spoil};
 use std::collections::BTreeSet;
-
-extern "C" {
-    fn amiqsovik_standing(store: *const u8, len: usize, result: *mut u8, result_len: usize) -> u64;
-}
 
 const LENGTHS: [usize; 7] = [0, 1, 27, 28, 29, 30, 64];
 const BLANK: [u8; 64] = [0x5A; 64];

@@ -13,7 +13,7 @@ fn stores_01<S: Side>() {
 }
 
 fn stores_02<S: Side>() {
-    assert_eq!(replay_02::<S>(&file("02/stores.txt")), Replayed { calls: 3467, in_use: 17 });
+    assert_eq!(replay_02::<S>(&file("02/stores.txt")), Replayed { calls: 3575, in_use: 21 });
 }
 
 #[test]

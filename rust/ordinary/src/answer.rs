@@ -5,7 +5,7 @@ use std::fmt;
 /// Why a call was refused. A refused call changed nothing.
 #[derive(Debug, Clone, Copy, PartialEq, Eq)]
 pub enum Refusal {
-    /// The store is not 4 to 128 blocks of 512 bytes.
+    /// The store is not 4 to 1,024 blocks of 512 bytes.
     Length,
     /// A number is outside its field.
     Number,
@@ -53,7 +53,7 @@ impl Refusal {
 impl fmt::Display for Refusal {
     fn fmt(&self, f: &mut fmt::Formatter<'_>) -> fmt::Result {
         match self {
-            Refusal::Length => write!(f, "the store is not 4 to 128 blocks of 512 bytes"),
+            Refusal::Length => write!(f, "the store is not 4 to 1,024 blocks of 512 bytes"),
             Refusal::Number => write!(f, "a number is outside its field"),
             Refusal::Damaged(block) => write!(f, "block {block} is damaged"),
             Refusal::NotAnIndex(rule) => write!(f, "the store is not an index: rule {rule} is broken"),

@@ -2,7 +2,7 @@
 
 use crate::answer::{Phase, Refusal};
 use crate::block::{self, Block, Trailer, BITMAP, BUCKET, CLEANUP, CONTENT, META, NONE, OVERFLOW, POPULATED, SPLIT};
-use crate::meta::{splits_from, store_number, Meta, Role, MOST};
+use crate::meta::{latest_splits, store_number, Meta, Role};
 use crate::page::{self, Pair};
 use crate::view::View;
 use std::cell::OnceCell;
@@ -36,14 +36,14 @@ fn broken_rule(blocks: &[Block], meta: &Meta) -> Option<u32> {
 /// A store under test, its meta block found right.
 struct Store<'a> {
     view: View<'a>,
-    roles: [Role; MOST],
+    roles: Vec<Role>,
     /// The pairs of the bucket that the last one split off from, ascending: rules 5 and 7 need them.
     originals: OnceCell<Vec<Pair>>,
 }
 
 impl Store<'_> {
     fn blocks(&self) -> impl Iterator<Item = (Role, &Block)> {
-        self.roles.into_iter().zip(self.view.blocks)
+        self.roles.iter().copied().zip(self.view.blocks)
     }
 
     fn bucket_page(&self, bucket: u32) -> &Block {
@@ -126,18 +126,21 @@ impl Store<'_> {
         let is_page = |role: &Role| matches!(role, Role::Bucket(_));
         self.blocks().filter(|(role, _)| is_page(role)).all(|(_, block)| page::well_formed(block))
             && self.overflow_pages().all(page::well_formed)
-            && self.buckets().all(|bucket| self.has_no_twins(bucket))
+            && self.has_no_twins()
     }
 
-    fn has_no_twins(&self, bucket: u32) -> bool {
+    fn has_no_twins(&self) -> bool {
         let distinct = |pairs: &[Pair]| pairs.windows(2).all(|pairs| pairs[0] != pairs[1]);
-        if block::next(self.bucket_page(bucket)) == NONE {
-            true // One page is strictly ascending.
-        } else if bucket == self.view.meta.job_old() {
-            distinct(self.originals())
-        } else {
-            distinct(&self.view.sorted_pairs(bucket))
-        }
+        // One page is strictly ascending.
+        let long = |&bucket: &u32| block::next(self.bucket_page(bucket)) != NONE;
+        let mut pairs = Vec::new();
+        self.buckets().filter(long).all(|bucket| {
+            if bucket == self.view.meta.job_old() {
+                return distinct(self.originals());
+            }
+            self.view.sort_pairs(bucket, &mut pairs);
+            distinct(&pairs)
+        })
     }
 
     fn originals(&self) -> &[Pair] {
@@ -186,12 +189,8 @@ impl Store<'_> {
 
     /// Previous fields of bucket pages, and the count.
     fn rule8(&self) -> bool {
-        let mut latest = [1; MOST];
-        for bucket in 2..self.view.meta.buckets() {
-            latest[bucket as usize] = bucket;
-            latest[splits_from(bucket) as usize] = bucket;
-        }
-        self.buckets().all(|bucket| block::previous(self.bucket_page(bucket)) == latest[bucket as usize])
+        let latest = latest_splits(self.view.meta.buckets());
+        self.buckets().zip(latest).all(|(bucket, latest)| block::previous(self.bucket_page(bucket)) == latest)
             && self.held() == self.view.meta.count as usize
     }
 

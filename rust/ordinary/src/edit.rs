@@ -2,21 +2,55 @@
 
 use crate::answer::Refusal;
 use crate::block::{self, Block, Trailer, NONE, OVERFLOW};
-use crate::meta::Meta;
+use crate::meta::{Meta, MOST};
 use crate::page::{self, Entry, ROOM};
 use crate::view::View;
+
+/// A set of blocks, one bit each.
+#[derive(Default)]
+struct Marks {
+    words: [u64; MOST / 64],
+    /// Which words have a bit.
+    some: u64,
+}
+
+impl Marks {
+    fn put(&mut self, number: usize) {
+        self.words[number / 64] |= 1 << (number % 64);
+        self.some |= 1 << (number / 64);
+    }
+
+    fn has(&self, number: usize) -> bool {
+        self.words[number / 64] >> (number % 64) & 1 == 1
+    }
+
+    /// Takes the lowest block out.
+    fn take(&mut self) -> Option<usize> {
+        if self.some == 0 {
+            return None;
+        }
+        let place = self.some.trailing_zeros() as usize;
+        let word = &mut self.words[place];
+        let number = 64 * place + word.trailing_zeros() as usize;
+        *word &= *word - 1;
+        if *word == 0 {
+            self.some &= self.some - 1;
+        }
+        Some(number)
+    }
+}
 
 /// A sound store that is being changed.
 pub struct Edit<'a> {
     blocks: &'a mut [Block],
     meta: Meta,
-    /// The blocks changed since the last seal, one bit each.
-    touched: u128,
+    /// The blocks changed since the last seal.
+    touched: Marks,
 }
 
 impl<'a> Edit<'a> {
     pub fn new(blocks: &'a mut [Block], meta: Meta) -> Self {
-        Edit { blocks, meta, touched: 0 }
+        Edit { blocks, meta, touched: Marks::default() }
     }
 
     pub fn view(&self) -> View<'_> {
@@ -29,46 +63,48 @@ impl<'a> Edit<'a> {
 
     /// The meta block's fields, to be changed.
     pub fn meta_mut(&mut self) -> &mut Meta {
-        self.touched |= 1;
+        self.touched.put(0);
         &mut self.meta
     }
 
     /// A block other than meta, to be changed.
     pub fn block(&mut self, number: usize) -> &mut Block {
-        self.touched |= 1 << number;
+        self.touched.put(number);
         &mut self.blocks[number]
     }
 
     /// Writes the meta block if it was changed, and the checks of exactly the blocks that were.
     pub fn seal(&mut self) {
-        if self.touched & 1 == 1 {
+        if self.touched.has(0) {
             self.meta.write(&mut self.blocks[0]);
         }
-        while self.touched != 0 {
-            let at = self.touched.trailing_zeros() as usize;
+        while let Some(at) = self.touched.take() {
             block::seal(self.meta.number, at, &mut self.blocks[at]);
-            self.touched &= self.touched - 1;
         }
     }
 
     /// Puts an entry into the first page of the chain with room, or into a new page at its end.
     pub fn place(&mut self, bucket: u32, entry: Entry) -> Result<(), Refusal> {
-        let roomy = self.view().chain(bucket).find(|&number| page::len(&self.blocks[number]) < ROOM);
+        self.place_from(self.meta.bucket_block(bucket), bucket, entry).map(drop)
+    }
+
+    /// The same where all pages before `first` are full. Gives the page that the entry went to.
+    pub fn place_from(&mut self, first: usize, bucket: u32, entry: Entry) -> Result<usize, Refusal> {
+        let roomy = self.view().chain_from(first).find(|&number| page::len(&self.blocks[number]) < ROOM);
         let number = match roomy {
             Some(number) => number,
-            None => self.extend(bucket)?,
+            None => self.extend(first, bucket)?,
         };
         let page = self.block(number);
         let slot = page::search(page, entry.pair).unwrap_or_else(|slot| slot);
         page::insert(page, slot, entry);
-        Ok(())
+        Ok(number)
     }
 
-    /// Links a new, empty page to the end of a chain.
-    fn extend(&mut self, bucket: u32) -> Result<usize, Refusal> {
+    /// Links a new, empty page to the end of a chain that has `first` in it.
+    fn extend(&mut self, first: usize, bucket: u32) -> Result<usize, Refusal> {
         let number = self.take_page()?;
-        let first = self.meta.bucket_block(bucket);
-        let last = self.view().chain(bucket).last().unwrap_or(first);
+        let last = self.view().chain_from(first).last().unwrap_or(first);
         Trailer::new(last as u32, NONE, bucket, OVERFLOW).put(self.block(number));
         block::set_next(self.block(last), number as u32);
         Ok(number)
@@ -85,7 +121,7 @@ impl<'a> Edit<'a> {
         } else {
             return Err(Refusal::NoRoom);
         }
-        self.meta_mut().first_free = self.lowest_free();
+        self.meta_mut().first_free = self.lowest_free(free + 1);
         Ok(self.meta.bit_block(free))
     }
 
@@ -121,10 +157,10 @@ impl<'a> Edit<'a> {
         *byte = if used { *byte | mask } else { *byte & !mask };
     }
 
-    /// The lowest 0 bit or, without one, the next bit to make.
-    fn lowest_free(&self) -> u32 {
+    /// The lowest 0 bit from one on or, without one, the next bit to make.
+    fn lowest_free(&self, from: u32) -> u32 {
         let bitmap = &self.blocks[self.meta.bitmap()];
         let bits = self.meta.bits();
-        (0..bits).find(|&bit| bitmap[bit as usize / 8] >> (bit % 8) & 1 == 0).unwrap_or(bits)
+        (from..bits).find(|&bit| bitmap[bit as usize / 8] >> (bit % 8) & 1 == 0).unwrap_or(bits)
     }
 }

@@ -1,7 +1,7 @@
-//! The hash index of document 01 in ordinary Rust, with the store number of request 2026-03 and the in-use test of
-//! request 2026-04.
+//! The hash index of document 01 in ordinary Rust, with the store number of request 2026-03, the in-use test of request
+//! 2026-04 and the sizes of request 2026-09.
 //!
-//! A store is a byte slice of 4 to 128 blocks of 512 bytes. Every call takes any bytes and any numbers, judges the
+//! A store is a byte slice of 4 to 1,024 blocks of 512 bytes. Every call takes any bytes and any numbers, judges the
 //! whole store first, but for a format that overwrites, and either is done or gives a [`Refusal`] and leaves the store
 //! and the output as they were.
 //! This crate is written from the documents alone, so that the proved index can be compared with it.

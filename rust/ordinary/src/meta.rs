@@ -3,7 +3,9 @@
 use crate::block::{get16, get32, put16, put32, zero, Block, Trailer, CONTENT, META};
 
 /// The most blocks of a store.
-pub const MOST: usize = 128;
+pub const MOST: usize = 1024;
+/// From this group of buckets on a group has four points, and before it one.
+const FIRST_PHASED: u32 = 10;
 const MAGIC: u32 = 0x0644_0640;
 const EDITION: u32 = 512;
 const SPARES: usize = 40;
@@ -95,7 +97,7 @@ impl Meta {
         if !(1..=40).contains(&self.fill) || self.max_bucket == 0 || self.max_bucket >= self.blocks {
             return false;
         }
-        let point = group(self.max_bucket);
+        let point = point_of(self.max_bucket);
         if self.point != point || (self.high_mask, self.low_mask) != masks(self.max_bucket) {
             return false;
         }
@@ -104,7 +106,7 @@ impl Meta {
             && made[1] >= 1
             && made[1..].is_sorted()
             && above.iter().all(|&spare| spare == 0)
-            && (1 << point) + u64::from(made[point as usize]) < u64::from(self.blocks)
+            && u64::from(buckets_at(point)) + u64::from(made[point as usize]) < u64::from(self.blocks)
     }
 
     pub fn buckets(&self) -> u32 {
@@ -118,7 +120,7 @@ impl Meta {
 
     /// The number of made blocks.
     pub fn made(&self) -> u32 {
-        (1 << self.point) + self.bits() + 1
+        buckets_at(self.point) + self.bits() + 1
     }
 
     /// Makes one more bucket the last one; point and spares are up to the caller.
@@ -137,25 +139,28 @@ impl Meta {
     }
 
     pub fn bucket_block(&self, bucket: u32) -> usize {
-        match group(bucket) {
+        match point_of(bucket) {
             0 => 1,
-            group => (bucket + self.spares[group as usize - 1] + 1) as usize,
+            point => (bucket + self.spares[point as usize - 1] + 1) as usize,
         }
     }
 
     pub fn bit_block(&self, bit: u32) -> usize {
-        let group = (1..self.point).find(|&i| bit < self.spares[i as usize]).unwrap_or(self.point);
-        ((1 << group) + bit + 1) as usize
+        let point = (1..self.point).find(|&i| bit < self.spares[i as usize]).unwrap_or(self.point);
+        (buckets_at(point) + bit + 1) as usize
     }
 
     /// The bit of a made overflow block.
     pub fn bit_of(&self, block: usize) -> Option<u32> {
-        (0..self.bits()).find(|&bit| self.bit_block(bit) == block)
+        let last = |point: u32| buckets_at(point) + self.spares[point as usize];
+        let point = (1..=self.point).find(|&point| block as u32 <= last(point))?;
+        let bit = (block as u32).checked_sub(buckets_at(point) + 1)?;
+        (self.bit_block(bit) == block).then_some(bit)
     }
 
     /// The roles of all blocks of a store that keeps rule 2.
-    pub fn roles(&self) -> [Role; MOST] {
-        let mut roles = [Role::Unused; MOST];
+    pub fn roles(&self) -> Vec<Role> {
+        let mut roles = vec![Role::Unused; self.blocks as usize];
         roles[0] = Role::Meta;
         for bucket in 0..self.buckets() {
             roles[self.bucket_block(bucket)] = Role::Bucket(bucket);
@@ -177,9 +182,36 @@ impl Meta {
     }
 }
 
-/// The smallest g with 2^g at least `bucket` + 1.
-pub fn group(bucket: u32) -> u32 {
-    u32::BITS - bucket.leading_zeros()
+/// The point that a bucket comes with: its group, which is its number of bits, or one of four in a phased group.
+pub fn point_of(bucket: u32) -> u32 {
+    let group = u32::BITS - bucket.leading_zeros();
+    if group < FIRST_PHASED {
+        return group;
+    }
+    // The two bits after the highest tell the phase.
+    let phase = bucket >> (group - 3) & 3;
+    FIRST_PHASED + 4 * (group - FIRST_PHASED) + phase
+}
+
+/// Buckets in all at a point.
+pub fn buckets_at(point: u32) -> u32 {
+    if point < FIRST_PHASED {
+        return 1 << point;
+    }
+    let (groups, phase) = ((point - FIRST_PHASED) / 4, (point - FIRST_PHASED) % 4);
+    // The groups before have four quarters, each as large as a phase.
+    (4 + phase + 1) << (FIRST_PHASED + groups - 3)
+}
+
+/// Of each bucket the highest one from 2 on that it is or that split off from it, or 1: what its page's previous field
+/// has to be.
+pub fn latest_splits(buckets: u32) -> Vec<u32> {
+    let mut latest = vec![1; buckets as usize];
+    for bucket in 2..buckets {
+        latest[bucket as usize] = bucket;
+        latest[splits_from(bucket) as usize] = bucket;
+    }
+    latest
 }
 
 /// The bucket that `bucket`, at least 1, splits off from.
@@ -192,3 +224,6 @@ fn masks(max_bucket: u32) -> (u32, u32) {
     let high = (u32::MAX >> max_bucket.leading_zeros()).max(3);
     (high, high / 2)
 }
+
+#[cfg(test)]
+mod tests;

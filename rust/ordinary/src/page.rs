@@ -70,6 +70,11 @@ pub fn entries(page: &Block) -> impl Iterator<Item = Entry> + '_ {
     slots(page).iter().map(Entry::of)
 }
 
+/// The pairs of such a page, in order.
+pub fn pairs(page: &Block) -> impl Iterator<Item = Pair> + '_ {
+    slots(page).iter().map(Pair::of)
+}
+
 /// Rule 5 within one page.
 pub fn well_formed(page: &Block) -> bool {
     let len = len(page);
@@ -94,7 +99,9 @@ pub fn search(page: &Block, wanted: Pair) -> Result<usize, usize> {
 /// The page's entries with this hash code.
 pub fn run(page: &Block, hash: u32) -> impl Iterator<Item = Entry> + '_ {
     let start = slots(page).partition_point(|slot| Pair::of(slot).hash < hash);
-    slots(page)[start..].iter().map(Entry::of).take_while(move |entry| entry.pair.hash == hash)
+    let rest = &slots(page)[start..];
+    let len = rest.partition_point(|slot| Pair::of(slot).hash == hash);
+    rest[..len].iter().map(Entry::of)
 }
 
 /// Puts an entry in at a slot; the page has room.

@@ -3,7 +3,8 @@
 use crate::{calls, Refusal};
 use std::fmt::Write;
 
-/// The output bytes that a lookup lends.
+/// The most blocks of a script's store, and the output bytes that a lookup lends: enough for all that they can hold.
+const MOST: u32 = 128;
 const OUTPUT: usize = 30_000;
 const BLOCK: usize = 512;
 
@@ -63,8 +64,10 @@ fn number(word: &[u8]) -> Option<u32> {
 fn answer(store: &mut Vec<u8>, call: Call) -> Result<String, Refusal> {
     match call {
         Call::Format(blocks, fill, number, overwrite) => {
-            // More than 128 blocks are refused by any length, so none that large is made.
-            let mut fresh = vec![0; blocks.min(129) as usize * BLOCK];
+            if blocks > MOST {
+                return Err(Refusal::Length);
+            }
+            let mut fresh = vec![0; blocks as usize * BLOCK];
             calls::format(&mut fresh, fill, number, overwrite)?;
             // The fresh store is never in use. The one that stands may be; of length 0, before the first, it is not.
             if overwrite == 0 && calls::in_use(store) == Ok(true) {

@@ -23,7 +23,12 @@ pub struct Spot {
 impl<'a> View<'a> {
     /// The blocks of a bucket's chain.
     pub fn chain(self, bucket: u32) -> impl Iterator<Item = usize> + use<'a> {
-        std::iter::successors(Some(self.meta.bucket_block(bucket)), move |&page| {
+        self.chain_from(self.meta.bucket_block(bucket))
+    }
+
+    /// The blocks of a chain from one of them on.
+    pub fn chain_from(self, first: usize) -> impl Iterator<Item = usize> + use<'a> {
+        std::iter::successors(Some(first), move |&page| {
             let next = block::next(&self.blocks[page]);
             (next != NONE).then_some(next as usize)
         })
@@ -39,9 +44,18 @@ impl<'a> View<'a> {
 
     /// The pairs of a bucket's chain, ascending.
     pub fn sorted_pairs(self, bucket: u32) -> Vec<Pair> {
-        let mut pairs: Vec<_> = self.entries(bucket).map(|spot| spot.entry.pair).collect();
-        pairs.sort_unstable();
+        let mut pairs = Vec::new();
+        self.sort_pairs(bucket, &mut pairs);
         pairs
+    }
+
+    /// The same in place of what is in a buffer.
+    pub fn sort_pairs(self, bucket: u32, pairs: &mut Vec<Pair>) {
+        pairs.clear();
+        for number in self.chain(bucket) {
+            pairs.extend(page::pairs(&self.blocks[number]));
+        }
+        pairs.sort_unstable();
     }
 
     /// The pair in a bucket's chain, moved or not.
@@ -87,10 +101,15 @@ impl<'a> View<'a> {
     pub fn matches(self, hash: u32) -> Vec<(u32, u16)> {
         let bucket = self.meta.bucket_of(hash);
         let old = self.populated_from(bucket);
-        let run = |bucket| self.chain(bucket).flat_map(move |number| page::run(&self.blocks[number], hash));
-        let own = run(bucket).filter(|entry| old.is_none() || !entry.moved);
-        let mut places: Vec<_> =
-            own.chain(old.into_iter().flat_map(run)).map(|entry| (entry.pair.block, entry.pair.offset)).collect();
+        let mut places = Vec::new();
+        let place = |entry: Entry| (entry.pair.block, entry.pair.offset);
+        for number in self.chain(bucket) {
+            let held = page::run(&self.blocks[number], hash).filter(|entry| old.is_none() || !entry.moved);
+            places.extend(held.map(place));
+        }
+        for number in old.into_iter().flat_map(|old| self.chain(old)) {
+            places.extend(page::run(&self.blocks[number], hash).map(place));
+        }
         places.sort_unstable();
         places
     }

@@ -4,7 +4,7 @@ use crate::answer::{Phase, Stop, Worked};
 use crate::block::{self, Trailer, BUCKET, CLEANUP, NONE, POPULATED, SPLIT};
 use crate::check::sound;
 use crate::edit::Edit;
-use crate::meta::splits_from;
+use crate::meta::{buckets_at, splits_from};
 use crate::page::{self, Entry, Pair};
 use std::convert::Infallible;
 
@@ -64,13 +64,13 @@ impl<'a> Work<'a> {
     fn begin(&mut self) -> Result<(), Stop> {
         let edit = &mut self.edit;
         let new = edit.meta().max_bucket + 1;
-        let point = edit.meta().point as usize;
-        if new == 1 << point {
+        let point = edit.meta().point;
+        if new == buckets_at(point) {
             let bits = edit.meta().bits();
-            if (2 << point) + bits + 1 > edit.meta().blocks {
+            if buckets_at(point + 1) + bits + 1 > edit.meta().blocks {
                 return Err(Stop::NoRoom);
             }
-            edit.meta_mut().spares[point + 1] = bits;
+            edit.meta_mut().spares[point as usize + 1] = bits;
             edit.meta_mut().point += 1;
         }
         edit.meta_mut().set_max_bucket(new);
@@ -88,10 +88,12 @@ impl<'a> Work<'a> {
         let copied = view.sorted_pairs(new);
         let guests = view.entries(old).map(|spot| spot.entry.pair).filter(|pair| view.meta.bucket_of(pair.hash) == new);
         let wanting = guests.filter(|pair| copied.binary_search(pair).is_err());
-        // The old chain stays as it is meanwhile.
+        // The old chain stays as it is meanwhile, and pages of the new one that are full stay full.
         let wanting: Vec<Pair> = wanting.take(self.left()? as usize).collect();
+        let mut page = view.meta.bucket_block(new);
         for pair in wanting {
-            self.edit.place(new, Entry { pair, moved: true }).map_err(|_| Stop::NoRoom)?;
+            let copy = Entry { pair, moved: true };
+            page = self.edit.place_from(page, new, copy).map_err(|_| Stop::NoRoom)?;
             self.step()?;
         }
         self.set_flags(new, BUCKET);

@@ -1,4 +1,5 @@
-//! Document 01's bench cards C to K. A and B are on addresses, and are reached through the stores that the calls make.
+//! Document 01's bench cards C to K, and the ends of stores of 1,024 blocks (request 2026-09). Cards A and B are on
+//! addresses, and are reached through the stores that the calls make.
 
 use ordinary::{format, insert, lookup, remove, standing, work, Phase, Refusal, Stop, Worked};
 
@@ -23,6 +24,12 @@ fn worked(steps: u32, stop: Stop) -> Result<Worked, Refusal> {
 fn c_smallest_store() {
     assert_eq!(format(&mut [0; 4 * 512], 1, 0, 0), Ok(()));
     assert_eq!(format(&mut [0; 3 * 512], 1, 0, 0), Err(Refusal::Length));
+}
+
+#[test]
+fn largest_store() {
+    assert_eq!(format(&mut vec![0; 1024 * 512], 1, 0, 0), Ok(()));
+    assert_eq!(format(&mut vec![0; 1025 * 512], 1, 0, 0), Err(Refusal::Length));
 }
 
 #[test]
@@ -69,4 +76,21 @@ fn j_k_nothing_to_give_and_nothing_to_do() {
     let mut store = made(6, 1, &[0, 2, 4]);
     assert_eq!(lookup(&store, 1, &mut []), Ok(0));
     assert_eq!(work(&mut store, 0), worked(0, Stop::Spent));
+}
+
+/// By inserts and work alone, 1,024 blocks get to 896 buckets, and to no more.
+#[test]
+fn as_many_buckets_as_1024_blocks_have_room_for() {
+    let mut store = made(1024, 1, &[]);
+    for hash in 0..897 {
+        insert(&mut store, hash, 9, 1).expect("insert");
+        if hash % 128 == 0 {
+            assert_eq!(
+                work(&mut store, 65_535).map(|did| did.stop),
+                Ok(if hash < 896 { Stop::Idle } else { Stop::NoRoom })
+            );
+        }
+    }
+    let now = standing(&store).expect("standing");
+    assert_eq!((now.buckets, now.slack, now.phase, store[28]), (896, -1, Phase::None, 12));
 }

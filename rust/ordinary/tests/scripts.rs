@@ -55,6 +55,11 @@ fn refusals_of_lines() {
     assert_eq!(run(&[b'1'; 1000]), "line 1: refused 10\n");
     assert_eq!(run(b"f 3 0 0 2"), "line 1: refused 1\n");
     assert_eq!(run(b"f 4294967295 1 0 0"), "line 1: refused 1\n");
+    // A script's store has at most 128 blocks, whatever the library takes.
+    assert_eq!(
+        run(b"f 128 1 0 0\nf 129 1 0 0\nf 1024 0 0 2"),
+        "store 128 fill 1\nline 2: refused 1\nline 3: refused 1\n"
+    );
     assert_eq!(run(b"f 4 0 5 0\n+ 1 1 0"), "line 1: refused 2\nline 2: refused 1\n");
 }
 

@@ -5,19 +5,19 @@
 //!     benchmark count N NAME SIDE K   makes a row's call K times, for a program that counts instructions;
 //!                                     SIDE is proved or ordinary
 
+use compare::foreign::thread_time;
 use compare::rows::{rows, Bench, Row};
 use compare::side::{Ordinary, Proved, Side};
-use std::time::Instant;
 
 const ROUNDS: usize = 15;
 /// About how long one round of a row takes on each side, in microseconds.
 const ROUND: f64 = 20_000.0;
 
-/// Microseconds a call.
+/// Microseconds of processor time a call: those of other programs do not count.
 fn time<S: Side>(bench: &mut Bench, times: u32) -> f64 {
-    let start = Instant::now();
+    let start = thread_time();
     bench.run::<S>(times);
-    start.elapsed().as_secs_f64() * 1e6 / f64::from(times)
+    (thread_time() - start).as_secs_f64() * 1e6 / f64::from(times)
 }
 
 fn median(mut values: Vec<f64>) -> f64 {
