@@ -1,26 +1,23 @@
 -- The turns of the loops that count: the unmoved entries in the run of a hash code, and the pages of a walk.
 use mathlib.Core.Path.{_≡_, sym, ap, _∙_}
-use mathlib.Core.Bool.{Bool, true, not}
+use mathlib.Core.Bool.{Bool, true, false, not}
 use mathlib.Core.List.{List, _∷_}
-use Prim.Native.Nat.{ℕ, suc, _+_, _≤_, _<_}
+use Prim.Native.Nat.{ℕ, suc, _+_, _*_, _≤_, _<_}
 use native.Mathlib.Numerals.{add-one}
 use native.Mathlib.Omega.{arith}
-use lib.Dec.{eqb}
 use lib.ListN.{length, getD, take, drop, drop-of-length-le}
-use lib.Seq.{length-take-le, take-add, drop-at, slice, slice-cons}
+use lib.Seq.{drop-cons}
 use Rattle.lists.specs.Lists.{b2n, tally, bind}
 use Rattle.lists.specs.ListsLaws.{tally-append, tally-keep, tally-cong, length-keep}
-use Rattle.endian.specs.Endian.{u16At}
 use Rattle.page.specs.declared.Entry.{Entry}
-use Rattle.page.specs.Pair.{pairOf, ascending}
-use Rattle.page.specs.Entries.{entryAt, entriesOf}
-use Rattle.page.specs.Places.{runLength, runStart}
-use Rattle.page.specs.EntriesLaws.{length-entriesOf, getD-entriesOf}
+use Rattle.page.specs.Entries.{readEntry, entriesOf}
+use Rattle.page.specs.Run.{hasCode, runLength, runOf}
+use Rattle.page.specs.Places.{runEntries}
+use Rattle.page.specs.EntriesLaws.{length-entriesOf}
 use Rattle.page.specs.SublistLaws.{sublist-keep, length-sublist}
-use Rattle.page.specs.Rule.{orderOk}
 use Rattle.page.specs.Allowed.{Sorted}
 use Rattle.page.specs.RuleLaws.{number-le}
-use Rattle.page.specs.RunLaws.{run-le, run-keep}
+use Rattle.page.specs.RunPartLaws.{getD-runEntries, run-entries, run-length}
 use Rattle.model.specs.TallyLaws.{and-comm}
 use Rattle.chain.specs.Within.{entriesOn, Within, PageOn}
 use Rattle.chain.specs.WithinLaws.{rest-turn, rest-done}
@@ -44,44 +41,31 @@ module _ {l : List ℕ} (sorted : Sorted l) where
         number-le l (sorted .number),
       )
 
-  module _ (h : ℕ) where
-    order : ascending pairOf es ≡ true
-    unfolding orderOk
-    order = sorted .order
+  module _ (h : ℕ) {r : List ℕ} (run : r ≡ runOf h l) where
+    -- the entries of the run are those that have the code
+    pub count-run : tally (isMatch h false) (entriesOf l) ≡ length (runEntries r)
+    unfolding runLength
+    count-run = sym (run-length l sorted h run)
 
-    pub run-inside : runStart h (entriesOf l) + runLength h (entriesOf l) ≤ u16At l 0
-    run-inside = omega (arith, run-le h es order, length-entriesOf l)
+    pub fresh-start : tally (isMatch h true) (entriesOf l) ≡ tally unmoved (runEntries r)
+    fresh-start = tally-cong _ _ es (λ d. and-comm (unmoved d) (hasCode h d))
+        ∙ sym (tally-keep unmoved (hasCode h) es)
+        ∙ ap (tally unmoved) (sym (run-entries l sorted h run))
 
-    pub fresh-start : (i end : ℕ) → i ≡ runStart h (entriesOf l) → end ≡ i + runLength h (entriesOf l)
-        → tally (isMatch h true) (entriesOf l) ≡ tally unmoved (slice i end (entriesOf l))
-    fresh-start i end e f = tally-cong _ _ es (λ d. and-comm (unmoved d) (eqb (d .pair .hash) h))
-        ∙ sym (tally-keep unmoved (λ d. eqb (d .pair .hash) h) es)
-        ∙ ap (tally unmoved) (sym (run-keep h es order) ∙ sym run)
-      where
-        run : slice i end es ≡ take (runLength h es) (drop (runStart h es) es)
-        run =
-            rw (f, e)
-            (ap (drop (runStart h es)) (take-add (runStart h es) (runLength h es) es)
-            ∙ drop-at (take (runStart h es) es) (take (runLength h es) (drop (runStart h es) es)) (runStart h es)
-            (length-take-le (runStart h es) es (omega (arith, run-le h es order))))
+-- n are counted before entry i of a run
+module _ (r : List ℕ) (i n all : ℕ) (left : all ≡ n + tally unmoved (drop i (runEntries r))) where
+  pub fresh-turn : i < length (runEntries r) → (k : ℕ) → k ≡ b2n (not (readEntry r (12 * i) .moved))
+      → all ≡ (n + k) + tally unmoved (drop (i + 1) (runEntries r))
+  fresh-turn more k e =
+      let d : Entry = readEntry r (12 * i) in
+      let split : drop i (runEntries r) ≡ d ∷ drop (suc i) (runEntries r) =
+      drop-cons (runEntries r) i d more
+      ∙ ap (λ (f : Entry). f ∷ drop (suc i) (runEntries r)) (getD-runEntries r i d more) in
+      let next = ap (λ (j : ℕ). tally unmoved (drop j (runEntries r))) (add-one i) in
+      omega (arith, left, ap (tally unmoved) split, next, e)
 
-    -- n are counted before slot i of a run that ends at `end`
-    module _ (i end n : ℕ) (fits : end ≤ u16At l 0)
-        (left : tally (isMatch h true) (entriesOf l) ≡ n + tally unmoved (slice i end (entriesOf l))) where
-      pub fresh-turn : i < end → (k : ℕ) → k ≡ b2n (not (entryAt l i .moved))
-          → tally (isMatch h true) (entriesOf l) ≡ (n + k) + tally unmoved (slice (i + 1) end (entriesOf l))
-      fresh-turn more k e =
-          let d : Entry = entryAt l i in
-          let split : slice i end es ≡ d ∷ slice (suc i) end es =
-          slice-cons i end es d more (omega (arith, length-entriesOf l))
-          ∙ ap (λ (f : Entry). f ∷ slice (suc i) end es) (getD-entriesOf l i d (omega arith)) in
-          omega (arith, left, ap (tally unmoved) split, ap (λ (j : ℕ). tally unmoved (slice j end es)) (add-one i), e)
-
-      pub fresh-end : end ≤ i → tally (isMatch h true) (entriesOf l) ≡ n
-      fresh-end past =
-          let short : length (take end es) ≤ i =
-          omega (arith, length-take-le end es (omega (arith, length-entriesOf l))) in
-          omega (arith, left, ap (tally unmoved) (drop-of-length-le (take end es) short))
+  pub fresh-end : length (runEntries r) ≤ i → all ≡ n
+  fresh-end past = omega (arith, left, ap (tally unmoved) (drop-of-length-le (runEntries r) past))
 
 -- ---- along a walk
 

@@ -2,9 +2,9 @@
 use crate::links::page_on;
 use address::limits::MAX_BLOCKS;
 use page::Entry;
-use page::search::run_length;
-use page::search::run_start;
-use page::slots::get_entry;
+use page::run::count_run;
+use page::run::run_entry;
+use page::search::find_run;
 ghost use mathlib.Core.Path.{_≡_};
 ghost use mathlib.Core.Bool.{true, not};
 ghost use Prim.Native.Nat.{_*_, _≤_};
@@ -27,11 +27,12 @@ fn count_fresh(page: &[u8], hash: u32) -> u32
     requires { ⌜ Sorted (now page) ⌝ }
     ensures { λ r. ⌜ r ≡ tally (isMatch hash true) (entriesOf (now (page .entry))) ⌝ }
 {
-    let mut i = run_start(page, hash);
-    let end = i + run_length(page, hash);
+    let run = find_run(page, hash);
+    let count = count_run(run);
     let mut n: u32 = 0;
-    while i < end {
-        n += count_unmoved(get_entry(page, i));
+    let mut i = 0;
+    while i < count {
+        n += count_unmoved(run_entry(run, i));
         i += 1;
     }
     n
@@ -45,7 +46,7 @@ fn count_in_page(page: &[u8], hash: u32, fresh: bool) -> u32
     if fresh {
         return count_fresh(page, hash);
     }
-    run_length(page, hash) as u32
+    count_run(find_run(page, hash)) as u32
 }
 
 // The number of entries along a walk that have the hash code: at most 40 on a page.

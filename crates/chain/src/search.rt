@@ -6,9 +6,12 @@ use crate::links::page_on;
 use address::limits::MAX_BLOCKS;
 use page::Pair;
 use page::order::is_same;
-use page::search::find_place;
+use page::run::count_run;
+use page::run::place_in_run;
+use page::run::run_entry;
+use page::search::entries_before;
+use page::search::find_run;
 use page::slots::count_entries;
-use page::slots::get_entry;
 use store::block_at;
 use store::flags::NO_LINK;
 use store::next_at;
@@ -20,15 +23,16 @@ ghost use Rattle.chain.specs.Walk.{walk, Bounded};
 ghost use Rattle.chain.specs.Search.{slotIn, findIn, roomIn};
 ghost use Rattle.chain.specs.Within.{PagesOk, Within};
 
-// The slot of the pair in a page whose entries ascend.
+// The slot of the pair in a page whose entries ascend: it is looked for in the run of its hash code.
 fn find_slot(page: &[u8], pair: Pair) -> Slot
     requires { ⌜ Sorted (now page) ⌝ }
     ensures { λ r. ⌜ r ≡ slotIn (entriesOf (now (page .entry))) pair ⌝ }
 {
-    let place = find_place(page, pair);
-    if place < count_entries(page) {
-        if is_same(pair, get_entry(page, place).pair) {
-            return Slot::At(place as u32);
+    let run = find_run(page, pair.hash);
+    let k = place_in_run(run, pair);
+    if k < count_run(run) {
+        if is_same(pair, run_entry(run, k).pair) {
+            return Slot::At((entries_before(page, pair.hash) + k) as u32);
         }
     }
     Slot::Nothing

@@ -2,16 +2,18 @@
 use mathlib.Core.Path.{_≡_, refl, sym, ap, _∙_}
 use mathlib.Core.Bool.{Bool, true, false, _||_}
 use mathlib.Core.List.{List, _++_}
-use Prim.Native.Nat.{ℕ, _+_, _≤_}
+use Prim.Native.Nat.{ℕ, _+_, _-_, _≤_}
+use native.Mathlib.Nat.{add-zero}
 use native.Mathlib.Omega.{arith}
 use borrow.Author.Tests.{eqb-true}
 use lib.Dec.{eqb}
 use lib.ListN.{length, take, drop}
 use lib.Seq.{sets, drop-drop, take-add}
-use Rattle.lists.specs.Bytes.{Bytes}
+use Rattle.lists.specs.Bytes.{Bytes, part}
 use Rattle.lists.specs.BytesLaws.{sets-append}
 use Rattle.endian.specs.Endian.{le16, le32, u16At, u32At}
 use Rattle.endian.specs.EndianLaws.{u16At-le16, u32At-le32, u16At-shift, u32At-shift, le16-read, le32-read}
+use Rattle.endian.specs.EndianLaws.{u16At-take, u32At-take, u16At-drop, u32At-drop}
 use Rattle.page.specs.declared.Entry.{Entry}
 use Rattle.page.specs.Pair.{PairFits}
 use Rattle.page.specs.Entries.{entryFlags, encodeEntry, readEntry}
@@ -75,6 +77,31 @@ readEntry-shift p l i h =
     let f : u16At (p ++ l) (i + 10) ≡ u16At l 10 =
     ap (λ (n : ℕ). u16At (p ++ l) (n + 10)) (sym h) ∙ u16At-shift p l 10 in
     rw (a, b, o, f)
+
+-- what is read of a part is read of the whole
+module _ (a e : ℕ) (l : List ℕ) where
+  u16At-part : (i j : ℕ) → i + j + 2 ≤ e - a → u16At (part a e l) (i + j) ≡ u16At l (a + i + j)
+  unfolding part
+  u16At-part i j h =
+      let k : a + (i + j) ≡ a + i + j = omega arith in
+      u16At-take (e - a) (drop a l) (i + j) h ∙ u16At-drop a l (i + j) ∙ ap (u16At l) k
+
+  u32At-part : (i j : ℕ) → i + j + 4 ≤ e - a → u32At (part a e l) (i + j) ≡ u32At l (a + i + j)
+  unfolding part
+  u32At-part i j h =
+      let k : a + (i + j) ≡ a + i + j = omega arith in
+      u32At-take (e - a) (drop a l) (i + j) h ∙ u32At-drop a l (i + j) ∙ ap (u32At l) k
+
+  pub readEntry-part : (i : ℕ) → i + 12 ≤ e - a → readEntry (part a e l) i ≡ readEntry l (a + i)
+  unfolding readEntry
+  readEntry-part i h =
+      let hash : u32At (part a e l) i ≡ u32At l (a + i) = simp add-zero at (u32At-part i 0 (omega arith)) in
+      rw (
+        hash,
+        u32At-part i 4 (omega arith),
+        u16At-part i 8 (omega arith),
+        u16At-part i 10 (omega arith),
+      )
 
 -- ---- what was read is written
 

@@ -5,6 +5,7 @@ pub mod SublistLaws
 pub mod AscendingLaws
 pub mod Entries
 pub mod Places
+pub mod Run
 pub mod EntryLaws
 pub mod EntriesLaws
 pub mod PageLaws
@@ -17,4 +18,6 @@ pub mod EditLaws
 pub mod Rule
 pub mod Allowed
 pub mod RuleLaws
+pub mod RunPartLaws
+pub mod RunExamples
 pub mod AllowedLaws

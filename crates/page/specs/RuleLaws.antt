@@ -10,6 +10,7 @@ use lib.ListN.{length, getD, take, drop, replicate, length-append, length-replic
 use lib.Seq.{drop-drop, take-add}
 use Rattle.lists.specs.Lists.{all, upFrom}
 use Rattle.lists.specs.ListsLaws.{and-left, and-right, and-both}
+use Rattle.lists.specs.RunLaws.{all-put}
 use Rattle.lists.specs.Bytes.{Bytes, part, allZero}
 use Rattle.lists.specs.BytesLaws.{length-part, part-at, allZero-replicate, replicate-allZero}
 use Rattle.endian.specs.Endian.{le16, u16At}
@@ -62,7 +63,7 @@ pageOk-sorted l h ok =
 -- ---- what was read is written
 
 module _ (l : List ℕ) (bytes : Bytes l) where
-  encode-entriesFrom : (n k : ℕ) → 4 + 12 * (k + n) ≤ length l → all (flagsOk l) (upFrom k n) ≡ true
+  pub encode-entriesFrom : (n k : ℕ) → 4 + 12 * (k + n) ≤ length l → all (flagsOk l) (upFrom k n) ≡ true
       → encodeEntries (entriesFrom l k n) ≡ take (12 * n) (drop (4 + 12 * k) l)
   unfolding entriesFrom entryAt flagsOk
   encode-entriesFrom zero k h f = refl
@@ -131,12 +132,6 @@ module _ (l : List ℕ) (bytes : Bytes l) where
 
 -- ---- what was written passes
 
-all-upFrom : (t : ℕ → Bool) (i n : ℕ) → ((k : ℕ) → k < n → t (i + k) ≡ true) → all t (upFrom i n) ≡ true
-all-upFrom t i zero h = refl
-all-upFrom t i (suc n) h =
-    and-both (t i) (all t (upFrom (suc i) n)) (ap t (omega arith) ∙ h 0 (omega arith))
-    (all-upFrom t (suc i) n (λ k l. ap t (omega arith) ∙ h (suc k) (omega arith)))
-
 module _ (es : List Entry) (tail : List ℕ) (good : Allowed es) where
   number : u16At (encodePage es tail) 0 ≡ length es
   number = number-encodePage es tail (omega (arith, good .few))
@@ -156,8 +151,7 @@ module _ (es : List Entry) (tail : List ℕ) (good : Allowed es) where
 
   encode-flags : all (flagsOk (encodePage es tail)) (upFrom 0 (length es)) ≡ true
   encode-flags =
-      all-upFrom (flagsOk (encodePage es tail)) 0 (length es)
-      (λ k h. ap (flagsOk (encodePage es tail)) (omega arith) ∙ encode-flagsOk k h)
+      all-put (flagsOk (encodePage es tail)) 0 (length es) (λ k low high. encode-flagsOk k (omega arith))
 
   encode-restZero : restZero (encodePage es tail) ≡ true
   unfolding restZero

@@ -70,6 +70,14 @@ module _ {A : Type 0} where
   each-map P Q f [] h = tt
   each-map P Q f (x ∷ xs) h = (f x (h .0), each-map P Q f xs (h .1))
 
+  pub each-keep : (t : A → Bool) (P : A → Type 0) → ((x : A) → t x ≡ true → P x) → (xs : List A) → Each P (keep t xs)
+  each-keep t P f [] = tt
+  each-keep t P f (x ∷ xs) = go (t x) refl (each-keep t P f xs)
+    where
+      go : (b : Bool) → t x ≡ b → Each P (keep t xs) → Each P (cond b (x ∷ keep t xs) (keep t xs))
+      go true h ih = (f x h, ih)
+      go false h ih = ih
+
   pub all-each : (t : A → Bool) (xs : List A) → all t xs ≡ true → Each (λ x. t x ≡ true) xs
   all-each t [] h = tt
   all-each t (x ∷ xs) h = (and-left (t x) (all t xs) h, all-each t xs (and-right (t x) (all t xs) h))

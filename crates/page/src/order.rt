@@ -1,27 +1,30 @@
-// Which of two pairs stands first, and which pairs no entry may have.
+// Which of two pairs stands first, or of two numbers, and which pairs no entry may have.
 use crate::Pair;
 ghost use mathlib.Core.Path.{_≡_};
+ghost use Prim.Native.Nat.{_≤_, _<_};
+ghost use lib.Dec.{ltb};
+ghost use Rattle.lists.specs.Lists.{b2n};
 ghost use Rattle.page.specs.Pair.{same, before, badPair};
-
-// Whether `a` stands before the pair of the three numbers. The hash code is wide, so that it may be one
-// more than the greatest.
-pub fn stands_before(a: Pair, hash: u64, block: u32, offset: u16) -> bool
-    ensures { λ r. ⌜ r ≡ before a (record { hash = hash; block = block; offset = offset }) ⌝ }
-{
-    let h = a.hash as u64;
-    if h != hash {
-        return h < hash;
-    }
-    if a.block != block {
-        return a.block < block;
-    }
-    a.offset < offset
-}
 
 pub fn is_before(a: Pair, b: Pair) -> bool
     ensures { λ r. ⌜ r ≡ before a b ⌝ }
 {
-    stands_before(a, b.hash as u64, b.block, b.offset)
+    if a.hash != b.hash {
+        return a.hash < b.hash;
+    }
+    if a.block != b.block {
+        return a.block < b.block;
+    }
+    a.offset < b.offset
+}
+
+// 1 where `a` is below `b`, else 0, of numbers up to 2^48: block and offset of a reading have 48 bits. No branch tells
+// it, since a bisection's would be guessed wrong as often as not.
+pub fn one_if_below(a: u64, b: u64) -> usize
+    requires { ⌜ (a < 281474976710656) × (b ≤ 281474976710656) ⌝ }
+    ensures { λ r. ⌜ r ≡ b2n (ltb a b) ⌝ }
+{
+    ((b + 281474976710655 - a) / 281474976710656) as usize
 }
 
 pub fn is_same(a: Pair, b: Pair) -> bool
