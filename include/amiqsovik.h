@@ -33,7 +33,8 @@ extern "C" {
 
 /* The version of this header, and of the archive made from the same sources. 1.0.0 is document 01, whole; 1.0.1 is
  * quicker (request 2026-02); 2.0.0 has a store number (request 2026-03); 3.0.0 formats no store in use unless told to
- * overwrite, and has amiqsovik_in_use (request 2026-04); 3.1.0 takes stores of 129 to 1,024 blocks (request 2026-09).
+ * overwrite, and has amiqsovik_in_use (request 2026-04); 3.1.0 takes stores of 129 to 1,024 blocks (request 2026-09);
+ * 3.1.1 finds pairs in long chains quicker (request 2026-10).
  * The first number goes up when a program that was right may have to change: a call's arguments, the answer to a call
  * that was accepted, the bytes of a store. The second goes up when calls are added, or take what they refused, the
  * third when neither is so.
@@ -44,9 +45,9 @@ extern "C" {
  * format takes it without a word. */
 #define AMIQSOVIK_VERSION_MAJOR 3
 #define AMIQSOVIK_VERSION_MINOR 1
-#define AMIQSOVIK_VERSION_PATCH 0
+#define AMIQSOVIK_VERSION_PATCH 1
 #define AMIQSOVIK_VERSION (AMIQSOVIK_VERSION_MAJOR * 10000 + AMIQSOVIK_VERSION_MINOR * 100 + AMIQSOVIK_VERSION_PATCH)
-#define AMIQSOVIK_VERSION_TEXT "3.1.0"
+#define AMIQSOVIK_VERSION_TEXT "3.1.1"
 
 /* A word that nobody looks at may be a refusal: compilers that can do so warn. */
 #if defined(__GNUC__)

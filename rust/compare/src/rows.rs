@@ -158,12 +158,13 @@ fn lookups() -> Vec<Row> {
 /// Changes of long chains, and formats.
 fn jobs() -> Vec<Row> {
     let step = |blocks| Row::new(blocks, "work, one step, long copying", Call::Work(1, 1, 0), Kind::Copying);
+    let one = |blocks| Row::new(blocks, "work, one step, copying one code", Call::Work(1, 1, 0), Kind::CopyingOneCode);
     let pair = |blocks| Row::new(blocks, "insert and removal, longest chain", Call::Pair, Kind::NearlyLongest);
     let formats = [("format refused, in use", Call::Kept), ("format over", Call::Over)];
     let formats = formats
         .into_iter()
         .flat_map(|(name, call)| SIZES.map(|blocks| Row::new(blocks, name, call, Kind::Even(blocks / 2, Split::Over))));
-    SIZES.map(step).into_iter().chain(SIZES.map(pair)).chain(formats).collect()
+    SIZES.map(step).into_iter().chain([128, 1024].map(one)).chain(SIZES.map(pair)).chain(formats).collect()
 }
 
 /// Whole splits, each in one call; then the same, sealed once by the ordinary side. Then splits of one of many buckets.
