@@ -80,28 +80,22 @@ readEntry-shift p l i h =
 
 -- what is read of a part is read of the whole
 module _ (a e : ℕ) (l : List ℕ) where
-  u16At-part : (i j : ℕ) → i + j + 2 ≤ e - a → u16At (part a e l) (i + j) ≡ u16At l (a + i + j)
+  -- by any reader of w bytes
+  at-part : (w : ℕ) (at : List ℕ → ℕ → ℕ) → ((n : ℕ) (m : List ℕ) (j : ℕ) → j + w ≤ n → at (take n m) j ≡ at m j)
+      → ((n : ℕ) (m : List ℕ) (j : ℕ) → at (drop n m) j ≡ at m (n + j)) → (i j : ℕ) → i + j + w ≤ e - a
+      → at (part a e l) (i + j) ≡ at l (a + i + j)
   unfolding part
-  u16At-part i j h =
+  at-part w at of-take of-drop i j h =
       let k : a + (i + j) ≡ a + i + j = omega arith in
-      u16At-take (e - a) (drop a l) (i + j) h ∙ u16At-drop a l (i + j) ∙ ap (u16At l) k
-
-  u32At-part : (i j : ℕ) → i + j + 4 ≤ e - a → u32At (part a e l) (i + j) ≡ u32At l (a + i + j)
-  unfolding part
-  u32At-part i j h =
-      let k : a + (i + j) ≡ a + i + j = omega arith in
-      u32At-take (e - a) (drop a l) (i + j) h ∙ u32At-drop a l (i + j) ∙ ap (u32At l) k
+      of-take (e - a) (drop a l) (i + j) h ∙ of-drop a l (i + j) ∙ ap (at l) k
 
   pub readEntry-part : (i : ℕ) → i + 12 ≤ e - a → readEntry (part a e l) i ≡ readEntry l (a + i)
   unfolding readEntry
   readEntry-part i h =
-      let hash : u32At (part a e l) i ≡ u32At l (a + i) = simp add-zero at (u32At-part i 0 (omega arith)) in
-      rw (
-        hash,
-        u32At-part i 4 (omega arith),
-        u16At-part i 8 (omega arith),
-        u16At-part i 10 (omega arith),
-      )
+      let word = at-part 4 u32At u32At-take u32At-drop i in
+      let half = at-part 2 u16At u16At-take u16At-drop i in
+      let hash : u32At (part a e l) i ≡ u32At l (a + i) = simp add-zero at (word 0 (omega arith)) in
+      rw (hash, word 4 (omega arith), half 8 (omega arith), half 10 (omega arith))
 
 -- ---- what was read is written
 

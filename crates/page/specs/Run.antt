@@ -29,5 +29,5 @@ runOf h l =
     part (4 + 12 * start) (4 + 12 * end) l
 
 -- the bytes of the "entries that have the hash code", one after the other: in a page that keeps the page rule, the run
-abbrev pub bytesOf : ℕ → List ℕ → List ℕ
-bytesOf h l = bind (keep (hasCode h) (entriesOf l)) encodeEntry
+abbrev pub bytesWithCode : ℕ → List ℕ → List ℕ
+bytesWithCode h l = bind (keep (hasCode h) (entriesOf l)) encodeEntry

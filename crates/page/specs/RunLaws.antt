@@ -52,14 +52,8 @@ run-suc h (e ∷ es) = omega (arith, run-suc h es, one (e .pair .hash))
 pub run-end : (h : ℕ) (es : List Entry) → runStart (h + 1) es ≡ runStart h es + runLength h es
 run-end h es = rw add-one (run-suc h es)
 
-pub runLength-place : (h : ℕ) (es : List Entry) → ascending pairOf es ≡ true
-    → placeOf (lowest h) es + runLength h es ≡ placeOf (lowest (h + 1)) es
-runLength-place h es a =
-    omega (arith, run-end h es, runStart-place h es a, runStart-place (h + 1) es a)
-
 pub run-le : (h : ℕ) (es : List Entry) → ascending pairOf es ≡ true → runStart h es + runLength h es ≤ length es
-run-le h es a =
-    omega (arith, runStart-place h es a, runLength-place h es a, place-le (lowest (h + 1)) es)
+run-le h es a = omega (arith, run-end h es, runStart-place (h + 1) es a, place-le (lowest (h + 1)) es)
 
 module _ (h : ℕ) where
   -- after an entry whose code is at least h, no code is below h; after one whose code is above, none is h

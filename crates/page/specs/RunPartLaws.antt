@@ -19,7 +19,7 @@ use Rattle.page.specs.declared.Entry.{Entry}
 use Rattle.page.specs.Pair.{badPair, pairOf}
 use Rattle.page.specs.Entries.{readEntry, entryAt, entriesFrom, entriesOf}
 use Rattle.page.specs.EntriesLaws.{length-entriesFrom, getD-entriesFrom, length-entriesOf, getD-entriesOf}
-use Rattle.page.specs.Run.{hasCode, runStart, runLength, runOf, bytesOf}
+use Rattle.page.specs.Run.{hasCode, runStart, runLength, runOf, bytesWithCode}
 use Rattle.page.specs.Places.{runEntries}
 use Rattle.page.specs.EntryLaws.{readEntry-part}
 use Rattle.page.specs.RunLaws.{run-le, run-getD}
@@ -128,7 +128,7 @@ module _ (l : List ℕ) (sorted : Sorted l) (h : ℕ) where
 
 -- ---- a page that keeps the page rule
 
-pub run-bytes : (l : List ℕ) → Bytes l → length l ≡ 512 → pageOk l ≡ true → (h : ℕ) → runOf h l ≡ bytesOf h l
+pub run-bytes : (l : List ℕ) → Bytes l → length l ≡ 512 → pageOk l ≡ true → (h : ℕ) → runOf h l ≡ bytesWithCode h l
 unfolding runOf part numbersOk
 run-bytes l bytes whole ok h =
     let sorted = pageOk-sorted l whole ok in

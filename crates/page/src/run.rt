@@ -6,7 +6,7 @@ use crate::slots::read_entry;
 use endian::get_u16;
 use endian::get_u32;
 ghost use mathlib.Core.Path.{_≡_};
-ghost use Prim.Native.Nat.{_+_, _*_, _≤_, _<_};
+ghost use Prim.Native.Nat.{_+_, _*_, _^_, _≤_, _<_};
 ghost use lib.ListN.{length};
 ghost use Rattle.page.specs.Entries.{readEntry};
 ghost use Rattle.page.specs.Places.{placeOf, runEntries, readingKey};
@@ -30,7 +30,7 @@ pub fn run_entry(run: &[u8], k: usize) -> Entry
 // Block and offset of entry `k` as one number, by which the entries of a run ascend.
 fn reading_key(run: &[u8], k: usize) -> u64
     requires { ⌜ 12 * k + 12 ≤ length (now run) ⌝ }
-    ensures { λ r. ⌜ (r ≡ readingKey (readEntry (now (run .entry)) (12 * k) .pair)) × (r < 281474976710656) ⌝ }
+    ensures { λ r. ⌜ (r ≡ readingKey (readEntry (now (run .entry)) (12 * k) .pair)) × (r < 2 ^ 48) ⌝ }
 {
     get_u32(run, 12 * k + 4) as u64 * 65536 + get_u16(run, 12 * k + 8) as u64
 }

@@ -10,7 +10,7 @@ ghost use Prim.Native.Nat.{_+_, _≤_};
 ghost use Rattle.endian.specs.Endian.{u16At};
 ghost use Rattle.page.specs.Entries.{entriesOf};
 ghost use Rattle.page.specs.Places.{placeOf};
-ghost use Rattle.page.specs.Run.{runLength, runStart, runOf, bytesOf};
+ghost use Rattle.page.specs.Run.{runLength, runStart, runOf, bytesWithCode};
 ghost use Rattle.page.specs.Rule.{pageOk};
 ghost use Rattle.page.specs.Allowed.{Sorted};
 
@@ -84,7 +84,7 @@ fn run_from(p: &[u8], start: usize, h: u32) -> &[u8]
 pub fn find_run(p: &[u8], h: u32) -> &[u8]
     requires { ⌜ Sorted (now p) ⌝ }
     ensures { λ r. ⌜ (now r ≡ runOf h (now (p .entry)))
-        × (pageOk (now (p .entry)) ≡ true → now r ≡ bytesOf h (now (p .entry))) ⌝ }
+        × (pageOk (now (p .entry)) ≡ true → now r ≡ bytesWithCode h (now (p .entry))) ⌝ }
 {
     let start = entries_before(p, h);
     run_from(p, start, h)

@@ -1,5 +1,5 @@
 use mathlib.Core.Path.{_≡_}
-use Prim.Native.Nat.{ℕ, _+_, _-_, _/_, _≤_, _<_}
+use Prim.Native.Nat.{ℕ, _+_, _-_, _/_, _^_, _≤_, _<_}
 use native.Mathlib.Decide.{decLt}
 use native.Mathlib.Omega.{arith}
 use borrow.Author.Tests.{lt-ltb, le-ltb}
@@ -8,7 +8,7 @@ use Rattle.lists.specs.Lists.{b2n}
 use Rattle.page.proofs.order.one_if_below.Statement.{statement}
 use Rattle.page.proofs.order.one_if_below.Tie as tie
 
-quotient : (a b : ℕ) → a < 281474976710656 → b ≤ 281474976710656
+quotient : (a b : ℕ) → a < 2 ^ 48 → b ≤ 2 ^ 48
     → (b + 281474976710655 - a) / 281474976710656 ≡ b2n (ltb a b)
 quotient a b ha hb = go (decLt a b)
   where
