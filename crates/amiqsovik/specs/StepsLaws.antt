@@ -1,16 +1,17 @@
--- The steps of a work call fit 16 bits.
+-- The steps of a work or squeeze call fit 16 bits.
 use mathlib.Core.Path.{_≡_, refl}
-use mathlib.Core.Bool.{Bool, true, false}
 use mathlib.Core.List.{List}
 use Prim.Native.Nat.{ℕ, zero, suc, _≤_}
 use native.Mathlib.Omega.{arith}
 use borrow.Author.Tests.{leb-true}
-use Rattle.model.specs.Steps.{Step, next, stopped, Worked, iterate}
+use Rattle.model.specs.Index.{Index}
+use Rattle.model.specs.Steps.{Step, next, stopped, iterate}
 use Rattle.model.specs.Calls.{budgetOk}
+use Rattle.model.specs.MachineLaws.{never}
 use Rattle.model.specs.Answers.{workSteps}
-use Rattle.image.specs.Rules.{Judged, damaged, notIndex, sound, verdict}
-use Rattle.outcomes.specs.Outcomes.{testedIn, tested, stepOutcome, workOn, workOutcome}
-use Rattle.image.specs.Rules.{lengthOk}
+use Rattle.outcomes.specs.Outcomes.{Tested, passed, failed, tested, stepOutcome, workOn, workOutcome}
+use Rattle.outcomes.specs.Outcomes.{bucketTested, squeezeStepOutcome, squeezeOutcome}
+use Rattle.outcomes.specs.OutcomeLaws.{passed-numbers}
 
 pub iterate-steps : {S : Type 0} (f : S → Step S) (budget : ℕ) (s : S) → iterate f budget s .steps ≤ budget
 iterate-steps f zero s = omega arith
@@ -20,16 +21,27 @@ iterate-steps {S} f (suc n) s = go (f s) refl (iterate-steps f n)
     go (next t) e ih = rw (e, iterate) (omega (arith, ih t))
     go (stopped r) e ih = rw (e, iterate) (omega arith)
 
-pub work-steps : (s : List ℕ) (budget : ℕ) → workSteps (workOutcome s budget .answer) ≤ 65535
-unfolding workOutcome tested
-work-steps s budget = go (lengthOk s) (budgetOk budget) refl (verdict s)
-  where
-    w : Worked (List ℕ)
-    w = iterate stepOutcome budget s
+-- the budget of a call that passes its tests
+passed-budget : (budget : ℕ) (s : List ℕ) (x : Index) → tested (budgetOk budget) s ≡ passed x → budget ≤ 65535
+passed-budget budget s x h = leb-true budget 65535 (passed-numbers s (budgetOk budget) x h)
 
-    go : (l b : Bool) → budgetOk budget ≡ b → (j : Judged) → workSteps (workOn (testedIn l b j) s w .answer) ≤ 65535
-    go false b e j = omega arith
-    go true false e j = omega arith
-    go true true e (damaged k) = omega arith
-    go true true e (notIndex r) = omega arith
-    go true true e (sound x) = omega (arith, leb-true budget 65535 e, iterate-steps stepOutcome budget s)
+module _ (f : List ℕ → Step (List ℕ)) (budget : ℕ) (s : List ℕ) where
+  -- by tests that come to t
+  few : (t : Tested) → ((x : Index) → t ≡ passed x → budget ≤ 65535)
+      → workSteps (workOn t s (iterate f budget s) .answer) ≤ 65535
+  few (failed r) h = omega arith
+  few (passed x) h = omega (arith, h x refl, iterate-steps f budget s)
+
+pub work-steps : (s : List ℕ) (budget : ℕ) → workSteps (workOutcome s budget .answer) ≤ 65535
+unfolding workOutcome
+work-steps s budget = few stepOutcome budget s (tested (budgetOk budget) s) (passed-budget budget s)
+
+pub squeeze-steps : (s : List ℕ) (b budget : ℕ) → workSteps (squeezeOutcome s b budget .answer) ≤ 65535
+unfolding squeezeOutcome
+squeeze-steps s b budget =
+    few (squeezeStepOutcome b) budget s (bucketTested (tested (budgetOk budget) s) b)
+    (λ x h. go (tested (budgetOk budget) s) refl x h)
+  where
+    go : (t : Tested) → tested (budgetOk budget) s ≡ t → (x : Index) → bucketTested t b ≡ passed x → budget ≤ 65535
+    go (failed r) e x h = never (cc)
+    go (passed y) e x h = passed-budget budget s y e

@@ -9,7 +9,7 @@ use lib.Dec.{ltb}
 use lib.ListN.{length}
 use Rattle.model.specs.declared.Refusal.{Refusal}
 use Rattle.model.specs.declared.Refusal.the-variants.{Length, Number, Damaged, NotIndex}
-use Rattle.model.specs.declared.Refusal.the-variants.{HeldAlready, NotHeld, NoRoom, OutputShort, InUse}
+use Rattle.model.specs.declared.Refusal.the-variants.{HeldAlready, NotHeld, NoRoom, OutputShort, Busy, InUse}
 use Rattle.model.specs.declared.Answer.{Answer}
 use Rattle.model.specs.declared.LookupAnswer.{LookupAnswer}
 use Rattle.model.specs.declared.Stop.{Stop}
@@ -17,11 +17,11 @@ use Rattle.model.specs.declared.WorkAnswer.{WorkAnswer}
 use Rattle.model.specs.declared.StandingAnswer.{StandingAnswer}
 use Rattle.model.specs.Answers.{refusalNo, refusalGives, answerNo, answerGives, lookupNo, lookupGives, stopNo}
 use Rattle.model.specs.Answers.{workNo, workGives, workSteps, workStop, standingNo, standingGives}
-use Rattle.outcomes.specs.Outcomes.{standingOutcome, workOutcome}
+use Rattle.outcomes.specs.Outcomes.{standingOutcome, workOutcome, squeezeOutcome}
 use Rattle.amiqsovik.specs.Words.{packed, refusalWord, answerWord, lookupWord, workWord, standingWord}
 use Rattle.amiqsovik.specs.Words.{resultShort}
 use Rattle.amiqsovik.specs.Result.{standingTold}
-use Rattle.amiqsovik.specs.StepsLaws.{work-steps}
+use Rattle.amiqsovik.specs.StepsLaws.{work-steps, squeeze-steps}
 
 -- the four parts of a word
 pub record Parts (word number stop steps gives : ℕ) : Type 0 where
@@ -45,6 +45,7 @@ refusal-small HeldAlready = omega arith
 refusal-small NotHeld = omega arith
 refusal-small NoRoom = omega arith
 refusal-small (OutputShort matches) = omega arith
+refusal-small Busy = omega arith
 refusal-small InUse = omega arith
 
 pub stop-small : (s : Stop) → stopNo s ≤ 255
@@ -85,6 +86,12 @@ work-answer-parts (WorkAnswer.Refused r) h = refusal-parts r
 pub work-parts : (s : List ℕ) (budget : ℕ)
     → (let a = workOutcome s budget .answer in Parts (workWord a) (workNo a) (workStop a) (workSteps a) (workGives a))
 work-parts s budget = work-answer-parts (workOutcome s budget .answer) (work-steps s budget)
+
+-- the word of a squeeze
+pub squeeze-parts : (s : List ℕ) (b budget : ℕ)
+    → (let a = squeezeOutcome s b budget .answer in
+    Parts (workWord a) (workNo a) (workStop a) (workSteps a) (workGives a))
+squeeze-parts s b budget = work-answer-parts (squeezeOutcome s b budget .answer) (squeeze-steps s b budget)
 
 -- the word of a standing: 255 with 28 besides exactly when the result is short
 module _ (s out : List ℕ) where

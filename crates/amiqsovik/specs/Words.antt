@@ -10,7 +10,8 @@ use Rattle.model.specs.Answers.{refusalNo, refusalGives, answerNo, answerGives,
 use Rattle.model.specs.Answers.{workNo, workGives, workSteps, workStop, standingNo, standingGives}
 use Rattle.image.specs.declared.Verdict.{Verdict}
 
--- bits 0..7 the table's "No", bits 8..15 work's stop, bits 16..31 work's steps, bits 32..63 "Gives besides"
+-- bits 0..7 the table's "No", bits 8..15 the stop of work or squeeze, bits 16..31 its steps, bits 32..63 "Gives
+-- besides"
 abbrev pub packed : (number stop steps gives : ℕ) → ℕ
 packed number stop steps gives = number + 256 * stop + 65536 * steps + 4294967296 * gives
 
@@ -25,7 +26,7 @@ answerWord a = packed (answerNo a) 0 0 (answerGives a)
 abbrev pub lookupWord : LookupAnswer → ℕ
 lookupWord a = packed (lookupNo a) 0 0 (lookupGives a)
 
--- "gives their number and a stop"
+-- work, squeeze: "gives their number and a stop"
 abbrev pub workWord : WorkAnswer → ℕ
 workWord a = packed (workNo a) (workStop a) (workSteps a) (workGives a)
 

@@ -8,6 +8,7 @@ use index::format::format;
 use index::in_use::in_use;
 use index::read::lookup;
 use index::read::standing;
+use index::squeezing::squeeze;
 use index::work::work;
 use model::Order;
 use result::show;
@@ -21,7 +22,7 @@ use words::work_word;
 ghost use mathlib.Core.Path.{_≡_};
 ghost use Rattle.model.specs.Calls.{orderOf};
 ghost use Rattle.outcomes.specs.Outcomes.{verifyOutcome, inUseOutcome, formatOutcome, insertOutcome};
-ghost use Rattle.outcomes.specs.Outcomes.{removeOutcome, lookupOutcome, workOutcome};
+ghost use Rattle.outcomes.specs.Outcomes.{removeOutcome, lookupOutcome, workOutcome, squeezeOutcome};
 ghost use Rattle.amiqsovik.specs.Words.{answerWord, lookupWord, workWord, verdictWord};
 ghost use Rattle.amiqsovik.specs.Result.{standingTold};
 
@@ -108,4 +109,12 @@ pub extern "C" fn amiqsovik_work(store: &mut [u8], budget: u32) -> u64
     ensures { λ _. ⌜ now (store .exit) ≡ workOutcome (now (store .entry)) budget .store ⌝ }
 {
     work_word(work(store, budget))
+}
+
+#[no_mangle]
+pub extern "C" fn amiqsovik_squeeze(store: &mut [u8], bucket: u32, budget: u32) -> u64
+    ensures { λ r. ⌜ r ≡ workWord (squeezeOutcome (now (store .entry)) bucket budget .answer) ⌝ }
+    ensures { λ _. ⌜ now (store .exit) ≡ squeezeOutcome (now (store .entry)) bucket budget .store ⌝ }
+{
+    work_word(squeeze(store, bucket, budget))
 }

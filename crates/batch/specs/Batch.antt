@@ -7,8 +7,8 @@ use Prim.Native.Nat.{ℕ, zero, suc, _+_, _*_, _^_, _<_}
 use lib.Dec.{eqb, ltb}
 use lib.ListN.{length, getD, set, take, drop}
 use Rattle.model.specs.Calls.{orderOf}
-use Rattle.model.specs.Machine.{Call, formatting, inserting, removing, looking, working, asking, Reply, plain, looked}
-use Rattle.model.specs.Machine.{worked, stands}
+use Rattle.model.specs.Machine.{Call, formatting, inserting, removing, looking, working, squeezing, asking, Reply}
+use Rattle.model.specs.Machine.{plain, looked, worked, stands}
 use Rattle.model.specs.History.{Moment, history, lastOf}
 use Rattle.outcomes.specs.Outcomes.{runStore, onStore}
 use Rattle.amiqsovik.specs.Words.{answerWord, lookupWord, workWord, standingWord, shortWord}
@@ -22,15 +22,16 @@ askingIn true = none
 askingIn false = some asking
 
 -- Four numbers a call, the kind first: 0 format (fill, store number, overwrite), 1 insert (hash, block, offset), 2
--- remove (hash, block, offset), 3 lookup (hash, bytes), 4 work (budget), any other number standing (unused, bytes). A
--- lookup and a standing are lent so many bytes from the start of the output, or all of it.
+-- remove (hash, block, offset), 3 lookup (hash, bytes), 4 work (budget), 5 squeeze (bucket, budget), any other number
+-- standing (unused, bytes). A lookup and a standing are lent so many bytes from the start of the output, or all of it.
 unfoldable pub callOf : (kind a b c : ℕ) → (output : List ℕ) → Option Call
 callOf kind a b c out =
     cond (eqb kind 0) (some (formatting (orderOf a b c)))
     (cond (eqb kind 1) (some (inserting (record { hash = a; block = b; offset = c })))
     (cond (eqb kind 2) (some (removing (record { hash = a; block = b; offset = c })))
     (cond (eqb kind 3) (some (looking a (take b out)))
-    (cond (eqb kind 4) (some (working a)) (askingIn (ltb (length (take b out)) 28))))))
+    (cond (eqb kind 4) (some (working a))
+    (cond (eqb kind 5) (some (squeezing a b)) (askingIn (ltb (length (take b out)) 28)))))))
 
 abbrev pub replyWord : Reply → ℕ
 replyWord (plain a) = answerWord a

@@ -12,9 +12,9 @@ use lib.ListN.{length, take, drop, take-append-drop, drop-of-length-le}
 use lib.Seq.{length-take-le, take-all, take-length, drop-length}
 use Rattle.page.specs.declared.Pair.{Pair}
 use Rattle.model.specs.Calls.{orderOf}
-use Rattle.model.specs.Machine.{Call, formatting, inserting, removing, looking, working, CallFits}
+use Rattle.model.specs.Machine.{Call, formatting, inserting, removing, looking, working, squeezing, CallFits}
 use Rattle.outcomes.specs.Outcomes.{formatOutcome, insertOutcome, removeOutcome, lookupOutcome, standingOutcome}
-use Rattle.outcomes.specs.Outcomes.{workOutcome, runStore}
+use Rattle.outcomes.specs.Outcomes.{workOutcome, squeezeOutcome, runStore}
 use Rattle.amiqsovik.specs.Words.{answerWord, lookupWord, workWord}
 use Rattle.amiqsovik.specs.Result.{toldIn, standingTold}
 use Rattle.batch.specs.Batch.{askingIn, callOf, Batched}
@@ -29,20 +29,21 @@ MayFit (some c) = CallFits c
 pub fits-call : (kind a b c : ℕ) (out : List ℕ) → a < 2 ^ 32 → b < 2 ^ 32 → c < 2 ^ 32 → MayFit (callOf kind a b c out)
 unfolding callOf
 fits-call kind a b c out ha hb hc =
-    go (eqb kind 0) (eqb kind 1) (eqb kind 2) (eqb kind 3) (eqb kind 4) (ltb (length (take b out)) 28)
+    go (eqb kind 0) (eqb kind 1) (eqb kind 2) (eqb kind 3) (eqb kind 4) (eqb kind 5) (ltb (length (take b out)) 28)
   where
-    go : (p q r s t u : Bool)
+    go : (p q r s t v u : Bool)
         → MayFit (cond p (some (formatting (orderOf a b c)))
         (cond q (some (inserting (record { hash = a; block = b; offset = c })))
         (cond r (some (removing (record { hash = a; block = b; offset = c }))) (cond s (some (looking a (take b out)))
-        (cond t (some (working a)) (askingIn u))))))
-    go true q r s t u = (ha, hb, hc)
-    go false true r s t u = (ha, hb, hc)
-    go false false true s t u = (ha, hb, hc)
-    go false false false true t u = ha
-    go false false false false true u = ha
-    go false false false false false true = tt
-    go false false false false false false = tt
+        (cond t (some (working a)) (cond v (some (squeezing a b)) (askingIn u)))))))
+    go true q r s t v u = (ha, hb, hc)
+    go false true r s t v u = (ha, hb, hc)
+    go false false true s t v u = (ha, hb, hc)
+    go false false false true t v u = ha
+    go false false false false true v u = ha
+    go false false false false false true u = (ha, hb)
+    go false false false false false false true = tt
+    go false false false false false false false = tt
 
 -- ---- the part that is lent
 
@@ -110,13 +111,19 @@ module _ (s : List ℕ) (kind a b c : ℕ) (out : List ℕ) where
   ran-work k e f =
       of (some (working a)) (ap (λ (n : ℕ). callOf n a b c out) k) (record { word = e; store = f; output = refl })
 
-  pub ran-standing : {w : ℕ} {out′ : List ℕ} → kind ≢ 0 → kind ≢ 1 → kind ≢ 2 → kind ≢ 3 → kind ≢ 4
+  pub ran-squeeze : {w : ℕ} {s′ : List ℕ} → kind ≡ 5 → w ≡ workWord (squeezeOutcome s a b .answer)
+      → s′ ≡ squeezeOutcome s a b .store → Batched (callOf kind a b c out) b s out w s′ out
+  unfolding callOf runStore
+  ran-squeeze k e f =
+      of (some (squeezing a b)) (ap (λ (n : ℕ). callOf n a b c out) k) (record { word = e; store = f; output = refl })
+
+  pub ran-standing : {w : ℕ} {out′ : List ℕ} → kind ≢ 0 → kind ≢ 1 → kind ≢ 2 → kind ≢ 3 → kind ≢ 4 → kind ≢ 5
       → w ≡ standingTold s (take b out) .word → out′ ≡ standingTold s (take b out) .result ++ drop b out
       → Batched (callOf kind a b c out) b s out w s out′
   unfolding callOf runStore standingTold
-  ran-standing {w} {out′} k0 k1 k2 k3 k4 e f =
+  ran-standing {w} {out′} k0 k1 k2 k3 k4 k5 e f =
       of (askingIn (ltb (length (take b out)) 28))
-      (rw (ne-eqb kind 0 k0, ne-eqb kind 1 k1, ne-eqb kind 2 k2, ne-eqb kind 3 k3, ne-eqb kind 4 k4))
+      (rw (ne-eqb kind 0 k0, ne-eqb kind 1 k1, ne-eqb kind 2 k2, ne-eqb kind 3 k3, ne-eqb kind 4 k4, ne-eqb kind 5 k5))
       (go (ltb (length (take b out)) 28) e f)
     where
       go : (short : Bool) → w ≡ toldIn short (standingOutcome s) (take b out) .word

@@ -4,6 +4,7 @@ use amiqsovik::amiqsovik_format;
 use amiqsovik::amiqsovik_insert;
 use amiqsovik::amiqsovik_lookup;
 use amiqsovik::amiqsovik_remove;
+use amiqsovik::amiqsovik_squeeze;
 use amiqsovik::amiqsovik_standing;
 use amiqsovik::amiqsovik_work;
 ghost use mathlib.Core.Path.{_≡_};
@@ -55,6 +56,7 @@ fn run_call(store: &mut [u8], kind: u32, a: u32, b: u32, c: u32, output: &mut [u
         2 => amiqsovik_remove(store, a, b, c),
         3 => run_lookup(store, a, b, output),
         4 => amiqsovik_work(store, a),
+        5 => amiqsovik_squeeze(store, a, b),
         _ => run_standing(store, b, output),
     }
 }

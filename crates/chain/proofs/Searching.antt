@@ -1,4 +1,4 @@
--- The turns of the loops that look for a pair and for room.
+-- The turns of the loops that look for a pair, for room and for the chain's end.
 use mathlib.Core.Path.{_≡_, sym, ap, _∙_, subst}
 use mathlib.Core.Logic.{_≢_}
 use mathlib.Core.Bool.{false}
@@ -55,7 +55,7 @@ module _ {s bs : List ℕ} {n : ℕ} (ok : Within s bs n) (i : ℕ) where
   unfolding findIn
   pair-nowhere past p left = ap (foundAs s p) (left ∙ search-end ok i (pairOn s p) past)
 
--- ---- room, in the chain from block k on, whose page is x
+-- ---- room, and the last block, in the chain from block k on, whose page is x
 
 module _ (s : List ℕ) (k : ℕ) {x : List ℕ} (on : x ≡ block s k) where
   number : length (entriesOn s k) ≡ u16At x 0
@@ -79,6 +79,9 @@ module _ (s : List ℕ) (k : ℕ) {x : List ℕ} (on : x ≡ block s k) where
     room-last e h =
         ap (roomIn s) (walk-end s k (sym leads ∙ e)) ∙ ap (roomAs k) (find-pass (roomOn s) k [] (full h))
 
+    pub last-here : next ≡ noLink → lastOf (walk s k) ≡ k
+    last-here e = ap lastOf (walk-end s k (sym leads ∙ e))
+
     module _ (ne : next ≢ noLink) (b : Bounded s k) where
       more : walk s k ≡ k ∷ walk s next
       more = walk-more s k (λ q. ne (leads ∙ q)) (b .short) ∙ ap (λ (j : ℕ). k ∷ walk s j) (sym leads)
@@ -87,6 +90,10 @@ module _ (s : List ℕ) (k : ℕ) {x : List ℕ} (on : x ≡ block s k) where
       unfolding roomIn walk
       room-later h =
           ap (roomIn s) more ∙ ap (roomAs (lastOf (walk s next))) (find-pass (roomOn s) k (walk s next) (full h))
+
+      pub last-later : lastOf (walk s k) ≡ lastOf (walk s next)
+      unfolding walk
+      last-later = ap lastOf more
 
       pub left-less : length (walk s next) < length (walk s k)
       left-less = omega (arith, ap length more)

@@ -1,26 +1,16 @@
 -- The pairs of a hash code among entries, page by page.
-use mathlib.Core.Path.{_≡_, refl, ap, _∙_}
+use mathlib.Core.Path.{_≡_, ap, _∙_}
 use mathlib.Core.Bool.{Bool, true, false, cond}
 use mathlib.Core.List.{List, [], _∷_, _++_, map, map-append}
 use Prim.Native.Nat.{ℕ}
 use lib.ListN.{length, length-map}
 use Rattle.lists.specs.Lists.{tally, keep, Each}
-use Rattle.lists.specs.ListsLaws.{length-keep}
+use Rattle.lists.specs.ListsLaws.{keep-append, length-keep}
 use Rattle.page.specs.declared.Pair.{Pair}
 use Rattle.page.specs.declared.Entry.{Entry}
 use Rattle.page.specs.Pair.{pairOf}
 use Rattle.page.specs.SublistLaws.{keep-none}
 use Rattle.chain.specs.Pairs.{isMatch, pairsIn}
-
-module _ {A : Type 0} where
-  pub keep-append : (t : A → Bool) (xs ys : List A) → keep t (xs ++ ys) ≡ keep t xs ++ keep t ys
-  keep-append t [] ys = refl
-  keep-append t (x ∷ xs) ys = go (t x) (keep-append t xs ys)
-    where
-      go : (b : Bool) → keep t (xs ++ ys) ≡ keep t xs ++ keep t ys
-          → cond b (x ∷ keep t (xs ++ ys)) (keep t (xs ++ ys)) ≡ cond b (x ∷ keep t xs) (keep t xs) ++ keep t ys
-      go true ih = ap (λ (l : List A). x ∷ l) ih
-      go false ih = ih
 
 -- ---- among entries
 

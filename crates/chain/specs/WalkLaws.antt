@@ -7,7 +7,7 @@ use Prim.Native.Nat.{ℕ, zero, suc, pred, _*_, _/_, _%_, _≤_, _<_}
 use native.Mathlib.Omega.{arith}
 use borrow.Author.Tests.{eq-eqb, ne-eqb, eqb-true, eqb-false, leb-true}
 use lib.Dec.{leb, eqb}
-use lib.ListN.{length, getD, take, drop-of-length-le}
+use lib.ListN.{length, getD, take, drop, drop-of-length-le}
 use Rattle.lists.specs.Lists.{Each}
 use Rattle.lists.specs.ListsLaws.{and-left, and-right}
 use Rattle.lists.specs.Block.{blocks, block}
@@ -145,6 +145,22 @@ module _ (s : List ℕ) where
             inside = subst (Each (λ k. k < blocks s)) e (b .inside) .1;
             short = omega (arith, ap length e, b .short);
           }
+
+  -- from each of its blocks on, a walk stays in the store and goes as it does
+  pub record Onward (first i k : ℕ) : Type 0 where
+    pub bounded : Bounded s k
+    pub rest : walk s k ≡ drop i (walk s first)
+
+  pub walk-onward : (first : ℕ) → Bounded s first → (i : ℕ) → i < length (walk s first)
+      → Onward first i (getD (walk s first) i 0)
+  walk-onward first b zero h =
+      subst (Onward first 0) (sym (walk-first first)) (record { bounded = b; rest = refl })
+  walk-onward first b (suc i) h =
+      let ne : nextAt (block s first) ≢ noLink = λ e. omega (arith, h, ap length (walk-end first e)) in
+      let e = walk-more first ne (b .short) in
+      let on = walk-onward (nextAt (block s first)) (bounded-next first b ne) i (omega (arith, h, ap length e)) in
+      subst (Onward first (suc i)) (sym (ap (λ (ks : List ℕ). getD ks (suc i) 0) e))
+      (record { bounded = on .bounded; rest = on .rest ∙ sym (ap (drop (suc i)) e) })
 
   -- the walk from a bucket's block, as the rules have it
   pub walk-trail : (b : ℕ) → blockOf s b ∷ trail s b ≡ walk s (blockOf s b)

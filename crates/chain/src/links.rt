@@ -9,7 +9,7 @@ ghost use lib.ListN.{length, replicate};
 ghost use Rattle.lists.specs.Block.{block};
 ghost use Rattle.address.specs.Limits.{maxBlocks};
 ghost use Rattle.store.specs.Store.{nextAt};
-ghost use Rattle.chain.specs.Walk.{Sized, Walked};
+ghost use Rattle.chain.specs.Walk.{Sized, walk, Bounded, lastOf, Walked};
 ghost use Rattle.chain.specs.Within.{Within, PageOn};
 
 // The next field of block `k`; 0 past the store's end.
@@ -22,6 +22,21 @@ pub fn next_block(store: &[u8], k: u32) -> u32
         next_at(block_at(store, at))
     } else {
         0
+    }
+}
+
+// The last block of the chain from `first` on.
+pub fn last_block(store: &[u8], first: u32) -> u32
+    requires { ⌜ Bounded (now store) first ⌝ }
+    ensures { λ r. ⌜ r ≡ lastOf (walk (now (store .entry)) first) ⌝ }
+{
+    let mut block = first;
+    loop {
+        let next = next_at(block_at(store, block as usize));
+        if next == NO_LINK {
+            return block;
+        }
+        block = next;
     }
 }
 

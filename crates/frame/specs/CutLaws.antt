@@ -6,18 +6,19 @@ use mathlib.Core.List.{List, [], _∷_, _++_, map}
 use Prim.Native.Nat.{ℕ, suc, _+_, _≤_}
 use native.Mathlib.Decide.{ℕ-discrete}
 use native.Mathlib.Omega.{arith}
-use borrow.Author.Tests.{lt-ltb, ne-eqb}
+use borrow.Author.Tests.{ne-eqb}
 use lib.Dec.{eqb}
-use lib.ListN.{length, getD}
-use Rattle.lists.specs.Lists.{b2n, tally, keep, find, Each}
+use lib.ListN.{getD}
+use Rattle.lists.specs.Lists.{tally, find, Each}
 use Rattle.lists.specs.ListsLaws.{tally-append, any-no, any-yes}
 use Rattle.address.specs.Address.{point}
 use Rattle.page.specs.declared.Pair.{Pair}
 use Rattle.page.specs.declared.Entry.{Entry}
 use Rattle.page.specs.Pair.{is}
 use Rattle.model.specs.Index.{Page, Index, onPages}
-use Rattle.model.specs.Pages.{thinEntries, thin, inUse}
+use Rattle.model.specs.Pages.{thin, inUse}
 use Rattle.model.specs.WellFormed.{MoreOk}
+use Rattle.model.specs.ChainLaws.{cutMore, keep-page, pages-none}
 use Rattle.model.specs.MachineLaws.{never}
 use Rattle.image.specs.Layout.{LinkedPage, nextOf, linkedOf}
 use Rattle.store.specs.Flags.{noLink}
@@ -25,34 +26,6 @@ use Rattle.frame.specs.Frame.{Apart, blockOfBit, blocksAfter, onPage, mo
 use Rattle.frame.specs.ListsLaws.{find-pass, find-cons, find-skip}
 use Rattle.image.specs.LinkedLaws.{hasBit}
 use Rattle.frame.specs.ChainLaws.{linkedAs, other-bit}
-
-abbrev pub cutMore : Pair → List Page → List Page
-cutMore p gs = keep inUse (map (thin p) gs)
-
--- ---- pages without the pair stay
-
-pub thin-none : (p : Pair) (es : List Entry) → tally (is p) es ≡ 0 → thinEntries p es ≡ es
-thin-none p [] z = refl
-thin-none p (e ∷ es) z = go (is p e) z (thin-none p es)
-  where
-    go : (b : Bool) → b2n b + tally (is p) es ≡ 0 → (tally (is p) es ≡ 0 → thinEntries p es ≡ es)
-        → cond (not b) (e ∷ thinEntries p es) (thinEntries p es) ≡ e ∷ es
-    go true z ih = absurd (omega arith)
-    go false z ih = ap (λ (r : List Entry). e ∷ r) (ih (omega arith))
-
-pub keep-page : (p : Pair) (g : Page) (gs : List Page) → 1 ≤ length (g .entries) → tally (is p) (g .entries) ≡ 0
-    → cutMore p (g ∷ gs) ≡ g ∷ cutMore p gs
-keep-page p g gs h z =
-    ap (λ (es : List Entry). let f : Page = record { bit = g .bit; entries = es } in cond (inUse f) (f ∷ cutMore p gs)
-    (cutMore p gs))
-    (thin-none p (g .entries) z)
-    ∙ ap (λ (b : Bool). cond b (g ∷ cutMore p gs) (cutMore p gs)) (lt-ltb 0 (length (g .entries)) h)
-
-pub pages-none : (p : Pair) (gs : List Page) → Each MoreOk gs → tally (is p) (onPages gs) ≡ 0 → cutMore p gs ≡ gs
-pages-none p [] o z = refl
-pages-none p (g ∷ gs) o z =
-    let q = tally-append (is p) (g .entries) (onPages gs) in
-    keep-page p g gs (o .0 .used) (omega arith) ∙ ap (λ (r : List Page). g ∷ r) (pages-none p gs (o .1) (omega arith))
 
 pub frees-none : (p : Pair) (gs : List Page) → tally (is p) (onPages gs) ≡ 0 → frees p gs ≡ false
 frees-none p [] z = refl

@@ -15,13 +15,13 @@ use Rattle.page.specs.Pair.{is}
 use Rattle.model.specs.Index.{Page, Chain, Index, chain, entriesAt}
 use Rattle.model.specs.Pages.{thinEntries, thin, inUse, without, cut}
 use Rattle.model.specs.WellFormed.{MoreOk, Laid}
+use Rattle.model.specs.ChainLaws.{cutMore, thin-none}
 use Rattle.model.specs.LaidLaws.{cut-laid}
 use Rattle.model.specs.MachineLaws.{never}
 use Rattle.image.specs.Layout.{encodeBlock}
 use Rattle.store.specs.Flags.{noLink}
 use Rattle.frame.specs.Frame.{blockOfBit, blocksAfter, chainBlocks, pageBlock, entriesAfter, pageEntries}
 use Rattle.frame.specs.Frame.{pageWith, onPage, frees, freesAt}
-use Rattle.frame.specs.CutLaws.{cutMore, thin-none}
 use Rattle.frame.specs.PagesLaws.{set-image}
 
 -- ---- no page is left empty

@@ -3,7 +3,7 @@ use mathlib.Core.Logic.{_≢_}
 use mathlib.Core.Bool.{Bool, true, false, cond, not, _&&_, _||_}
 use mathlib.Core.List.{List, [], _∷_, _++_, map}
 use mathlib.Core.Option.{Option, none, some}
-use Prim.Native.Nat.{ℕ, zero, suc}
+use Prim.Native.Nat.{ℕ, zero, suc, _-_}
 use lib.Dec.{eqb}
 use lib.ListN.{length, getD}
 use Rattle.lists.specs.Lists.{any, find, Each}
@@ -16,6 +16,7 @@ use Rattle.model.specs.Index.{Page, Chain, Job, idle, copying, clearing, Index,
 use Rattle.model.specs.Index.{oldBucket, topBit}
 use Rattle.model.specs.Pages.{hasRoom, pageRoom, chainRoom, thin, inUse, freeBit}
 use Rattle.model.specs.Steps.{moves, toCopy}
+use Rattle.model.specs.Squeeze.{final, earlier, shortened}
 use Rattle.image.specs.Layout.{paged, flagsOf}
 use Rattle.store.specs.Flags.{noLink}
 
@@ -89,6 +90,10 @@ roomPlace c = cond (hasRoom (c .first)) 0 (suc (firstPlace pageRoom (c .more)))
 abbrev pub lastPlace : Chain → ℕ
 lastPlace c = length (c .more)
 
+-- the block of the first page before the last with room
+abbrev pub earlyBlock : Index → (b : ℕ) → ℕ
+earlyBlock x b = pageBlock x b (roomPlace (earlier (chain x b)))
+
 -- the page that has the pair, first of the overflow pages alone
 abbrev pub onPage : Pair → Page → Bool
 onPage p g = any (is p) (g .entries)
@@ -148,6 +153,17 @@ clearedBlocks x = 0 ∷ bucketBlock (x .spares) (oldBucket x) ∷ []
 abbrev pub beginBlocks : Index → List ℕ
 beginBlocks x =
     let m = suc (x .maxBucket) in 0 ∷ bucketBlock (x .spares) m ∷ bucketBlock (x .spares) (splitFrom m) ∷ []
+
+-- a squeeze's step of bucket b, by what it leaves of the last page: with nothing left meta, the bitmap and the page
+-- before too
+abbrev pub squeezeAlters : (left : List Page) → Index → ℕ → List ℕ
+squeezeAlters (g ∷ gs) x b = earlyBlock x b ∷ pageBlock x b (lastPlace (chain x b)) ∷ []
+squeezeAlters [] x b =
+    let i = lastPlace (chain x b) in
+    0 ∷ mapBlock x ∷ earlyBlock x b ∷ pageBlock x b (i - 1) ∷ pageBlock x b i ∷ []
+
+abbrev pub squeezeBlocks : Index → (bucket : ℕ) → List ℕ
+squeezeBlocks x b = squeezeAlters (shortened (final (chain x b .more))) x b
 
 -- ---- of whole calls and steps
 

@@ -19,6 +19,7 @@ use Rattle.page.specs.Entries.{encodePage}
 use Rattle.model.specs.Index.{Page, Index, onPages, chain, entriesAt, topBit}
 use Rattle.model.specs.Pages.{thinEntries, thin, inUse, without, cut}
 use Rattle.model.specs.WellFormed.{MoreOk, uses, Laid}
+use Rattle.model.specs.ChainLaws.{cutMore, thin-none, keep-page, pages-none}
 use Rattle.model.specs.LaidLaws.{bits-set, cut-laid}
 use Rattle.model.specs.MachineLaws.{never}
 use Rattle.image.specs.Layout.{paged, blank, mapBit, flagsOf, encodeBlock}
@@ -27,7 +28,7 @@ use Rattle.frame.specs.Frame.{blockOfBit, blocksAfter, chainBlocks, page
 use Rattle.frame.specs.Frame.{flagsFor, pageWith, onPage, morePlace, frees, freesAt}
 use Rattle.frame.specs.ImagesLaws.{noPage, free-image}
 use Rattle.frame.specs.ChainLaws.{yes-free, free-alike}
-use Rattle.frame.specs.CutLaws.{cutMore, thin-none, keep-page, pages-none, frees-none}
+use Rattle.frame.specs.CutLaws.{frees-none}
 use Rattle.frame.specs.PagesLaws.{set-image, prev-append}
 use Rattle.frame.specs.ListsLaws.{getD-in, getD-out}
 

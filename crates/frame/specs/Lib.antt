@@ -16,4 +16,6 @@ pub mod PagesLaws
 pub mod CutPagesLaws
 pub mod FreedLaws
 pub mod MetaLaws
+pub mod BehindLaws
+pub mod SqueezeLaws
 pub mod CommitLaws

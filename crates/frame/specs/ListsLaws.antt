@@ -1,13 +1,14 @@
--- What `find` gives of two lists, one after the other, and of lists that differ at their heads; an element of a
--- mapped list.
+-- What `find` and `firstPlace` give of two lists, one after the other, and `find` of lists that differ at their heads;
+-- an element of a mapped list.
 use mathlib.Core.Path.{_≡_, refl, sym, ap, ap₂, _∙_}
-use mathlib.Core.Bool.{Bool, true, false}
+use mathlib.Core.Bool.{Bool, true, false, cond, _||_}
 use mathlib.Core.List.{List, [], _∷_, _++_, map}
 use mathlib.Core.Option.{Option, none, some}
 use Prim.Native.Nat.{ℕ, zero, suc, _+_, _≤_, _<_}
 use native.Mathlib.Omega.{arith}
 use lib.ListN.{length, getD, List·getD-append}
-use Rattle.lists.specs.Lists.{b2n, tally, find}
+use Rattle.lists.specs.Lists.{b2n, any, tally, find}
+use Rattle.frame.specs.Frame.{firstPlace}
 
 module _ {A : Type 0} (t : A → Bool) where
   abbrev orElse : Option A → Option A → Option A
@@ -63,6 +64,27 @@ module _ {A : Type 0} (t : A → Bool) where
   pub find-skip : (x y : A) (xs ys : List A) → t x ≡ false → t y ≡ false → find t xs ≡ find t ys
       → find t (x ∷ xs) ≡ find t (y ∷ ys)
   find-skip x y xs ys p q r = find-pass x xs p ∙ r ∙ sym (find-pass y ys q)
+
+module _ {A : Type 0} (t : A → Bool) where
+  -- in the first list, or past it
+  pub place-left : (xs ys : List A) → any t xs ≡ true → firstPlace t (xs ++ ys) ≡ firstPlace t xs
+  place-left [] ys h = let z : _≡_ {A = ℕ} 0 1 = cc in absurd (omega arith)
+  place-left (x ∷ xs) ys h = go (t x) h (place-left xs ys)
+    where
+      go : (b : Bool) → b || any t xs ≡ true → (any t xs ≡ true → firstPlace t (xs ++ ys) ≡ firstPlace t xs)
+          → cond b 0 (suc (firstPlace t (xs ++ ys))) ≡ cond b 0 (suc (firstPlace t xs))
+      go true h ih = refl
+      go false h ih = ap suc (ih h)
+
+  pub place-right : (xs ys : List A) → tally t xs ≡ 0 → firstPlace t (xs ++ ys) ≡ length xs + firstPlace t ys
+  place-right [] ys z = omega arith
+  place-right (x ∷ xs) ys z = go (t x) z (place-right xs ys)
+    where
+      go : (b : Bool) → b2n b + tally t xs ≡ 0
+          → (tally t xs ≡ 0 → firstPlace t (xs ++ ys) ≡ length xs + firstPlace t ys)
+          → cond b 0 (suc (firstPlace t (xs ++ ys))) ≡ suc (length xs) + firstPlace t ys
+      go true z ih = absurd (omega arith)
+      go false z ih = omega (arith, ih (omega arith))
 
 pub getD-map : {A B : Type 0} (f : A → B) (xs : List A) (i : ℕ) (d : A) (e : B) → i < length xs
     → getD (map f xs) i e ≡ f (getD xs i d)

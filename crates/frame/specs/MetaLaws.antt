@@ -101,29 +101,22 @@ first-same x y l m t f =
     ∙ ap (Option·getD (find (λ n. eqb (mapBit y n) 0) (upFrom 0 2048))) t
     ∙ first-zero x (mapBit y) (omega (arith, top-small x l)) (λ n h. bits n)
 
--- ---- a step of a job that takes and frees no page leaves the meta block
+-- ---- a change that leaves the count, and takes and frees no page, leaves the meta block
 
-pub step-meta : (x y : Index) → WF x → x .job ≢ idle → step x ≡ next y → y .spares ≡ x .spares
+pub meta-same : (x y : Index) → Laid x → Laid y → Framed x y → count y ≡ count x → y .spares ≡ x .spares
     → ((n : ℕ) → isFree y n ≡ isFree x n)
     → encodeBlock y 0 ≡ encodeBlock x 0
 unfolding metaOf
-step-meta x y w j e s f =
-    meta-image y (v .laid) ∙ ap (λ (m : Meta). paged (metaFront m) noLink noLink noLink 8) same
-    ∙ sym (meta-image x (w .laid))
+meta-same x y l m frame c s f =
+    meta-image y m ∙ ap (λ (m : Meta). paged (metaFront m) noLink noLink noLink 8) same
+    ∙ sym (meta-image x l)
   where
-    v : WF y
-    v = step-wf x y w e
-
-    frame : Framed x y
-    frame = job-frame x y j e
-
     top : topBit y ≡ topBit x
     top = λ i. getD (s i) (point (frame .maxBucket i)) 0
 
     same : metaOf y ≡ metaOf x
     same =
-        let c = step-count x w y e in
-        let f = first-same x y (w .laid) (v .laid) top f in
+        let f = first-same x y l m top f in
         let m = frame .maxBucket in
         λ i. record {
           count = c i;
@@ -137,6 +130,13 @@ step-meta x y w j e s f =
           spares = padded (s i);
           number = frame .number i;
         }
+
+-- as does a step of a job
+pub step-meta : (x y : Index) → WF x → x .job ≢ idle → step x ≡ next y → y .spares ≡ x .spares
+    → ((n : ℕ) → isFree y n ≡ isFree x n)
+    → encodeBlock y 0 ≡ encodeBlock x 0
+step-meta x y w j e s f =
+    meta-same x y (w .laid) (step-wf x y w e .laid) (job-frame x y j e) (step-count x w y e) s f
 
 -- an entry put into a page with room, and a pair cut with no page left empty, leave the bitmap
 pub room-free : (x : Index) (b : ℕ) → b < length (x .chains) → (e : Entry)

@@ -62,7 +62,7 @@ module _ (x : Index) (e : Entry) where
       go true ih = refl
       go false ih = ap (λ (js : List ℕ). blockOfBit x (g .bit) ∷ js) ih
 
-  room-blocks : (b : ℕ) (c : Chain) → chainBlocks x b (addEntry e c) ≡ chainBlocks x b c
+  pub room-blocks : (b : ℕ) (c : Chain) → chainBlocks x b (addEntry e c) ≡ chainBlocks x b c
   room-blocks b c = go (hasRoom (c .first))
     where
       go : (r : Bool)

@@ -15,14 +15,14 @@ use Rattle.page.specs.Pair.{is}
 use Rattle.model.specs.Index.{Page, Chain, Index, onPages, chain, entriesAt}
 use Rattle.model.specs.Pages.{without, cut}
 use Rattle.model.specs.WellFormed.{ChainOk, Laid, WF}
+use Rattle.model.specs.ChainLaws.{cutMore, thin-none, pages-none}
 use Rattle.model.specs.HeldLaws.{is-parts}
 use Rattle.image.specs.Layout.{encodeBlock}
 use Rattle.lists.specs.TestLaws.{each-left, each-right}
 use Rattle.frame.specs.Frame.{Apart, mapBlock, pageBlock, morePlace, pairPlace, freesAt, mapBlocks, pairBlocks}
 use Rattle.frame.specs.Frame.{cutBlocks}
 use Rattle.frame.specs.ChainLaws.{pageOfBit, Unaltered, frame-chain, free-kept}
-use Rattle.frame.specs.CutLaws.{cutMore, altered, alters, thin-none, pages-none, frees-none, next-cut}
-use Rattle.frame.specs.CutLaws.{bits-cut, linked-cut}
+use Rattle.frame.specs.CutLaws.{altered, alters, frees-none, next-cut, bits-cut, linked-cut}
 
 module _ (x : Index) (b : ℕ) (fits : b < length (x .chains)) (p : Pair) (o : ChainOk (chain x b))
     (once : tally (is p) (entriesAt x b) ≤ 1) where

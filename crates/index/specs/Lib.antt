@@ -3,3 +3,4 @@ pub mod Sound
 pub mod TestedLaws
 pub mod SoundLaws
 pub mod CallLaws
+pub mod SqueezeLaws

@@ -1,12 +1,13 @@
--- A store that passed the tests, and what a step and work make of it.
+-- A store that passed the tests, and what steps of either kind make of it.
 use mathlib.Core.Path.{_≡_}
 use mathlib.Core.List.{List}
 use Prim.Native.Nat.{ℕ}
 use Rattle.model.specs.declared.Stop.{Stop}
 use Rattle.model.specs.declared.WorkAnswer.{WorkAnswer}
 use Rattle.model.specs.Steps.{next, stopped, Worked}
+use Rattle.model.specs.Machine.{Kind}
 use Rattle.image.specs.Decode.{metaAt}
-use Rattle.outcomes.specs.Outcomes.{stepOutcome, WorkDone}
+use Rattle.outcomes.specs.Outcomes.{WorkDone, stepStore}
 use Rattle.view.specs.Reads.{Reads}
 use Rattle.plan.specs.declared.Advance.{Advance}
 
@@ -15,10 +16,10 @@ abbrev pub Sound : List ℕ → Type 0
 Sound s = Reads s (metaAt s)
 
 -- a step that left the store t
-pub data Stepped (s : List ℕ) : Advance → List ℕ → Type 0 where
-  moved : {t : List ℕ} → stepOutcome s ≡ next t → Sound t → Stepped s Advance.Next t
-  stayed : {r : Stop} {t : List ℕ} → stepOutcome s ≡ stopped r → t ≡ s → Stepped s (Advance.Stopped r) t
+pub data Stepped (k : Kind) (s : List ℕ) : Advance → List ℕ → Type 0 where
+  moved : {t : List ℕ} → stepStore k s ≡ next t → Sound t → Stepped k s Advance.Next t
+  stayed : {r : Stop} {t : List ℕ} → stepStore k s ≡ stopped r → t ≡ s → Stepped k s (Advance.Stopped r) t
 
--- work's answer and store, of its steps
+-- the answer and store of a work or squeeze call, of its steps
 abbrev pub workedBy : Worked (List ℕ) → WorkDone
 workedBy w = record { answer = WorkAnswer.Worked (w .steps) (w .stop); store = w .state }

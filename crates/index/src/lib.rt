@@ -6,11 +6,13 @@ mod tests; // tests.rt: the tests before a call
 mod sound; // sound.rt: changes of a store that passed the tests
 pub mod change; // change.rt: insert and remove
 pub mod work; // work.rt: the steps of splits
+pub mod squeezing; // squeezing.rt: the steps that pack a bucket's chain
 
 use model::Refusal;
 use page::Pair;
 use plan::Advance;
 use split::Position;
+use squeeze::Span;
 
 // What the tests before a call find: a sound store, or the refusal.
 enum Test {
@@ -28,4 +30,10 @@ enum PairTest {
 struct Stride {
     advance: Advance,
     next: Position,
+}
+
+// What a squeeze's step came to, and the pages that the next one looks at.
+struct SqueezeStride {
+    advance: Advance,
+    next: Span,
 }

@@ -1,4 +1,5 @@
 // What the calls do to a store that passed the tests: the change is planned, and then sealed and written.
+use crate::SqueezeStride;
 use crate::Stride;
 use image::Meta;
 use insertion::insert::plan_insert;
@@ -8,20 +9,25 @@ use page::Pair;
 use removal::plan_remove;
 use split::Position;
 use split::step::plan_step;
+use squeeze::Span;
+use squeeze::plan_squeeze;
 use store::block_at;
 use store::finish;
 ghost use mathlib.Core.Path.{_≡_};
 ghost use mathlib.Core.Bool.{true};
+ghost use Prim.Native.Nat.{ℕ};
 ghost use lib.ListN.{length};
 ghost use Rattle.model.specs.Calls.{pairOk, insert, remove};
+ghost use Rattle.model.specs.Machine.{ofSplits, ofSqueeze};
 ghost use Rattle.image.specs.Decode.{metaAt, decode};
 ghost use Rattle.outcomes.specs.Outcomes.{changed};
 ghost use Rattle.plan.specs.declared.Advance.{Advance};
 ghost use Rattle.split.specs.Seek.{From};
+ghost use Rattle.squeeze.specs.Span.{Spans};
 ghost use Rattle.index.specs.Sound.{Sound, Stepped};
 
 // The fields of the meta block.
-fn read_fields(store: &[u8]) -> Meta
+pub fn read_fields(store: &[u8]) -> Meta
     requires { ⌜ Sound (now store) ⌝ }
     ensures { λ r. ⌜ r ≡ metaAt (now (store .entry)) ⌝ }
 {
@@ -57,7 +63,7 @@ pub fn remove_sound(store: &mut [u8], pair: Pair) -> Answer
 pub fn step_sound(store: &mut [u8], images: &mut [u8], from: Position) -> Stride
     requires { ⌜ (Sound (now store)) × (From (decode (now store)) from) ⌝ }
     requires { ⌜ length (now images) ≡ 4096 ⌝ }
-    ensures { λ r. ⌜ Stepped (now (store .entry)) (r .advance) (now (store .exit)) ⌝ }
+    ensures { λ r. ⌜ Stepped ofSplits (now (store .entry)) (r .advance) (now (store .exit)) ⌝ }
     ensures { λ r. ⌜ (r .advance ≡ Advance.Next → From (decode (now (store .exit))) (r .next)) ⌝ }
 {
     let m = read_fields(store);
@@ -67,4 +73,23 @@ pub fn step_sound(store: &mut [u8], images: &mut [u8], from: Position) -> Stride
     let advance = step.advance;
     let next = plan.next;
     Stride { advance, next }
+}
+
+// One step of a squeeze of the bucket whose chain has the pages of the span; where it stops, the store stays. What
+// `images` held does not matter.
+pub fn squeeze_step(store: &mut [u8], images: &mut [u8], span: Span) -> SqueezeStride
+    requires { ⌜ (Sound (now store)) × ((b : ℕ) × Spans (decode (now store)) b span) ⌝ }
+    requires { ⌜ length (now images) ≡ 4096 ⌝ }
+    ensures { λ r. ⌜ ((b : ℕ) → Spans (decode (now (store .entry))) b span
+        → Stepped (ofSqueeze b) (now (store .entry)) (r .advance) (now (store .exit))) ⌝ }
+    ensures { λ r. ⌜ ((b : ℕ) → Spans (decode (now (store .entry))) b span → r .advance ≡ Advance.Next
+        → Spans (decode (now (store .exit))) b (r .next)) ⌝ }
+{
+    let m = read_fields(store);
+    let plan = plan_squeeze(store, m, span, images);
+    let step = plan.step;
+    finish(store, step.change, images);
+    let advance = step.advance;
+    let next = plan.next;
+    SqueezeStride { advance, next }
 }

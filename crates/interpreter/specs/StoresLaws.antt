@@ -15,12 +15,13 @@ use Rattle.model.specs.declared.Order.{Order}
 use Rattle.model.specs.Index.{Job, idle, copying, clearing, Index}
 use Rattle.model.specs.Steps.{next, step}
 use Rattle.model.specs.Calls.{sizeOk, orderOf, formatOk, overwrites, format, formatIn}
-use Rattle.model.specs.Machine.{Call, formatting, inserting, removing, working, CallFits, Ran, runIndex}
+use Rattle.model.specs.Machine.{Call, formatting, inserting, removing, working, CallFits, Kind, ofSplits, ofSqueeze, Ran}
+use Rattle.model.specs.Machine.{runIndex, stepIndex}
 use Rattle.model.specs.FormatLaws.{format-wf}
-use Rattle.model.specs.FrameLaws.{SameJob, insert-frame, remove-frame, begin-frame, job-frame, step-store}
+use Rattle.model.specs.FrameLaws.{SameJob, insert-frame, remove-frame, begin-frame, job-frame, squeeze-frame}
 use Rattle.model.specs.InsertLaws.{insert-wf}
 use Rattle.model.specs.RemoveLaws.{remove-wf}
-use Rattle.model.specs.StepLaws.{step-wf}
+use Rattle.model.specs.KindLaws.{kind-wf, kind-store}
 use Rattle.model.specs.RunLaws.{run-keeps}
 use Rattle.model.specs.MachineLaws.{never}
 use Rattle.image.specs.BridgeTheorem.{encoding-is-sound}
@@ -51,12 +52,16 @@ begun-step x y h e one n = go (x .job) refl
     go copying q = busy (λ r. never (cc))
     go clearing q = busy (λ r. never (cc))
 
-made-step : (x y : Index) → Made x → step x ≡ next y → Made y
-made-step x y m e =
+begun-kind : (k : Kind) (x y : Index) → Begun x → stepIndex k x ≡ next y → 1 ≤ x .maxBucket → Begun y
+begun-kind ofSplits x y h e one = begun-step x y h e one
+begun-kind (ofSqueeze b) x y h e one = begun-same (squeeze-frame b x y e) h
+
+made-step : (k : Kind) (x y : Index) → Made x → stepIndex k x ≡ next y → Made y
+made-step k x y m e =
     record {
-      wf = step-wf x y (m .wf) e;
-      begun = begun-step x y (m .begun) e (m .wf .laid .two);
-      small = omega (arith, step-store x y e .size, m .small);
+      wf = kind-wf k x y (m .wf) e;
+      begun = begun-kind k x y (m .begun) e (m .wf .laid .two);
+      small = omega (arith, kind-store k x y e .size, m .small);
     }
 
 made-format : (n : ℕ) (o : Order) → CallFits (formatting o) → sizeOk n ≡ true → formatOk o ≡ true

@@ -81,6 +81,15 @@ module _ {A : Type 0} where
   tally-none t [] h = refl
   tally-none t (x ∷ xs) h = absurd (omega arith)
 
+  pub keep-append : (t : A → Bool) (xs ys : List A) → keep t (xs ++ ys) ≡ keep t xs ++ keep t ys
+  keep-append t [] ys = refl
+  keep-append t (x ∷ xs) ys = go (t x) (keep-append t xs ys)
+    where
+      go : (b : Bool) → keep t (xs ++ ys) ≡ keep t xs ++ keep t ys
+          → cond b (x ∷ keep t (xs ++ ys)) (keep t (xs ++ ys)) ≡ cond b (x ∷ keep t xs) (keep t xs) ++ keep t ys
+      go true ih = ap (λ (l : List A). x ∷ l) ih
+      go false ih = ih
+
   pub length-keep : (t : A → Bool) (xs : List A) → length (keep t xs) ≡ tally t xs
   length-keep t [] = refl
   length-keep t (x ∷ xs) = go (t x) (length-keep t xs)
@@ -90,6 +99,14 @@ module _ {A : Type 0} where
       go false ih = omega arith
 
   -- ---- any, all and find
+
+  pub any-append : (t : A → Bool) (xs ys : List A) → any t (xs ++ ys) ≡ any t xs || any t ys
+  any-append t [] ys = refl
+  any-append t (x ∷ xs) ys = go (t x) (any-append t xs ys)
+    where
+      go : (b : Bool) → any t (xs ++ ys) ≡ any t xs || any t ys → b || any t (xs ++ ys) ≡ (b || any t xs) || any t ys
+      go true ih = refl
+      go false ih = ih
 
   pub any-no : (t : A → Bool) (xs : List A) → any t xs ≡ false → tally t xs ≡ 0
   any-no t [] h = refl

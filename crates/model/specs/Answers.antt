@@ -3,7 +3,7 @@ use Prim.Native.Nat.{ℕ}
 use lib.IntN.{pos}
 use Rattle.model.specs.declared.Refusal.{Refusal}
 use Rattle.model.specs.declared.Refusal.the-variants.{Length, Number, Damaged, NotIndex, HeldAlready, NotHeld}
-use Rattle.model.specs.declared.Refusal.the-variants.{NoRoom, OutputShort, InUse}
+use Rattle.model.specs.declared.Refusal.the-variants.{NoRoom, OutputShort, Busy, InUse}
 use Rattle.model.specs.declared.Answer.{Answer}
 use Rattle.model.specs.declared.LookupAnswer.{LookupAnswer}
 use Rattle.model.specs.declared.Stop.{Stop}
@@ -22,6 +22,7 @@ refusalNo HeldAlready = 5
 refusalNo NotHeld = 6
 refusalNo NoRoom = 7
 refusalNo (OutputShort matches) = 8
+refusalNo Busy = 11
 refusalNo InUse = 12
 
 -- its column "Gives besides"
@@ -34,6 +35,7 @@ refusalGives HeldAlready = 0
 refusalGives NotHeld = 0
 refusalGives NoRoom = 0
 refusalGives (OutputShort matches) = matches
+refusalGives Busy = 0
 refusalGives InUse = 0
 
 abbrev pub answerNo : Answer → ℕ

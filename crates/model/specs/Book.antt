@@ -11,7 +11,8 @@ use Rattle.page.specs.declared.Pair.{Pair}
 use Rattle.page.specs.Pair.{same, enter}
 use Rattle.model.specs.declared.Order.{Order}
 use Rattle.model.specs.Held.{self, hasHash}
-use Rattle.model.specs.Machine.{Call, formatting, inserting, removing, looking, working, asking}
+use Rattle.model.specs.Machine.{Call, formatting, inserting, removing, looking, working, squeezing, asking, Kind}
+use Rattle.model.specs.Machine.{ofSplits, ofSqueeze}
 
 -- ---- the book: a set of pairs, as the ascending list of its elements
 
@@ -26,14 +27,15 @@ pub data Effect : Type 0 where
   empties : Order → Effect
   puts takes : Pair → Effect
   leaves : Effect
-  hasSteps : (budget : ℕ) → Effect
+  hasSteps : Kind → (budget : ℕ) → Effect
 
 abbrev pub effect : Call → Effect
 effect (formatting o) = empties o
 effect (inserting p) = puts p
 effect (removing p) = takes p
 effect (looking h out) = leaves
-effect (working budget) = hasSteps budget
+effect (working budget) = hasSteps ofSplits budget
+effect (squeezing b budget) = hasSteps (ofSqueeze b) budget
 effect asking = leaves
 
 abbrev pub noted : Effect → Book → Book
@@ -41,7 +43,7 @@ noted (empties o) bk = []
 noted (puts p) bk = cond (has bk p) bk (enter self p bk)
 noted (takes p) bk = keep (λ q. not (same p q)) bk
 noted leaves bk = bk
-noted (hasSteps budget) bk = bk
+noted (hasSteps kind budget) bk = bk
 
 -- the book's pairs under a hash code
 abbrev pub under : ℕ → Book → Book
@@ -72,7 +74,7 @@ counted (empties o) k = noSplit
 counted (puts p) k = stirred k
 counted (takes p) k = stirred k
 counted leaves k = k
-counted (hasSteps budget) k = k
+counted (hasSteps kind budget) k = k
 
 -- the fill of the last accepted format, and the begins since
 abbrev pub filled : Effect → ℕ → ℕ
@@ -80,14 +82,14 @@ filled (empties o) f = o .fill
 filled (puts p) f = f
 filled (takes p) f = f
 filled leaves f = f
-filled (hasSteps budget) f = f
+filled (hasSteps kind budget) f = f
 
 abbrev pub begun : Effect → ℕ → ℕ
 begun (empties o) n = 0
 begun (puts p) n = n
 begun (takes p) n = n
 begun leaves n = n
-begun (hasSteps budget) n = n
+begun (hasSteps kind budget) n = n
 
 -- the store number after an accepted call
 abbrev pub numberAfter : Effect → ℕ → ℕ
@@ -95,4 +97,4 @@ numberAfter (empties o) n = o .number
 numberAfter (puts p) n = n
 numberAfter (takes p) n = n
 numberAfter leaves n = n
-numberAfter (hasSteps budget) n = n
+numberAfter (hasSteps kind budget) n = n

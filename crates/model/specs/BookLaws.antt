@@ -23,7 +23,7 @@ noted-ascending (puts p) bk h = go (has bk p) refl
     go false e = ascending-enter self p bk (any-no (same p) bk e) h
 noted-ascending (takes p) bk h = ascending-sublist self (sublist-keep (λ q. not (same p q)) bk) h
 noted-ascending leaves bk h = h
-noted-ascending (hasSteps budget) bk h = h
+noted-ascending (hasSteps kind budget) bk h = h
 
 has-enter : (p q : Pair) (bk : Book) → has (enter self p bk) q ≡ same q p || has bk q
 has-enter p q [] = refl

@@ -1,4 +1,4 @@
--- The six calls on an index (docs/RULES.md 6), with their numbers as u32 and their answers.
+-- The calls on an index but squeeze (docs/RULES.md 6), with their numbers as u32 and their answers.
 use mathlib.Core.Bool.{Bool, true, false, not, _&&_}
 use mathlib.Core.List.{List, [], _∷_, _++_}
 use mathlib.Core.Option.{Option, none, some}

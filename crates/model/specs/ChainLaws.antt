@@ -1,20 +1,22 @@
--- How often entries and overflow bits stand in a chain after an entry or a page was added, or a pair taken out.
-use mathlib.Core.Path.{_≡_, refl}
+-- How often entries and overflow bits stand in a chain after an entry or a page was added, or a pair taken out; pages
+-- without the pair stay.
+use mathlib.Core.Path.{_≡_, refl, ap, _∙_}
 use mathlib.Core.Bool.{Bool, true, false, cond, not, _&&_, _||_}
 use mathlib.Core.List.{List, [], _∷_, _++_, map}
 use Prim.Native.Nat.{ℕ, _+_, _≤_}
 use native.Mathlib.Omega.{arith}
-use borrow.Author.Tests.{ltb-false}
+use borrow.Author.Tests.{ltb-false, lt-ltb}
 use lib.ListN.{length}
-use Rattle.lists.specs.Lists.{b2n, any, tally, keep}
+use Rattle.lists.specs.Lists.{b2n, any, tally, keep, Each}
 use Rattle.lists.specs.ListsLaws.{tally-append, tally-keep, tally-none}
 use Rattle.page.specs.declared.Pair.{Pair}
 use Rattle.page.specs.declared.Entry.{Entry}
 use Rattle.page.specs.Pair.{is, pairOf}
 use Rattle.page.specs.AscendingLaws.{tally-enter}
 use Rattle.model.specs.Index.{Page, Chain, onPages, entriesIn}
-use Rattle.model.specs.Pages.{hasRoom, pageRoom, chainRoom, enterEntry, addMore, addEntry, addPage, bitsOf, thin}
-use Rattle.model.specs.Pages.{inUse, without}
+use Rattle.model.specs.Pages.{hasRoom, pageRoom, chainRoom, enterEntry, addMore, addEntry, addPage, bitsOf}
+use Rattle.model.specs.Pages.{thinEntries, thin, inUse, without}
+use Rattle.model.specs.WellFormed.{MoreOk}
 
 abbrev bitOf : Page → ℕ
 bitOf g = g .bit
@@ -128,3 +130,31 @@ module _ (t : ℕ → Bool) where
               ≤ b2n (t (g .bit)) + onBits gs
           at true ih = omega arith
           at false ih = omega arith
+
+-- ---- a pair that does not stand there
+
+abbrev pub cutMore : Pair → List Page → List Page
+cutMore p gs = keep inUse (map (thin p) gs)
+
+pub thin-none : (p : Pair) (es : List Entry) → tally (is p) es ≡ 0 → thinEntries p es ≡ es
+thin-none p [] z = refl
+thin-none p (e ∷ es) z = go (is p e) z (thin-none p es)
+  where
+    go : (b : Bool) → b2n b + tally (is p) es ≡ 0 → (tally (is p) es ≡ 0 → thinEntries p es ≡ es)
+        → cond (not b) (e ∷ thinEntries p es) (thinEntries p es) ≡ e ∷ es
+    go true z ih = absurd (omega arith)
+    go false z ih = ap (λ (r : List Entry). e ∷ r) (ih (omega arith))
+
+pub keep-page : (p : Pair) (g : Page) (gs : List Page) → 1 ≤ length (g .entries) → tally (is p) (g .entries) ≡ 0
+    → cutMore p (g ∷ gs) ≡ g ∷ cutMore p gs
+keep-page p g gs h z =
+    ap (λ (es : List Entry). let f : Page = record { bit = g .bit; entries = es } in cond (inUse f) (f ∷ cutMore p gs)
+    (cutMore p gs))
+    (thin-none p (g .entries) z)
+    ∙ ap (λ (b : Bool). cond b (g ∷ cutMore p gs) (cutMore p gs)) (lt-ltb 0 (length (g .entries)) h)
+
+pub pages-none : (p : Pair) (gs : List Page) → Each MoreOk gs → tally (is p) (onPages gs) ≡ 0 → cutMore p gs ≡ gs
+pages-none p [] o z = refl
+pages-none p (g ∷ gs) o z =
+    let q = tally-append (is p) (g .entries) (onPages gs) in
+    keep-page p g gs (o .0 .used) (omega arith) ∙ ap (λ (r : List Page). g ∷ r) (pages-none p gs (o .1) (omega arith))

@@ -1,5 +1,5 @@
 -- A machine that demand 3 shuts out: standing tells of a job before any begin, and its steps never end. It answers every
--- insert with 7; lookups, removals, work calls and counts are those of an empty book.
+-- insert with 7 and every squeeze with 11; lookups, removals, work calls and counts are those of an empty book.
 use mathlib.Core.Path.{_≡_, refl}
 use mathlib.Core.List.{[]}
 use Prim.Native.Nat.{ℕ, _*_}
@@ -16,8 +16,8 @@ use Rattle.model.specs.declared.Phase.{Phase}
 use Rattle.model.specs.declared.StandingAnswer.{StandingAnswer}
 use Rattle.model.specs.Index.{Index}
 use Rattle.model.specs.Steps.{next}
-use Rattle.model.specs.Machine.{Call, formatting, inserting, removing, looking, working, asking, plain, looked}
-use Rattle.model.specs.Machine.{worked, stands, CallFits, Ran, Machine}
+use Rattle.model.specs.Machine.{Call, formatting, inserting, removing, looking, working, squeezing, asking}
+use Rattle.model.specs.Machine.{plain, looked, worked, stands, CallFits, Ran, Machine}
 use Rattle.model.specs.MachineLaws.{never}
 use Rattle.model.specs.History.{phaseAt}
 use Rattle.model.specs.Demand.{Demand3}
@@ -30,6 +30,7 @@ wrongRun (removing p) s = record { reply = plain (Answer.Refused Refusal.NotHeld
 wrongRun (looking h out) s =
     record { reply = looked (record { answer = LookupAnswer.Found 0; output = out }); state = s }
 wrongRun (working budget) s = record { reply = worked (WorkAnswer.Worked budget Stop.Spent); state = s }
+wrongRun (squeezing b budget) s = record { reply = worked (WorkAnswer.Refused Refusal.Busy); state = s }
 wrongRun asking s =
     record {
       reply = stands (StandingAnswer.Stands (record {
@@ -42,7 +43,7 @@ wrongRun asking s =
     }
 
 abbrev pub wrong : Machine
-wrong = record { State = ℕ; run = wrongRun; step = λ s. next s; stored = λ s. 0 }
+wrong = record { State = ℕ; run = wrongRun; step = λ k s. next s; stored = λ s. 0 }
 
 -- standing gives phase copying before any begin
 pub wrong-fails : (index : ℕ → Index) → Demand3 wrong index → ⊥

@@ -4,13 +4,15 @@
 --   Always    (History.antt) at the start and at every moment of every list of calls
 --   Faithful  what holds at a moment, by the calls' answers, the stored count and single steps
 --   RoomIs    (Room.antt) when an insert or a step finds no room, and so gets 7
---   Demand3   both always hold
+--   ShiftIs   (Shift.antt) what a squeeze's step moves, and when there is none
+--   Demand3   all three always hold
 use mathlib.Core.Path.{_≡_}
 use mathlib.Core.Logic.{_≢_, _↔_, _⊎_}
-use mathlib.Core.Bool.{true, false}
+use mathlib.Core.Bool.{Bool, true, false, _||_}
 use mathlib.Core.List.{List, [], _++_}
 use mathlib.Core.Option.{Option, none, some}
 use Prim.Native.Nat.{ℕ, zero, suc, _+_, _*_, _/_, _≤_, _<_}
+use lib.Dec.{eqb}
 use lib.IntN.{subℕ}
 use lib.ListN.{length, drop}
 use Rattle.lists.specs.Lists.{bind}
@@ -29,11 +31,18 @@ use Rattle.model.specs.Index.{Index}
 use Rattle.model.specs.Held.{self}
 use Rattle.model.specs.Steps.{next, stopped}
 use Rattle.model.specs.Calls.{formatOk, pairOk, placeBytes}
-use Rattle.model.specs.Machine.{formatting, inserting, removing, looking, working, asking, CallFits, plain}
-use Rattle.model.specs.Machine.{looked, worked, stands, Machine}
+use Rattle.model.specs.Machine.{formatting, inserting, removing, looking, squeezing, asking, CallFits, Kind}
+use Rattle.model.specs.Machine.{ofSplits, ofSqueeze, stepping, plain, looked, worked, stands, Machine}
 use Rattle.model.specs.Book.{Book, has, under, Split, noSplit, since}
 use Rattle.model.specs.History.{Moment, phaseAt, Always}
 use Rattle.model.specs.Room.{RoomIs}
+use Rattle.model.specs.Shift.{ShiftIs}
+
+-- a bucket of the job
+abbrev pub ofJob : Phase → (bucket : ℕ) → Bool
+ofJob Phase.None b = false
+ofJob (Phase.Copying old new) b = eqb b old || eqb b new
+ofJob (Phase.Clearing old new) b = eqb b old || eqb b new
 
 module _ (M : Machine) where
   -- "with less room it gets 8 and that number", and the output stays
@@ -54,20 +63,30 @@ module _ (M : Machine) where
   JobIs n (Phase.Copying old new) = (old ≡ splitFrom n) × (new ≡ n)
   JobIs n (Phase.Clearing old new) = (old ≡ splitFrom n) × (new ≡ n)
 
-  -- the state after n steps, if none of them stops
-  abbrev pub afterSteps : ℕ → M .State → Option (M .State)
-  afterSteps zero s = some s
-  afterSteps (suc n) s = elim (M .step s) [ next t ↦ afterSteps n t | stopped r ↦ none ]
+  -- the state after n steps of a kind, if none of them stops
+  abbrev pub afterSteps : Kind → ℕ → M .State → Option (M .State)
+  afterSteps k zero s = some s
+  afterSteps k (suc n) s = elim (M .step k s) [ next t ↦ afterSteps k n t | stopped r ↦ none ]
 
-  -- a work call's steps were made, and it stopped because the budget was spent or for what the next step says
-  pub record WorkIs (s : M .State) (budget : ℕ) : Type 0 where
+  -- the steps of a work or squeeze call were made, and it stopped because the budget was spent or for what the next step
+  -- says
+  pub record WorkIs (k : Kind) (s : M .State) (budget : ℕ) : Type 0 where
     pub steps : ℕ
     pub stop : Stop
-    pub reply : M .run (working budget) s .reply ≡ worked (WorkAnswer.Worked steps stop)
-    pub reached : afterSteps steps s ≡ some (M .run (working budget) s .state)
+    pub reply : M .run (stepping k budget) s .reply ≡ worked (WorkAnswer.Worked steps stop)
+    pub reached : afterSteps k steps s ≡ some (M .run (stepping k budget) s .state)
     -- "0 when the budget is spent"
     pub spent : (steps ≡ budget) ↔ (stop ≡ Stop.Spent)
-    pub ended : steps ≢ budget → (steps < budget) × (M .step (M .run (working budget) s .state) ≡ stopped stop)
+    pub ended : steps ≢ budget
+        → (steps < budget) × (M .step k (M .run (stepping k budget) s .state) ≡ stopped stop)
+
+  -- a squeeze of bucket b where there are n buckets: "a bucket above max bucket gets 2, then a bucket of a pending job
+  -- 11", and any other is squeezed
+  pub record SqueezeIs (n b : ℕ) (s : M .State) (budget : ℕ) : Type 0 where
+    pub above : n ≤ b → M .run (squeezing b budget) s .reply ≡ worked (WorkAnswer.Refused Refusal.Number)
+    pub busy : b < n → ofJob (phaseAt M s) b ≡ true
+        → M .run (squeezing b budget) s .reply ≡ worked (WorkAnswer.Refused Refusal.Busy)
+    pub free : b < n → ofJob (phaseAt M s) b ≡ false → WorkIs (ofSqueeze b) s budget
 
   -- Before the first begin there is no job. A split that stays calm is over after step 2m + 3 and not before, "and
   -- until then work never stops with 9".
@@ -75,7 +94,7 @@ module _ (M : Machine) where
   SplitIs noSplit s = phaseAt M s ≡ Phase.None
   SplitIs (since false m k) s = Unit {0}
   SplitIs (since true m k) s =
-      (k < 2 * m + 3 → (phaseAt M s ≢ Phase.None) × (M .step s ≢ stopped Stop.Idle))
+      (k < 2 * m + 3 → (phaseAt M s ≢ Phase.None) × (M .step ofSplits s ≢ stopped Stop.Idle))
       × (k ≡ 2 * m + 3 → phaseAt M s ≡ Phase.None)
       × (k ≤ 2 * m + 3)
 
@@ -112,15 +131,17 @@ module _ (M : Machine) where
         → (M .run (removing p) (t .state) .reply ≡ plain (Answer.Refused Refusal.NotHeld)) ↔ (has (t .book) p ≡ false)
     pub removed : (p : Pair) → CallFits (removing p) → pairOk p ≡ true → has (t .book) p ≡ true
         → M .run (removing p) (t .state) .reply ≡ plain Answer.Done
-    pub works : (budget : ℕ) → budget ≤ 65535 → WorkIs (t .state) budget
+    pub works : (budget : ℕ) → budget ≤ 65535 → WorkIs ofSplits (t .state) budget
+    pub squeezes : (b budget : ℕ) → CallFits (squeezing b budget) → budget ≤ 65535
+        → SqueezeIs (2 + t .begins) b (t .state) budget
     -- work stops with 9 exactly when there is no job and no split wanted
-    pub rests : (M .step (t .state) ≡ stopped Stop.Idle)
+    pub rests : (M .step ofSplits (t .state) ≡ stopped Stop.Idle)
         ↔ ((phaseAt M (t .state) ≡ Phase.None) × (length (t .book) ≤ t .fill * (2 + t .begins)))
     pub splits : SplitIs (t .split) (t .state)
 
   -- of a machine whose states show an index
   abbrev pub Holds : (index : M .State → Index) → Moment M → Type 0
-  Holds index t = Faithful t × RoomIs M index t
+  Holds index t = Faithful t × RoomIs M index t × ShiftIs M index t
 
   abbrev pub Demand3 : (index : M .State → Index) → Type 0
   Demand3 index = Always M (Holds index)

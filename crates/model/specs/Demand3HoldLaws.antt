@@ -20,6 +20,7 @@ use Rattle.model.specs.StepsLeftLaws.{stepsLeft-at, stepsLeft-idle}
 use Rattle.model.specs.Demand3AnswerLaws.{heldAlready-is, notHeld-is, inserted-is, removed-is, noRoom-is}
 use Rattle.model.specs.Demand3AnswerLaws.{inUse-is, formatted-is, lookup-is}
 use Rattle.model.specs.Demand3AnswerLaws.{standing-is, job-is, phase-none, rests-is, busy}
+use Rattle.model.specs.Demand3SqueezeLaws.{squeeze-is}
 use Rattle.model.specs.Demand3InvLaws.{Track, Inv}
 
 -- a split has steps left exactly while there is a job
@@ -47,6 +48,7 @@ faithful t i =
       removals = λ p fits ok. rw (i .agree p) (notHeld-is x p ok);
       removed = λ p fits ok e. removed-is x p ok (sym (i .agree p) ∙ e);
       works = index-works x;
+      squeezes = λ b budget fits h. squeeze-is x (2 + t .begins) b budget (omega (arith, i .newest)) h;
       rests = rests-is x (length (t .book)) (2 + t .begins) (t .fill) counts (omega (arith, i .newest)) (i .fill);
       splits = split-is x (t .split) (i .track);
     }

@@ -10,22 +10,25 @@ use Rattle.model.specs.declared.Order.{Order}
 use Rattle.model.specs.Index.{Job, idle, copying, clearing, Index, oldBucket, newBucket}
 use Rattle.model.specs.Held.{self, held}
 use Rattle.model.specs.Steps.{next, step}
+use Rattle.model.specs.Squeeze.{squeezeStep}
 use Rattle.model.specs.Calls.{sizeOk, formatOk, inUse, overwrites, format, formatIn, formatted, done, insert}
 use Rattle.model.specs.Calls.{remove, phaseIn}
-use Rattle.model.specs.Machine.{formatting, inserting, CallFits, accepted, settled, runIndex, onIndex}
+use Rattle.model.specs.Machine.{formatting, inserting, CallFits, Kind, ofSplits, ofSqueeze, accepted, settled}
+use Rattle.model.specs.Machine.{runIndex, stepIndex, onIndex}
 use Rattle.model.specs.MachineLaws.{never}
 use Rattle.model.specs.Book.{has, puts, takes, movers, Split, noSplit, since, oneStep, stirred}
 use Rattle.model.specs.BookLaws.{noted-ascending, has-puts, has-takes}
 use Rattle.model.specs.History.{Moment, stepAt, stepped, marked, start}
 use Rattle.model.specs.WellFormed.{WF}
 use Rattle.model.specs.FormatLaws.{format-wf, format-held}
-use Rattle.model.specs.FrameLaws.{insert-frame, remove-frame, begin-frame, job-frame}
+use Rattle.model.specs.FrameLaws.{insert-frame, remove-frame, begin-frame, job-frame, SameJob, squeeze-frame}
 use Rattle.model.specs.InsertLaws.{insert-wf, insert-held}
 use Rattle.model.specs.RemoveLaws.{remove-wf, remove-held}
 use Rattle.model.specs.StepLaws.{step-wf, step-held}
 use Rattle.model.specs.StepsLeft.{stepsLeft}
 use Rattle.model.specs.StepsLeftLaws.{step-stepsLeft}
 use Rattle.model.specs.BeginLaws.{begin-stepsLeft, begin-movers}
+use Rattle.model.specs.SqueezeStepLaws.{squeeze-wf, squeeze-held, squeeze-stepsLeft}
 use Rattle.model.specs.Demand3AnswerLaws.{phase-job}
 
 -- Before the first begin there is no job; a calm split still has to make the steps that its count lacks.
@@ -110,8 +113,8 @@ remove-inv q y t i e =
 
 -- ---- a step
 
-pub step-inv : (t : Moment onIndex) (y : Index) → Inv t → step (t .state) ≡ next y → Inv (stepped onIndex t y)
-step-inv t y i h = rw (phase-job x) (go (x .job) refl)
+split-inv : (t : Moment onIndex) (y : Index) → Inv t → step (t .state) ≡ next y → Inv (stepped onIndex ofSplits t y)
+split-inv t y i h = rw (phase-job x) (go (x .job) refl)
   where
     x : Index
     x = t .state
@@ -158,3 +161,32 @@ step-inv t y i h = rw (phase-job x) (go (x .job) refl)
             ap (λ (n : ℕ). movers n (t .book)) newer,
           );
         }
+
+-- nothing but the state changes, and a split has as many steps left as it had
+squeeze-inv : (b : ℕ) (t : Moment onIndex) (y : Index) → Inv t → squeezeStep b (t .state) ≡ next y
+    → Inv (stepped onIndex (ofSqueeze b) t y)
+squeeze-inv b t y i h =
+    record {
+      wf = squeeze-wf b x y (i .wf) h;
+      set = i .set;
+      agree = λ p. i .agree p ∙ sym (squeeze-held b x y (i .wf) h p);
+      newest = f .frame .maxBucket ∙ i .newest;
+      fill = f .frame .fill ∙ i .fill;
+      track = tracks (t .split) (i .track);
+    }
+  where
+    x : Index
+    x = t .state
+
+    f : SameJob (t .state) y
+    f = squeeze-frame b x y h
+
+    tracks : (k : Split) → Track k x → Track k y
+    tracks noSplit u = f .job ∙ u
+    tracks (since false m k) u = tt
+    tracks (since true m k) u = omega (arith, squeeze-stepsLeft b x y (i .wf) h)
+
+pub step-inv : (k : Kind) (t : Moment onIndex) (y : Index) → Inv t → stepIndex k (t .state) ≡ next y
+    → Inv (stepped onIndex k t y)
+step-inv ofSplits = split-inv
+step-inv (ofSqueeze b) = squeeze-inv b

@@ -7,9 +7,9 @@ use Rattle.lists.specs.Lists.{Each}
 use Rattle.lists.specs.ListsLaws.{each-append}
 use Rattle.model.specs.declared.Phase.{Phase}
 use Rattle.model.specs.Index.{Index}
-use Rattle.model.specs.Steps.{Step, next, stopped, step, iterate}
-use Rattle.model.specs.Calls.{work}
-use Rattle.model.specs.Machine.{Call, formatting, CallFits, accepted, Ran, runIndex, onIndex}
+use Rattle.model.specs.Steps.{Step, next, stopped, iterate}
+use Rattle.model.specs.Machine.{Call, formatting, CallFits, Kind, ofSplits, ofSqueeze, accepted, Ran, runIndex}
+use Rattle.model.specs.Machine.{stepIndex, onIndex}
 use Rattle.model.specs.MachineLaws.{never}
 use Rattle.model.specs.Book.{Effect, empties, puts, takes, leaves, hasSteps, effect}
 use Rattle.model.specs.History.{Moment, phaseAt, stepAt, stepped, stages, lastOf, within, marked, after, history}
@@ -17,36 +17,41 @@ use Rattle.model.specs.History.{start, Always}
 use Rattle.model.specs.RunLaws.{Running, refuses, formats, inserts, removes, reads, works, run-view}
 use Rattle.model.specs.Demand3InvLaws.{Inv, start-inv, format-inv, insert-inv, remove-inv, step-inv}
 
-stages-inv : (n : ℕ) (t : Moment onIndex) → Inv t → Each Inv (stages onIndex n t)
-stages-inv zero t i = tt
-stages-inv (suc n) t i = go (step (t .state)) refl (stages-inv n)
+stages-inv : (k : Kind) (n : ℕ) (t : Moment onIndex) → Inv t → Each Inv (stages onIndex k n t)
+stages-inv k zero t i = tt
+stages-inv k (suc n) t i = go (stepIndex k (t .state)) refl (stages-inv k n)
   where
-    go : (r : Step Index) → step (t .state) ≡ r → ((u : Moment onIndex) → Inv u → Each Inv (stages onIndex n u))
-        → Each Inv (stages onIndex (suc n) t)
-    go (next y) e ih = let j = step-inv t y i e in rw (e, stages) (j, ih (stepped onIndex t y) j)
+    go : (r : Step Index) → stepIndex k (t .state) ≡ r
+        → ((u : Moment onIndex) → Inv u → Each Inv (stages onIndex k n u))
+        → Each Inv (stages onIndex k (suc n) t)
+    go (next y) e ih = let j = step-inv k t y i e in rw (e, stages) (j, ih (stepped onIndex k t y) j)
     go (stopped c) e ih = rw (e, stages) tt
 
 lastOf-inv : (ts : List (Moment onIndex)) (t : Moment onIndex) → Inv t → Each Inv ts → Inv (lastOf onIndex t ts)
 lastOf-inv [] t i h = i
 lastOf-inv (u ∷ ts) t i h = lastOf-inv ts u (h .0) (h .1)
 
--- the last moment of a work call has the state that the call leaves
-stages-end : (n : ℕ) (t : Moment onIndex)
-    → lastOf onIndex t (stages onIndex n t) .state ≡ iterate step n (t .state) .state
-stages-end zero t = refl
-stages-end (suc n) t = go (step (t .state)) refl (λ y. stages-end n (stepped onIndex t y))
+-- the last moment of a work or squeeze call has the state that the call leaves
+stages-end : (k : Kind) (n : ℕ) (t : Moment onIndex)
+    → lastOf onIndex t (stages onIndex k n t) .state ≡ iterate (stepIndex k) n (t .state) .state
+stages-end k zero t = refl
+stages-end k (suc n) t = go (stepIndex k (t .state)) refl (λ y. stages-end k n (stepped onIndex k t y))
   where
-    state-of : (ph : Phase) (y : Index) → stepAt onIndex ph t y .state ≡ y
-    state-of Phase.None y = refl
-    state-of (Phase.Copying o n) y = refl
-    state-of (Phase.Clearing o n) y = refl
+    split-of : (ph : Phase) (y : Index) → stepAt onIndex ph t y .state ≡ y
+    split-of Phase.None y = refl
+    split-of (Phase.Copying o n) y = refl
+    split-of (Phase.Clearing o n) y = refl
 
-    go : (r : Step Index) → step (t .state) ≡ r
-        → ((y : Index) → let u = stepped onIndex t y in
-        lastOf onIndex u (stages onIndex n u) .state ≡ iterate step n (u .state) .state)
-        → lastOf onIndex t (stages onIndex (suc n) t) .state ≡ iterate step (suc n) (t .state) .state
+    state-of : (j : Kind) (y : Index) → stepped onIndex j t y .state ≡ y
+    state-of ofSplits y = split-of (phaseAt onIndex (t .state)) y
+    state-of (ofSqueeze b) y = refl
+
+    go : (r : Step Index) → stepIndex k (t .state) ≡ r
+        → ((y : Index) → let u = stepped onIndex k t y in
+        lastOf onIndex u (stages onIndex k n u) .state ≡ iterate (stepIndex k) n (u .state) .state)
+        → lastOf onIndex t (stages onIndex k (suc n) t) .state ≡ iterate (stepIndex k) (suc n) (t .state) .state
     go (next y) e ih =
-        rw (e, stages, iterate) (ih y ∙ ap (λ (z : Index). iterate step n z .state) (state-of (phaseAt onIndex (t .state)) y))
+        rw (e, stages, iterate) (ih y ∙ ap (λ (z : Index). iterate (stepIndex k) n z .state) (state-of k y))
     go (stopped c) e ih = rw (e, stages, iterate) refl
 
 within-inv : (a : Bool) (e : Effect) (t : Moment onIndex) → Inv t → Each Inv (within onIndex a e t)
@@ -55,10 +60,9 @@ within-inv true (empties o) t i = tt
 within-inv true (puts p) t i = tt
 within-inv true (takes p) t i = tt
 within-inv true leaves t i = tt
-within-inv true (hasSteps budget) t i = stages-inv budget t i
+within-inv true (hasSteps kind budget) t i = stages-inv kind budget t i
 
 after-inv : (c : Call) → CallFits c → (t : Moment onIndex) → Inv t → Inv (after onIndex c t)
-unfolding work
 after-inv c fits t i = go (run-view c fits (t .state))
   where
     refusal : (a : Bool) (e : Effect) → a ≡ false
@@ -70,11 +74,11 @@ after-inv c fits t i = go (run-view c fits (t .state))
     reading true = i
     reading false = i
 
-    stepping : (a : Bool) (n : ℕ) → a ≡ true
-        → let y = iterate step n (t .state) .state in
-        Inv (marked onIndex a (hasSteps n) (lastOf onIndex t (within onIndex a (hasSteps n) t)) y)
-    stepping false n h = never (cc)
-    stepping true n h = rw (← stages-end n t) (lastOf-inv (stages onIndex n t) t i (stages-inv n t i))
+    working : (a : Bool) (k : Kind) (n : ℕ) → a ≡ true
+        → let y = iterate (stepIndex k) n (t .state) .state in
+        Inv (marked onIndex a (hasSteps k n) (lastOf onIndex t (within onIndex a (hasSteps k n) t)) y)
+    working false k n h = never (cc)
+    working true k n h = rw (← stages-end k n t) (lastOf-inv (stages onIndex k n t) t i (stages-inv k n t i))
 
     go : {e : Effect} {r : Ran Index} → Running (t .state) e r
         → let a = accepted (r .reply) in
@@ -84,7 +88,7 @@ after-inv c fits t i = go (run-view c fits (t .state))
     go (inserts {p = p} {y = y} f e) = insert-inv p y f t i e
     go (removes {p = p} {y = y} e) = remove-inv p y t i e
     go (reads {r = r}) = reading (accepted r)
-    go (works {budget = n} {r = r} h) = stepping (accepted r) n h
+    go (works {kind = k} {budget = n} {r = r} h) = working (accepted r) k n h
 
 history-inv : (cs : List Call) → Each CallFits cs → (t : Moment onIndex) → Inv t → Each Inv (history onIndex cs t)
 history-inv [] fits t i = tt

@@ -6,6 +6,7 @@ use Rattle.model.specs.Demand.{Holds, Demand3}
 use Rattle.model.specs.Demand3InvLaws.{Inv}
 use Rattle.model.specs.Demand3MomentLaws.{always-inv}
 use Rattle.model.specs.Demand3HoldLaws.{faithful, room-is}
+use Rattle.model.specs.Demand3SqueezeLaws.{shift-is}
 
 pub demand3 : Demand3 onIndex (λ x. x)
-demand3 = always-map Inv (Holds onIndex (λ x. x)) (λ t i. (faithful t i, room-is t i)) always-inv
+demand3 = always-map Inv (Holds onIndex (λ x. x)) (λ t i. (faithful t i, room-is t i, shift-is t (i .wf))) always-inv

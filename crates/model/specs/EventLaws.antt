@@ -32,7 +32,7 @@ one-event p true (takes q) bk = has-takes q p bk ∙ go (same p q)
     go true = refl
     go false = refl
 one-event p true leaves bk = refl
-one-event p true (hasSteps budget) bk = refl
+one-event p true (hasSteps kind budget) bk = refl
 
 has-after : (p : Pair) (es : List Event) (bk : Book) → has (bookAfter es bk) p ≡ Option·getD (latest p es) (has bk p)
 has-after p [] bk = refl

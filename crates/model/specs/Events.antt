@@ -31,7 +31,7 @@ bears p true (empties o) = some false
 bears p true (puts q) = cond (same p q) (some true) none
 bears p true (takes q) = cond (same p q) (some false) none
 bears p true leaves = none
-bears p true (hasSteps budget) = none
+bears p true (hasSteps kind budget) = none
 
 -- what the latest event that bears on a pair did
 abbrev pub latest : Pair → List Event → Option Bool

@@ -3,17 +3,18 @@ use mathlib.Core.Path.{_≡_, refl, sym, subst}
 use mathlib.Core.Logic.{_≢_, _↔_}
 use mathlib.Core.Bool.{Bool, true, false}
 use mathlib.Core.List.{List}
-use mathlib.Core.Option.{some}
+use mathlib.Core.Option.{Option, none, some}
 use Prim.Native.Nat.{ℕ, suc}
 use native.Mathlib.Omega.{arith}
 use lib.Dec.{eqb}
 use Rattle.page.specs.declared.Pair.{Pair}
 use Rattle.page.specs.declared.Entry.{Entry}
 use Rattle.model.specs.declared.Stop.{Stop}
-use Rattle.model.specs.Index.{Chain, Job, idle, copying, clearing, Index, bucket, newBucket}
+use Rattle.model.specs.Index.{Chain, Job, idle, copying, clearing, Index, chain, bucket, newBucket}
 use Rattle.model.specs.Pages.{cut}
 use Rattle.model.specs.Held.{wanted}
 use Rattle.model.specs.Steps.{Step, next, stopped, step}
+use Rattle.model.specs.Squeeze.{mover, squeezeIn, squeezeStep}
 use Rattle.model.specs.Calls.{done, insert, cutHeld, remove}
 use Rattle.model.specs.ViewLaws.{Putting, put-as, Inserting, inserted, insert-view, Removing, removed}
 use Rattle.model.specs.ViewLaws.{remove-view, Stepping, resting, unbegun, began, uncopied, copied, copiedAll}
@@ -92,6 +93,17 @@ job-frame x y j h = go (rw h at (step-view x))
     go (copiedAll i k) = framed
     go (cleared i e k) = framed
     go (clearedAll i k) = framed
+
+pub squeeze-frame : (b : ℕ) (x y : Index) → squeezeStep b x ≡ next y → SameJob x y
+unfolding squeezeStep
+squeeze-frame b x y h = go (mover (chain x b)) h
+  where
+    same : {z : Index} → _≡_ {A = Step Index} (next z) (next y) → z ≡ y
+    same q = cc
+
+    go : (m : Option Entry) → squeezeIn m b x ≡ next y → SameJob x y
+    go (some e) h = subst (SameJob x) (same h) (record { frame = framed; job = refl })
+    go none h = let z : _≡_ {A = ℕ} 0 1 = cc in absurd (omega arith)
 
 -- ---- N and the store number stay
 

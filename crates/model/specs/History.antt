@@ -1,5 +1,5 @@
--- The moments of a list of calls on a machine (docs/RULES.md 7.3): at the start, after each single step of a work call,
--- after each call.
+-- The moments of a list of calls on a machine (docs/RULES.md 7.3): at the start, after each single step of a work or
+-- squeeze call, after each call.
 use mathlib.Core.Path.{_≡_}
 use mathlib.Core.Bool.{Bool, true, false}
 use mathlib.Core.List.{List, [], _∷_, _++_}
@@ -9,8 +9,8 @@ use Rattle.model.specs.declared.Order.{Order}
 use Rattle.model.specs.declared.Phase.{Phase}
 use Rattle.model.specs.Answers.{standingOf}
 use Rattle.model.specs.Steps.{next, stopped}
-use Rattle.model.specs.Machine.{Call, formatting, asking, CallFits, plain, looked, worked, stands, accepted}
-use Rattle.model.specs.Machine.{Machine}
+use Rattle.model.specs.Machine.{Call, formatting, asking, CallFits, Kind, ofSplits, ofSqueeze, plain, looked}
+use Rattle.model.specs.Machine.{worked, stands, accepted, Machine}
 use Rattle.model.specs.Book.{Book, Effect, empties, puts, takes, leaves, hasSteps, effect, noted, movers, Split}
 use Rattle.model.specs.Book.{noSplit, since, oneStep, counted, filled, begun}
 
@@ -36,7 +36,7 @@ module _ (M : Machine) where
         | stands a ↦ standingOf a .phase
       ]
 
-  -- a step at phase none is a begin
+  -- a split's step at phase none is a begin
   abbrev pub stepAt : Phase → Moment → State → Moment
   stepAt Phase.None t s =
       record {
@@ -51,13 +51,17 @@ module _ (M : Machine) where
   stepAt (Phase.Clearing o n) t s =
       record { state = s; book = t .book; fill = t .fill; begins = t .begins; split = oneStep (t .split) }
 
-  abbrev pub stepped : Moment → State → Moment
-  stepped t s = stepAt (phaseAt (t .state)) t s
+  -- a squeeze's step is none of a split's: "the 2m + 3 count doesn't include them"
+  abbrev pub stepped : Kind → Moment → State → Moment
+  stepped ofSplits t s = stepAt (phaseAt (t .state)) t s
+  stepped (ofSqueeze b) t s =
+      record { state = s; book = t .book; fill = t .fill; begins = t .begins; split = t .split }
 
-  -- after each single step of a work call
-  abbrev pub stages : (budget : ℕ) → Moment → List Moment
-  stages zero t = []
-  stages (suc n) t = elim (M .step (t .state)) [ next s ↦ stepped t s ∷ stages n (stepped t s) | stopped r ↦ [] ]
+  -- after each single step of a work or squeeze call
+  abbrev pub stages : Kind → (budget : ℕ) → Moment → List Moment
+  stages k zero t = []
+  stages k (suc n) t =
+      elim (M .step k (t .state)) [ next s ↦ stepped k t s ∷ stages k n (stepped k t s) | stopped r ↦ [] ]
 
   abbrev pub lastOf : Moment → List Moment → Moment
   lastOf t [] = t
@@ -70,7 +74,7 @@ module _ (M : Machine) where
   within true (puts p) t = []
   within true (takes p) t = []
   within true leaves t = []
-  within true (hasSteps budget) t = stages budget t
+  within true (hasSteps kind budget) t = stages kind budget t
 
   -- the moment after a call that left the state s; a refused call leaves all but the state alone
   abbrev pub marked : (accepted : Bool) → Effect → Moment → State → Moment

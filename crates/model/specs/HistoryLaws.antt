@@ -9,7 +9,7 @@ use Rattle.lists.specs.ListsLaws.{each-append}
 use Rattle.page.specs.SublistLaws.{each-map}
 use Rattle.model.specs.declared.Phase.{Phase}
 use Rattle.model.specs.Steps.{Step, next, stopped}
-use Rattle.model.specs.Machine.{Call, formatting, CallFits, accepted, Machine}
+use Rattle.model.specs.Machine.{Call, formatting, CallFits, Kind, ofSplits, ofSqueeze, accepted, Machine}
 use Rattle.model.specs.Book.{Effect, empties, puts, takes, leaves, hasSteps, effect, noted}
 use Rattle.model.specs.History.{Moment, phaseAt, stepAt, stepped, stages, lastOf, within, marked, after, history}
 use Rattle.model.specs.History.{start, Always}
@@ -37,19 +37,23 @@ module _ (M : Machine) where
       go false u = refl
 
   -- steps leave the book alone
-  stages-book : (n : ℕ) (t : Moment M) → lastOf M t (stages M n t) .book ≡ t .book
-  stages-book zero t = refl
-  stages-book (suc n) t = go (M .step (t .state)) refl (stages-book n)
+  stages-book : (k : Kind) (n : ℕ) (t : Moment M) → lastOf M t (stages M k n t) .book ≡ t .book
+  stages-book k zero t = refl
+  stages-book k (suc n) t = go (M .step k (t .state)) refl (stages-book k n)
     where
-      kept : (ph : Phase) (s : M .State) → stepAt M ph t s .book ≡ t .book
-      kept Phase.None s = refl
-      kept (Phase.Copying o n) s = refl
-      kept (Phase.Clearing o n) s = refl
+      split : (ph : Phase) (s : M .State) → stepAt M ph t s .book ≡ t .book
+      split Phase.None s = refl
+      split (Phase.Copying o n) s = refl
+      split (Phase.Clearing o n) s = refl
 
-      go : (r : Step (M .State)) → M .step (t .state) ≡ r
-          → ((u : Moment M) → lastOf M u (stages M n u) .book ≡ u .book)
-          → lastOf M t (stages M (suc n) t) .book ≡ t .book
-      go (next s) e ih = rw (e, stages) (ih (stepped M t s) ∙ kept (phaseAt M (t .state)) s)
+      kept : (j : Kind) (s : M .State) → stepped M j t s .book ≡ t .book
+      kept ofSplits s = split (phaseAt M (t .state)) s
+      kept (ofSqueeze b) s = refl
+
+      go : (r : Step (M .State)) → M .step k (t .state) ≡ r
+          → ((u : Moment M) → lastOf M u (stages M k n u) .book ≡ u .book)
+          → lastOf M t (stages M k (suc n) t) .book ≡ t .book
+      go (next s) e ih = rw (e, stages) (ih (stepped M k t s) ∙ kept k s)
       go (stopped c) e ih = rw (e, stages) refl
 
   -- its book is what the call's effect makes of the book before, if the call was accepted
@@ -65,33 +69,34 @@ module _ (M : Machine) where
       go true (puts p) = refl
       go true (takes p) = refl
       go true leaves = refl
-      go true (hasSteps budget) = stages-book budget t
+      go true (hasSteps kind budget) = stages-book kind budget t
 
 -- ---- what each call and each step keeps holds at every moment
 
 module _ (M : Machine) (P : M .State → Type 0)
     (calls : (c : Call) → CallFits c → (s : M .State) → P s → P (M .run c s .state))
-    (steps : (s t : M .State) → P s → M .step s ≡ next t → P t) where
+    (steps : (k : Kind) (s t : M .State) → P s → M .step k s ≡ next t → P t) where
   abbrev At : Moment M → Type 0
   At t = P (t .state)
 
-  stepped-keeps : (t : Moment M) (s : M .State) → P s → At (stepped M t s)
-  stepped-keeps t s p = go (phaseAt M (t .state))
+  stepped-keeps : (k : Kind) (t : Moment M) (s : M .State) → P s → At (stepped M k t s)
+  stepped-keeps (ofSqueeze b) t s p = p
+  stepped-keeps ofSplits t s p = go (phaseAt M (t .state))
     where
       go : (ph : Phase) → At (stepAt M ph t s)
       go Phase.None = p
       go (Phase.Copying o n) = p
       go (Phase.Clearing o n) = p
 
-  stages-keep : (n : ℕ) (t : Moment M) → At t → Each At (stages M n t)
-  stages-keep zero t p = tt
-  stages-keep (suc n) t p = go (M .step (t .state)) refl (stages-keep n)
+  stages-keep : (k : Kind) (n : ℕ) (t : Moment M) → At t → Each At (stages M k n t)
+  stages-keep k zero t p = tt
+  stages-keep k (suc n) t p = go (M .step k (t .state)) refl (stages-keep k n)
     where
-      go : (r : Step (M .State)) → M .step (t .state) ≡ r → ((u : Moment M) → At u → Each At (stages M n u))
-          → Each At (stages M (suc n) t)
+      go : (r : Step (M .State)) → M .step k (t .state) ≡ r → ((u : Moment M) → At u → Each At (stages M k n u))
+          → Each At (stages M k (suc n) t)
       go (next s) e ih =
-          let q = stepped-keeps t s (steps (t .state) s p e) in
-          rw (e, stages) (q, ih (stepped M t s) q)
+          let q = stepped-keeps k t s (steps k (t .state) s p e) in
+          rw (e, stages) (q, ih (stepped M k t s) q)
       go (stopped c) e ih = rw (e, stages) tt
 
   within-keeps : (a : Bool) (f : Effect) (t : Moment M) → At t → Each At (within M a f t)
@@ -100,7 +105,7 @@ module _ (M : Machine) (P : M .State → Type 0)
   within-keeps true (puts q) t p = tt
   within-keeps true (takes q) t p = tt
   within-keeps true leaves t p = tt
-  within-keeps true (hasSteps budget) t p = stages-keep budget t p
+  within-keeps true (hasSteps kind budget) t p = stages-keep kind budget t p
 
   marked-keeps : (a : Bool) (f : Effect) (t : Moment M) (s : M .State) → P s → At (marked M a f t s)
   marked-keeps true f t s p = p

@@ -64,7 +64,7 @@ module _ (x : Index) (l : Laid x) (b : ℕ) (fits : b < length (x .chains)) wher
       pages d (no e) = subst ChainOk (sym (chain-there x sp b c fits d e)) (l .pages d)
 
   -- with no more bits
-  less-laid : (c : Chain) → ((n : ℕ) → tally (eqb n) (bitsOf c) ≤ tally (eqb n) (bitsOf (chain x b))) → ChainOk c
+  pub less-laid : (c : Chain) → ((n : ℕ) → tally (eqb n) (bitsOf c) ≤ tally (eqb n) (bitsOf (chain x b))) → ChainOk c
       → Laid (setChain x (x .spares) b c)
   less-laid c less ok =
       set-laid (x .spares) c (l .spares)

@@ -3,6 +3,7 @@ pub mod Index
 pub mod Pages
 pub mod Held
 pub mod Steps
+pub mod Squeeze
 pub mod Calls
 pub mod Machine
 pub mod Book
@@ -11,7 +12,9 @@ pub mod Events
 pub mod Demand
 pub mod WellFormed
 pub mod StepsLeft
+pub mod Spare
 pub mod Room
+pub mod Shift
 pub mod TallyLaws
 pub mod ChainLaws
 pub mod ChainOkLaws
@@ -27,6 +30,9 @@ pub mod RemoveLaws
 pub mod StepLaws
 pub mod FormatLaws
 pub mod WorkLaws
+pub mod SqueezeLaws
+pub mod PackedLaws
+pub mod SpareLaws
 pub mod SortedLaws
 pub mod MatchesLaws
 pub mod CountLaws
@@ -34,6 +40,9 @@ pub mod RoomLaws
 pub mod StepsLeftLaws
 pub mod BeginLaws
 pub mod FrameLaws
+pub mod SqueezeStepLaws
+pub mod SqueezeExamples
+pub mod KindLaws
 pub mod BoundLaws
 pub mod BookLaws
 pub mod MachineLaws
@@ -43,6 +52,8 @@ pub mod NumberLaws
 pub mod HistoryLaws
 pub mod EventLaws
 pub mod Demand3AnswerLaws
+pub mod ShiftLaws
+pub mod Demand3SqueezeLaws
 pub mod Demand3InvLaws
 pub mod Demand3MomentLaws
 pub mod Demand3HoldLaws

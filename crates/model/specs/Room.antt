@@ -16,7 +16,7 @@ use Rattle.model.specs.Held.{held, count}
 use Rattle.model.specs.Steps.{stopped, copiesLeft}
 use Rattle.model.specs.Calls.{pairOk, standing}
 use Rattle.model.specs.WellFormed.{uses, WF}
-use Rattle.model.specs.Machine.{inserting, CallFits, plain, Machine}
+use Rattle.model.specs.Machine.{inserting, CallFits, ofSplits, plain, Machine}
 use Rattle.model.specs.Book.{has}
 use Rattle.model.specs.History.{Moment, phaseAt}
 
@@ -59,4 +59,4 @@ module _ (M : Machine) (index : M .State → Index) where
         → (M .run (inserting p) (t .state) .reply ≡ plain (Answer.Refused Refusal.NoRoom))
         ↔ NoPage (index (t .state)) (bucket (index (t .state)) p)
     -- a step stops with 7 exactly when there is no room for it
-    pub steps : (M .step (t .state) ≡ stopped Stop.NoRoom) ↔ NoStep (index (t .state) .job) (index (t .state))
+    pub steps : (M .step ofSplits (t .state) ≡ stopped Stop.NoRoom) ↔ NoStep (index (t .state) .job) (index (t .state))

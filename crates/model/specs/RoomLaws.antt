@@ -1,15 +1,14 @@
 -- No room (docs/RULES.md 6.3): exactly when neither the chain nor the overflow bits nor the blocks past the made ones have any.
 use mathlib.Core.Path.{_≡_, refl, sym, ap, subst}
 use mathlib.Core.Logic.{_↔_}
-use mathlib.Core.Bool.{Bool, true, false, _||_}
-use mathlib.Core.List.{List, [], _∷_}
+use mathlib.Core.Bool.{Bool, true, false}
 use mathlib.Core.Option.{Option, none, some}
 use Prim.Native.Nat.{ℕ, suc, _*_, _≤_, _<_}
 use native.Mathlib.Omega.{arith}
 use borrow.Author.Tests.{ltb-true, ltb-false, lt-ltb, le-ltb}
 use lib.Dec.{eqb}
 use lib.ListN.{length}
-use Rattle.lists.specs.Lists.{b2n, any, find, upFrom, Each}
+use Rattle.lists.specs.Lists.{b2n, any, find, upFrom}
 use Rattle.lists.specs.ListsLaws.{any-yes, find-no, find-yes}
 use Rattle.address.specs.Address.{point, made}
 use Rattle.page.specs.declared.Pair.{Pair}
@@ -17,9 +16,9 @@ use Rattle.page.specs.declared.Entry.{Entry}
 use Rattle.page.specs.PairLaws.{no-way}
 use Rattle.model.specs.declared.Refusal.{Refusal}
 use Rattle.model.specs.declared.Stop.{Stop}
-use Rattle.model.specs.Index.{Page, Job, idle, copying, clearing, Index, chain, entriesAt, bucket, oldBucket}
+use Rattle.model.specs.Index.{Job, idle, copying, clearing, Index, chain, entriesAt, bucket, oldBucket}
 use Rattle.model.specs.Index.{topBit}
-use Rattle.model.specs.Pages.{hasRoom, pageRoom, bitsUsed, isFree, freeBit, Taken, put}
+use Rattle.model.specs.Pages.{hasRoom, bitsUsed, isFree, freeBit, Taken, put}
 use Rattle.model.specs.Held.{held, count, wanted}
 use Rattle.model.specs.Steps.{Step, stopped, toCopy, step}
 use Rattle.model.specs.Calls.{pairOk, Result, refused, insert}
@@ -27,27 +26,12 @@ use Rattle.model.specs.Steps.{copiesLeft}
 use Rattle.model.specs.WellFormed.{uses}
 use Rattle.model.specs.Room.{NoPage, NoPoint, NoStep}
 use Rattle.model.specs.TallyLaws.{or-left, or-right, tally-upFrom}
+use Rattle.model.specs.PackedLaws.{pages-full, full-pages}
 use Rattle.model.specs.LaidLaws.{TakenAs, nothing, again, fresh, take-view}
 use Rattle.model.specs.ViewLaws.{Putting, full, inPage, inNew, put-view, Inserting, already, noRoom, inserted}
 use Rattle.model.specs.ViewLaws.{insert-view, Beginning, noPoint, samePoint, newPoint, Stepping, resting}
 use Rattle.model.specs.ViewLaws.{unbegun}
 use Rattle.model.specs.ViewLaws.{began, uncopied, copied, copiedAll, cleared, clearedAll, step-view}
-
--- ---- the chain
-
-pages-full : (gs : List Page) → any pageRoom gs ≡ false → Each (λ (g : Page). 40 ≤ length (g .entries)) gs
-pages-full [] h = tt
-pages-full (g ∷ gs) h = go (pageRoom g) refl h (pages-full gs)
-  where
-    go : (b : Bool) → pageRoom g ≡ b → b || any pageRoom gs ≡ false
-        → (any pageRoom gs ≡ false → Each (λ (k : Page). 40 ≤ length (k .entries)) gs)
-        → Each (λ (k : Page). 40 ≤ length (k .entries)) (g ∷ gs)
-    go true e h ih = no-way refl h
-    go false e h ih = (ltb-false (length (g .entries)) 40 e, ih h)
-
-full-pages : (gs : List Page) → Each (λ (g : Page). 40 ≤ length (g .entries)) gs → any pageRoom gs ≡ false
-full-pages [] h = refl
-full-pages (g ∷ gs) h = rw (le-ltb (length (g .entries)) 40 (h .0)) (full-pages gs (h .1))
 
 -- ---- the overflow bits
 

@@ -3,18 +3,20 @@
 use mathlib.Core.Path.{_≡_, refl}
 use mathlib.Core.Bool.{Bool, true, false, not, _&&_}
 use Prim.Native.Nat.{ℕ}
-use lib.Dec.{eqb}
+use lib.Dec.{eqb, leb}
 use Rattle.page.specs.declared.Pair.{Pair}
 use Rattle.model.specs.declared.Order.{Order}
 use Rattle.model.specs.declared.Refusal.{Refusal}
 use Rattle.model.specs.declared.Answer.{Answer}
 use Rattle.model.specs.Answers.{refusalNo}
 use Rattle.model.specs.Index.{Index}
-use Rattle.model.specs.Steps.{next, step}
+use Rattle.model.specs.Steps.{next, iterate}
+use Rattle.model.specs.Squeeze.{squeeze, isBusy, bucketIn, bucketTest}
 use Rattle.model.specs.Calls.{Result, done, refused, sizeOk, formatOk, inUse, overwrites, budgetOk, format}
 use Rattle.model.specs.Calls.{formatIn, formatted, insert, remove, work}
-use Rattle.model.specs.Machine.{Call, formatting, inserting, removing, looking, working, asking, CallFits, Reply}
-use Rattle.model.specs.Machine.{plain, accepted, Ran, settled, workedIn, runIndex}
+use Rattle.model.specs.Machine.{Call, formatting, inserting, removing, looking, working, squeezing, asking}
+use Rattle.model.specs.Machine.{CallFits, Kind, ofSplits, ofSqueeze, Reply, plain, accepted, Ran, settled}
+use Rattle.model.specs.Machine.{workedIn, squeezedIn, runIndex, stepIndex}
 use Rattle.model.specs.Book.{Effect, empties, puts, takes, leaves, hasSteps, effect}
 use Rattle.model.specs.WorkLaws.{iterate-keeps}
 
@@ -27,6 +29,7 @@ refused-no Refusal.HeldAlready = refl
 refused-no Refusal.NotHeld = refl
 refused-no Refusal.NoRoom = refl
 refused-no (Refusal.OutputShort n) = refl
+refused-no Refusal.Busy = refl
 refused-no Refusal.InUse = refl
 
 pub data Running (x : Index) : Effect → Ran Index → Type 0 where
@@ -38,11 +41,11 @@ pub data Running (x : Index) : Effect → Ran Index → Type 0 where
   removes : {p : Pair} {y : Index} → remove x p ≡ done y
       → Running x (takes p) (record { reply = plain Answer.Done; state = y })
   reads : {r : Reply} → Running x leaves (record { reply = r; state = x })
-  works : {budget : ℕ} {r : Reply} → accepted r ≡ true
-      → Running x (hasSteps budget) (record { reply = r; state = work budget x .state })
+  works : {kind : Kind} {budget : ℕ} {r : Reply} → accepted r ≡ true
+      → Running x (hasSteps kind budget) (record { reply = r; state = iterate (stepIndex kind) budget x .state })
 
 pub run-view : (c : Call) → CallFits c → (x : Index) → Running x (effect c) (runIndex c x)
-unfolding runIndex formatted
+unfolding runIndex formatted work squeeze bucketTest
 run-view (formatting o) fits x = go (sizeOk (x .size)) (formatOk o) (not (overwrites o) && inUse x) refl refl
   where
     go : (s f p : Bool) → sizeOk (x .size) ≡ s → formatOk o ≡ f
@@ -64,9 +67,16 @@ run-view (removing p) fits x = go (remove x p) refl
 run-view (looking h out) fits x = reads
 run-view (working budget) fits x = go (budgetOk budget)
   where
-    go : (b : Bool) → Running x (hasSteps budget) (workedIn b x (work budget x))
+    go : (b : Bool) → Running x (hasSteps ofSplits budget) (workedIn b x (work budget x))
     go true = works refl
     go false = refuses refl
+run-view (squeezing b budget) fits x = go (budgetOk budget) (leb b (x .maxBucket)) (isBusy x b)
+  where
+    go : (a r u : Bool) → Running x (hasSteps (ofSqueeze b) budget) (squeezedIn a (bucketIn r u) x (squeeze b budget x))
+    go true true false = works refl
+    go true true true = refuses refl
+    go true false u = refuses refl
+    go false r u = refuses refl
 run-view asking fits x = reads
 
 -- ---- what every call keeps
@@ -77,10 +87,9 @@ pub record Keeps (P : Index → Type 0) : Type 0 where
       → P (format (x .size) o)
   pub inserts : (x : Index) (p : Pair) (y : Index) → P x → CallFits (inserting p) → insert x p ≡ done y → P y
   pub removes : (x : Index) (p : Pair) (y : Index) → P x → remove x p ≡ done y → P y
-  pub steps : (x y : Index) → P x → step x ≡ next y → P y
+  pub steps : (k : Kind) (x y : Index) → P x → stepIndex k x ≡ next y → P y
 
 pub run-keeps : (P : Index → Type 0) → Keeps P → (c : Call) → CallFits c → (x : Index) → P x → P (runIndex c x .state)
-unfolding work
 run-keeps P k c fits x h = go (run-view c fits x)
   where
     go : {e : Effect} {r : Ran Index} → Running x e r → P (r .state)
@@ -89,4 +98,4 @@ run-keeps P k c fits x h = go (run-view c fits x)
     go (inserts {p = p} {y = y} f e) = k .inserts x p y h f e
     go (removes {p = p} {y = y} e) = k .removes x p y h e
     go reads = h
-    go (works {budget = budget} d) = iterate-keeps step P (k .steps) budget x h
+    go (works {kind = j} {budget = budget} d) = iterate-keeps (stepIndex j) P (k .steps j) budget x h

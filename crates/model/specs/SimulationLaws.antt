@@ -1,16 +1,17 @@
 -- A machine L that does as a machine M does, state beside state: its moments stand beside M's, so what is always so of
 -- the one is always so of the other.
-use mathlib.Core.Path.{_≡_, refl, ap, ap₂}
+use mathlib.Core.Path.{_≡_, refl, ap, ap₂, subst}
 use mathlib.Core.Logic.{_↔_}
 use mathlib.Core.Bool.{Bool, true, false}
 use mathlib.Core.List.{List, [], _∷_, _++_}
-use Prim.Native.Nat.{ℕ, zero, suc, _+_, _≤_}
+use Prim.Native.Nat.{ℕ, zero, suc, _+_}
 use Rattle.lists.specs.Lists.{Each}
 use Rattle.model.specs.declared.Order.{Order}
 use Rattle.model.specs.declared.Stop.{Stop}
 use Rattle.model.specs.declared.Phase.{Phase}
 use Rattle.model.specs.Steps.{Step, next, stopped, Worked, iterate}
-use Rattle.model.specs.Machine.{Call, formatting, asking, CallFits, accepted, Machine}
+use Rattle.model.specs.Machine.{Call, formatting, asking, CallFits, Kind, ofSplits, ofSqueeze, stepping, accepted}
+use Rattle.model.specs.Machine.{Machine}
 use Rattle.model.specs.MachineLaws.{never}
 use Rattle.model.specs.Book.{Effect, empties, puts, takes, leaves, hasSteps, effect, noted, movers, since}
 use Rattle.model.specs.Book.{oneStep, counted, filled, begun}
@@ -55,6 +56,18 @@ module _ {S T : Type 0} (R : S → T → Type 0) where
   alike-stopped (stopped d) (next v) c k = absurd k
   alike-stopped (stopped d) (stopped e) c k = (λ h. cc, λ h. cc)
 
+  -- one that goes on goes beside one that goes on
+  pub record Goes (b : Step T) (s : S) : Type 0 where
+    pub state : T
+    pub goes : b ≡ next state
+    pub related : R s state
+
+  pub alike-next : (a : Step S) (b : Step T) (s : S) → Alike a b → a ≡ next s → Goes b s
+  alike-next (next u) (next v) s k e =
+      let h : u ≡ s = cc in record { state = v; goes = refl; related = subst (λ (u : S). R u v) h k }
+  alike-next (next u) (stopped d) s k e = absurd k
+  alike-next (stopped d) b s k e = never (cc)
+
 -- two lists of the same length, element beside element
 data Both {A B : Type 0} (P : A → B → Type 0) : List A → List B → Type 0 where
   ends : Both P [] []
@@ -85,10 +98,11 @@ module _ (M L : Machine) (R : L .State → M .State → Type 0) where
         → L .run c s .reply ≡ M .run c x .reply
     pub state : (c : Call) → CallFits c → (s : L .State) (x : M .State) → R s x
         → R (L .run c s .state) (M .run c x .state)
-    pub step : (s : L .State) (x : M .State) → R s x → Alike R (L .step s) (M .step x)
+    pub step : (k : Kind) (s : L .State) (x : M .State) → R s x → Alike R (L .step k s) (M .step k x)
     pub stored : (s : L .State) (x : M .State) → R s x → L .stored s ≡ M .stored x
-    -- L's work calls are made of its own steps (`iterate-works`)
-    pub works : (s : L .State) (x : M .State) → R s x → (budget : ℕ) → budget ≤ 65535 → WorkIs L s budget
+    -- L's work and squeeze calls that M accepts are made of L's own steps (`iterate-works`)
+    pub works : (k : Kind) (s : L .State) (x : M .State) → R s x → (budget : ℕ)
+        → accepted (M .run (stepping k budget) x .reply) ≡ true → WorkIs L k s budget
     -- whatever L formats, some state of M formats to a related one
     pub formats : (s : L .State) (o : Order) → CallFits (formatting o)
         → accepted (L .run (formatting o) s .reply) ≡ true → Formats s o
@@ -139,22 +153,26 @@ module _ {M L : Machine} (R : L .State → M .State → Type 0) where
     pub phase-same : (s : L .State) (x : M .State) → R s x → phaseAt L s ≡ phaseAt M x
     phase-same s x r = rw (sim .reply asking tt s x r, phaseAt) refl
 
-    stepped-beside : (t : Moment L) (u : Moment M) (s : L .State) (x : M .State) → Beside t u → R s x
-        → Beside (stepped L t s) (stepped M u x)
-    stepped-beside t u s x b r =
+    stepped-beside : (k : Kind) (t : Moment L) (u : Moment M) (s : L .State) (x : M .State) → Beside t u → R s x
+        → Beside (stepped L k t s) (stepped M k u x)
+    stepped-beside (ofSqueeze c) t u s x b r =
+        record { state = r; book = b .book; fill = b .fill; begins = b .begins; split = b .split }
+    stepped-beside ofSplits t u s x b r =
         rw (phase-same (t .state) (u .state) (b .state)) (stepIn-beside (phaseAt M (u .state)) t u s x b r)
 
-    stages-beside : (n : ℕ) (t : Moment L) (u : Moment M) → Beside t u → Both Beside (stages L n t) (stages M n u)
-    stages-beside zero t u b = ends
-    stages-beside (suc n) t u b =
-        go (L .step (t .state)) (M .step (u .state)) refl refl (sim .step (t .state) (u .state) (b .state)) (stages-beside n)
+    stages-beside : (k : Kind) (n : ℕ) (t : Moment L) (u : Moment M) → Beside t u
+        → Both Beside (stages L k n t) (stages M k n u)
+    stages-beside k zero t u b = ends
+    stages-beside k (suc n) t u b =
+        go (L .step k (t .state)) (M .step k (u .state)) refl refl (sim .step k (t .state) (u .state) (b .state))
+        (stages-beside k n)
       where
-        go : (k : Step (L .State)) (l : Step (M .State)) → L .step (t .state) ≡ k → M .step (u .state) ≡ l → Alike R k l
-            → ((v : Moment L) (w : Moment M) → Beside v w → Both Beside (stages L n v) (stages M n w))
-            → Both Beside (stages L (suc n) t) (stages M (suc n) u)
+        go : (p : Step (L .State)) (q : Step (M .State)) → L .step k (t .state) ≡ p → M .step k (u .state) ≡ q
+            → Alike R p q → ((v : Moment L) (w : Moment M) → Beside v w → Both Beside (stages L k n v) (stages M k n w))
+            → Both Beside (stages L k (suc n) t) (stages M k (suc n) u)
         go (next s) (next x) d e a ih =
-            let k = stepped-beside t u s x b a in
-            rw (d, e, stages) (also k (ih (stepped L t s) (stepped M u x) k))
+            let h = stepped-beside k t u s x b a in
+            rw (d, e, stages) (also h (ih (stepped L k t s) (stepped M k u x) h))
         go (next s) (stopped c) d e a ih = absurd a
         go (stopped c) (next x) d e a ih = absurd a
         go (stopped c) (stopped i) d e a ih = rw (d, e, stages) ends
@@ -166,7 +184,7 @@ module _ {M L : Machine} (R : L .State → M .State → Type 0) where
     within-beside true (puts p) t u b = ends
     within-beside true (takes p) t u b = ends
     within-beside true leaves t u b = ends
-    within-beside true (hasSteps budget) t u b = stages-beside budget t u b
+    within-beside true (hasSteps kind budget) t u b = stages-beside kind budget t u b
 
     history-beside : (cs : List Call) (t : Moment L) (u : Moment M) → Each CallFits cs → Beside t u
         → Both Beside (history L cs t) (history M cs u)

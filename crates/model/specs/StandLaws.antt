@@ -7,7 +7,7 @@ use Prim.Native.Nat.{ℕ, _≤_, _<_}
 use native.Mathlib.Omega.{arith}
 use native.Mathlib.Decide.{ℕ-discrete}
 use lib.ListN.{length}
-use lib.Seq.{getD-set-same, getD-set-other}
+use lib.Seq.{getD-set-same, getD-set-other, set-getD, set-set}
 use Rattle.lists.specs.Lists.{tally}
 use Rattle.lists.specs.ListsLaws.{tally-cong}
 use Rattle.page.specs.declared.Pair.{Pair}
@@ -21,6 +21,26 @@ use Rattle.lists.specs.ListsLaws.{and-false}
 use Rattle.model.specs.ChainLaws.{tally-without}
 
 -- ---- a chain set anew
+
+abbrev withChains : Index → List ℕ → List Chain → Index
+withChains x sp cs =
+    record {
+      size = x .size;
+      fill = x .fill;
+      number = x .number;
+      maxBucket = x .maxBucket;
+      spares = sp;
+      job = x .job;
+      chains = cs;
+    }
+
+-- twice; and as it was
+pub set-again : (x : Index) (sp : List ℕ) (b : ℕ) (c d : Chain)
+    → setChain (setChain x sp b c) sp b d ≡ setChain x sp b d
+set-again x sp b c d = ap (withChains x sp) (set-set (x .chains) b c d)
+
+pub set-back : (x : Index) (b : ℕ) → setChain x (x .spares) b (chain x b) ≡ x
+set-back x b = ap (withChains x (x .spares)) (set-getD (x .chains) b noChain)
 
 module _ (x : Index) (sp : List ℕ) (b : ℕ) (c : Chain) (fits : b < length (x .chains)) where
   pub chain-here : chain (setChain x sp b c) b ≡ c

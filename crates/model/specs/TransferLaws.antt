@@ -1,7 +1,7 @@
 -- Demand 3 carries over from a machine M to a machine L that does as M does.
 use mathlib.Core.Path.{_≡_, sym, ap, _∙_, subst}
 use mathlib.Core.Logic.{_↔_, _⊎_, inl, inr, ⊎-elim}
-use mathlib.Core.Bool.{true, false}
+use mathlib.Core.Bool.{Bool, true, false}
 use Prim.Native.Nat.{ℕ, suc, _+_}
 use Rattle.model.specs.declared.Stop.{Stop}
 use Rattle.model.specs.declared.Phase.{Phase}
@@ -10,12 +10,14 @@ use Rattle.model.specs.Held.{held}
 use Rattle.model.specs.Steps.{stopped}
 use Rattle.model.specs.Calls.{standing}
 use Rattle.model.specs.WellFormed.{WF}
-use Rattle.model.specs.Machine.{Call, formatting, inserting, removing, looking, asking, CallFits, Reply, Machine}
+use Rattle.model.specs.Machine.{Call, formatting, inserting, removing, looking, squeezing, asking, CallFits, Kind}
+use Rattle.model.specs.Machine.{ofSplits, ofSqueeze, Reply, accepted, Machine}
 use Rattle.model.specs.Book.{Book, has, Split, noSplit, since}
 use Rattle.model.specs.History.{Moment, phaseAt}
-use Rattle.model.specs.Demand.{JobIs, SplitIs, Faithful, Holds, Demand3}
+use Rattle.model.specs.Demand.{ofJob, JobIs, WorkIs, SqueezeIs, SplitIs, Faithful, Holds, Demand3}
 use Rattle.model.specs.Room.{RoomIs}
-use Rattle.model.specs.SimulationLaws.{alike-stopped, Simulates, Beside, phase-same, carry}
+use Rattle.model.specs.Shift.{ShiftIs}
+use Rattle.model.specs.SimulationLaws.{alike-stopped, alike-next, Simulates, Beside, phase-same, carry}
 
 module _ {M L : Machine} (R : L .State → M .State → Type 0) (sim : Simulates M L R) where
   faithful-beside : (t : Moment L) (u : Moment M) → Beside R t u → Faithful M u → Faithful L t
@@ -36,7 +38,8 @@ module _ {M L : Machine} (R : L .State → M .State → Type 0) (sim : Simulates
         inserted = λ p fits ok e. either (inserting p) fits (f .inserted p fits ok e);
         removals = λ p fits ok. answers (removing p) fits (f .removals p fits ok);
         removed = λ p fits ok e. reply (removing p) fits ∙ f .removed p fits ok e;
-        works = sim .works s x r;
+        works = λ budget h. works ofSplits budget (f .works budget h);
+        squeezes = λ c budget fits h. squeezes (2 + u .begins) c budget fits (f .squeezes c budget fits h);
         rests = rw phase (λ e. f .rests .0 (stops .0 e), λ e. stops .1 (f .rests .1 e));
         splits = splits (u .split) (f .splits);
       })
@@ -59,8 +62,21 @@ module _ {M L : Machine} (R : L .State → M .State → Type 0) (sim : Simulates
       phase : phaseAt L s ≡ phaseAt M x
       phase = phase-same R sim s x r
 
-      stops : (L .step s ≡ stopped Stop.Idle) ↔ (M .step x ≡ stopped Stop.Idle)
-      stops = alike-stopped R (L .step s) (M .step x) Stop.Idle (sim .step s x r)
+      stops : (L .step ofSplits s ≡ stopped Stop.Idle) ↔ (M .step ofSplits x ≡ stopped Stop.Idle)
+      stops = alike-stopped R (L .step ofSplits s) (M .step ofSplits x) Stop.Idle (sim .step ofSplits s x r)
+
+      works : (k : Kind) (budget : ℕ) → WorkIs M k x budget → WorkIs L k s budget
+      works k budget w = sim .works k s x r budget (ap accepted (w .reply))
+
+      squeezes : (n c budget : ℕ) → CallFits (squeezing c budget) → SqueezeIs M n c x budget → SqueezeIs L n c s budget
+      squeezes n c budget fits q =
+          let job : (e : Bool) → ofJob (phaseAt L s) c ≡ e → ofJob (phaseAt M x) c ≡ e =
+          λ e h. sym (ap (λ (ph : Phase). ofJob ph c) phase) ∙ h in
+          record {
+            above = λ l. reply (squeezing c budget) fits ∙ q .above l;
+            busy = λ l e. reply (squeezing c budget) fits ∙ q .busy l (job true e);
+            free = λ l e. works (ofSqueeze c) budget (q .free l (job false e));
+          }
 
       job : (n : ℕ) (ph : Phase) → JobIs M n ph → JobIs L n ph
       job n Phase.None j = tt
@@ -110,10 +126,37 @@ module _ {M L : Machine} (R : L .State → M .State → Type 0) (sim : Simulates
       e : j s ≡ i x
       e = same s x r
 
-      a : (L .step s ≡ stopped Stop.NoRoom) ↔ (M .step x ≡ stopped Stop.NoRoom)
-      a = alike-stopped R (L .step s) (M .step x) Stop.NoRoom (sim .step s x r)
+      a : (L .step ofSplits s ≡ stopped Stop.NoRoom) ↔ (M .step ofSplits x ≡ stopped Stop.NoRoom)
+      a = alike-stopped R (L .step ofSplits s) (M .step ofSplits x) Stop.NoRoom (sim .step ofSplits s x r)
+
+  shift-beside : (t : Moment L) (u : Moment M) → Beside R t u → ShiftIs M i u → ShiftIs L j t
+  shift-beside t u b f =
+      record {
+        stops = λ c k.
+            let a = alike-stopped R (L .step (ofSqueeze c) s) (M .step (ofSqueeze c) x) k (sim .step (ofSqueeze c) s x r) in
+            rw e (λ h. f .stops c k .0 (a .0 h), λ h. a .1 (f .stops c k .1 h));
+        moves = λ c y h.
+            let g = alike-next R (L .step (ofSqueeze c) s) (M .step (ofSqueeze c) x) y (sim .step (ofSqueeze c) s x r) h in
+            rw (e, same y (g .state) (g .related)) (f .moves c (g .state) (g .goes));
+      }
+    where
+      s : L .State
+      s = t .state
+
+      x : M .State
+      x = u .state
+
+      r : R s x
+      r = b .state
+
+      e : j s ≡ i x
+      e = same s x r
 
   -- what M does L does, and related states show the same index: so what is claimed of M's calls holds of L's
   pub transfer : Demand3 M i → Demand3 L j
   transfer =
-      carry R sim (Holds M i) (Holds L j) (λ t u b h. (faithful-beside R sim t u b (h .0), room-beside t u b (h .1)))
+      carry R sim (Holds M i) (Holds L j) (λ t u b h. (
+        faithful-beside R sim t u b (h .0),
+        room-beside t u b (h .1),
+        shift-beside t u b (h .2),
+      ))

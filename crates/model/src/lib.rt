@@ -19,6 +19,7 @@ pub enum Refusal {
     NotHeld,
     NoRoom,
     OutputShort { matches: u32 },
+    Busy,
     InUse,
 }
 
@@ -33,7 +34,7 @@ pub enum LookupAnswer {
     Refused(Refusal),
 }
 
-// Why work stopped: its budget is spent, there is nothing to do, or the next step finds no room.
+// Why work or a squeeze stopped: its budget is spent, there is nothing to do, or, of work, the next step finds no room.
 pub enum Stop {
     Spent,
     Idle,

@@ -17,6 +17,7 @@ pub fn refusal_number(refusal: Refusal) -> u32
         Refusal::NotHeld => 6,
         Refusal::NoRoom => 7,
         Refusal::OutputShort { matches: _ } => 8,
+        Refusal::Busy => 11,
         Refusal::InUse => 12,
     }
 }
@@ -34,6 +35,7 @@ pub fn refusal_gives(refusal: Refusal) -> u32
         Refusal::HeldAlready => 0,
         Refusal::NotHeld => 0,
         Refusal::NoRoom => 0,
+        Refusal::Busy => 0,
         Refusal::InUse => 0,
     }
 }

@@ -10,6 +10,8 @@ pub mod OutcomeHistoryLaws
 pub mod OutcomeMachineLaws
 pub mod Demand3Theorem
 pub mod InUseLaws
+pub mod SqueezeLaws
+pub mod SqueezeTheorem
 pub mod Cards
 pub mod CardsLaws
 pub mod StoreExamples

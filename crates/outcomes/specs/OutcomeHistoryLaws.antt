@@ -4,8 +4,8 @@ use mathlib.Core.Bool.{Bool, true, false}
 use mathlib.Core.List.{List}
 use Prim.Native.Nat.{ℕ}
 use Rattle.model.specs.Steps.{next}
-use Rattle.model.specs.Machine.{Call, CallFits, accepted}
-use Rattle.outcomes.specs.Outcomes.{stepOutcome, runStore}
+use Rattle.model.specs.Machine.{Call, CallFits, Kind, accepted}
+use Rattle.outcomes.specs.Outcomes.{runStore, stepStore}
 use Rattle.outcomes.specs.OutcomeLaws.{refusal-leaves}
 use Rattle.image.specs.SoundStore.{StaysSound}
 use Rattle.outcomes.specs.OutcomeSoundLaws.{call-sound, step-sound}
@@ -23,5 +23,5 @@ keeps-call s c f t h = go (accepted (runStore c t .reply)) refl
     go true e = longer s t (runStore c t .state) h (call-sound t (h .bytes) c f e)
     go false e = subst (StaysSound s) (sym (refusal-leaves c t e)) h
 
-pub keeps-step : (s t u : List ℕ) → StaysSound s t → stepOutcome t ≡ next u → StaysSound s u
-keeps-step s t u h e = longer s t u h (step-sound t (h .bytes) (h .index) u (h .legal) (h .sounds) e)
+pub keeps-step : (s : List ℕ) (k : Kind) (t u : List ℕ) → StaysSound s t → stepStore k t ≡ next u → StaysSound s u
+keeps-step s k t u h e = longer s t u h (step-sound t (h .bytes) k (h .index) u (h .legal) (h .sounds) e)

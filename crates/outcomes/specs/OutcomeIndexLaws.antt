@@ -2,6 +2,7 @@
 use mathlib.Core.Path.{_≡_, refl, sym, ap, _∙_, subst}
 use mathlib.Core.Bool.{Bool, true, false, not, _&&_}
 use mathlib.Core.List.{List}
+use mathlib.Core.Option.{Option, none, some}
 use Prim.Native.Nat.{ℕ, _%_}
 use lib.Dec.{eqb}
 use lib.ListN.{length}
@@ -15,14 +16,16 @@ use Rattle.model.specs.declared.WorkAnswer.{WorkAnswer}
 use Rattle.model.specs.Index.{Index}
 use Rattle.model.specs.Held.{held}
 use Rattle.model.specs.Steps.{Step, next, stopped, Worked, step, iterate}
+use Rattle.model.specs.Squeeze.{squeezeStep, squeeze, bucketTest}
 use Rattle.model.specs.Calls.{Result, done, refused, sizeOk, formatOk, inUse, overwrites, pairOk, budgetOk, format}
 use Rattle.model.specs.Calls.{formatIn, formatted, insertIn, insert, removeIn, remove, Looked, lookup, standing, work}
-use Rattle.model.specs.Machine.{Call, formatting, inserting, removing, looking, working, asking, CallFits, plain}
-use Rattle.model.specs.Machine.{looked, worked, stands, Ran, settled, workedIn, runIndex}
+use Rattle.model.specs.Machine.{Call, formatting, inserting, removing, looking, working, squeezing, asking, CallFits}
+use Rattle.model.specs.Machine.{Kind, ofSplits, ofSqueeze, plain, looked, worked, stands, Ran, settled, workedIn}
+use Rattle.model.specs.Machine.{squeezedIn, runIndex, stepIndex}
 use Rattle.model.specs.WellFormed.{WF}
 use Rattle.model.specs.InsertLaws.{insert-wf}
 use Rattle.model.specs.RemoveLaws.{remove-wf}
-use Rattle.model.specs.StepLaws.{step-wf}
+use Rattle.model.specs.KindLaws.{kind-wf}
 use Rattle.model.specs.FormatLaws.{format-wf}
 use Rattle.model.specs.RunLaws.{run-keeps}
 use Rattle.model.specs.SimulationLaws.{Alike, iterate-alike}
@@ -33,10 +36,11 @@ use Rattle.image.specs.Rules.{lengthOk}
 use Rattle.outcomes.specs.Outcomes.{formatReplacing, formatOutcome, insertOn, insertOutcome, removeOn}
 use Rattle.outcomes.specs.Outcomes.{removeOutcome, lookupOn}
 use Rattle.outcomes.specs.Outcomes.{lookupOutcome, standingOn, standingOutcome, stepOn, stepOutcome, WorkDone}
-use Rattle.outcomes.specs.Outcomes.{workOn, workOutcome, runStore}
+use Rattle.outcomes.specs.Outcomes.{workOn, workOutcome, squeezeStepOutcome, unlessRefused, bucketTested}
+use Rattle.outcomes.specs.Outcomes.{squeezeOutcome, runStore, stepStore}
 use Rattle.image.specs.SoundStore.{Encodes}
 use Rattle.image.specs.BridgeTheorem.{encoding-is-sound}
-use Rattle.outcomes.specs.OutcomeLaws.{tested-number, tested-verdict}
+use Rattle.outcomes.specs.OutcomeLaws.{tested-number, tested-verdict, step-read, bucket-passes}
 
 module _ (x : Index) (w : WF x) where
   pub tested-encode : tested true (encode x) ≡ passed x
@@ -94,19 +98,19 @@ module _ (x : Index) (w : WF x) where
   unfolding standingOutcome
   standing-encode = ap standingOn tested-encode
 
-  pub step-encode : stepOutcome (encode x) ≡ stepOn (step x)
-  unfolding stepOutcome
-  step-encode = ap (λ (y : Index). stepOn (step y)) (encoding-is-sound x w .read)
+  pub step-encode : (k : Kind) → stepStore k (encode x) ≡ stepOn (stepIndex k x)
+  step-encode k =
+      step-read k (encode x) ∙ ap (λ (y : Index). stepOn (stepIndex k y)) (encoding-is-sound x w .read)
 
--- ---- work, by iteration
+-- ---- work and squeeze, by iteration
 
-pub step-alike : (s : List ℕ) (x : Index) → Encodes s x → Alike Encodes (stepOutcome s) (step x)
-step-alike s x r =
-    subst (λ (a : Step (List ℕ)). Alike Encodes a (step x)) (sym (ap stepOutcome (r .1) ∙ step-encode x (r .0)))
-    (go (step x) refl)
+pub step-alike : (k : Kind) (s : List ℕ) (x : Index) → Encodes s x → Alike Encodes (stepStore k s) (stepIndex k x)
+step-alike k s x r =
+    subst (λ (a : Step (List ℕ)). Alike Encodes a (stepIndex k x))
+    (sym (ap (stepStore k) (r .1) ∙ step-encode x (r .0) k)) (go (stepIndex k x) refl)
   where
-    go : (a : Step Index) → step x ≡ a → Alike Encodes (stepOn a) a
-    go (next y) e = (step-wf x y (r .0) e, refl)
+    go : (a : Step Index) → stepIndex k x ≡ a → Alike Encodes (stepOn a) a
+    go (next y) e = (kind-wf k x y (r .0) e, refl)
     go (stopped c) e = refl
 
 -- a work call's steps and stop are the model's, and its store the bytes of the model's index
@@ -119,7 +123,7 @@ pub work-encode : (x : Index) → WF x → (budget : ℕ) → budgetOk budget �
     }
 unfolding workOutcome work
 work-encode x w budget e =
-    let a = iterate-alike Encodes stepOutcome step step-alike budget (encode x) x (w, refl) in
+    let a = iterate-alike Encodes stepOutcome step (step-alike ofSplits) budget (encode x) x (w, refl) in
     let t = ap (λ (b : Bool). tested b (encode x)) e ∙ tested-encode x w in
     ap (λ (t : Tested). workOn t (encode x) (iterate stepOutcome budget (encode x))) t
     ∙ (λ i. record { answer = WorkAnswer.Worked (a .steps i) (a .stop i); store = a .state .1 i })
@@ -130,6 +134,22 @@ unfolding workOutcome
 work-wrong x w budget e =
     ap (λ (t : Tested). workOn t (encode x) (iterate stepOutcome budget (encode x)))
     (ap (λ (b : Bool). tested b (encode x)) e ∙ tested-wrong x w)
+
+-- and so a squeeze's
+pub squeeze-encode : (x : Index) → WF x → (b budget : ℕ) → budgetOk budget ≡ true → bucketTest x b ≡ none
+    → squeezeOutcome (encode x) b budget
+    ≡ record {
+      answer = WorkAnswer.Worked (squeeze b budget x .steps) (squeeze b budget x .stop);
+      store = encode (squeeze b budget x .state);
+    }
+unfolding squeezeOutcome squeeze
+squeeze-encode x w b budget e f =
+    let a = iterate-alike Encodes (squeezeStepOutcome b) (squeezeStep b) (step-alike (ofSqueeze b)) budget (encode x) x
+    (w, refl) in
+    let t = ap (λ (b : Bool). tested b (encode x)) e ∙ tested-encode x w in
+    ap (λ (t : Tested). workOn t (encode x) (iterate (squeezeStepOutcome b) budget (encode x)))
+    (bucket-passes (tested (budgetOk budget) (encode x)) b x t f)
+    ∙ (λ i. record { answer = WorkAnswer.Worked (a .steps i) (a .stop i); store = a .state .1 i })
 
 -- ---- all calls at once
 
@@ -146,7 +166,7 @@ settle x (done y) = refl
 settle x (refused r) = refl
 
 pub run-encode : (c : Call) (x : Index) → WF x → runStore c (encode x) ≡ written (runIndex c x)
-unfolding runStore runIndex plainly
+unfolding runStore runIndex plainly squeezeOutcome
 run-encode (formatting o) x w = ap plainly (format-encode x w o) ∙ settle x (formatted x o)
 run-encode (inserting p) x w = ap plainly (insert-encode x w p) ∙ settle x (insert x p)
 run-encode (removing p) x w = ap plainly (remove-encode x w p) ∙ settle x (remove x p)
@@ -160,6 +180,25 @@ run-encode (working budget) x w = go (budgetOk budget) refl
     go : (b : Bool) → budgetOk budget ≡ b → ran (workOutcome (encode x) budget) ≡ written (workedIn b x (work budget x))
     go true e = ap ran (work-encode x w budget e)
     go false e = ap ran (work-wrong x w budget e)
+run-encode (squeezing b budget) x w = go (budgetOk budget) refl (bucketTest x b) refl
+  where
+    ran : WorkDone → Ran (List ℕ)
+    ran c = record { reply = worked (c .answer); state = c .store }
+
+    steps : Worked (List ℕ)
+    steps = iterate (squeezeStepOutcome b) budget (encode x)
+
+    tests : {t : Tested} → tested (budgetOk budget) (encode x) ≡ t
+        → ran (squeezeOutcome (encode x) b budget) ≡ ran (workOn (bucketTested t b) (encode x) steps)
+    tests e = ap (λ (t : Tested). ran (workOn (bucketTested t b) (encode x) steps)) e
+
+    go : (a : Bool) → budgetOk budget ≡ a → (q : Option Refusal) → bucketTest x b ≡ q
+        → ran (squeezeOutcome (encode x) b budget) ≡ written (squeezedIn a q x (squeeze b budget x))
+    go true e none f = ap ran (squeeze-encode x w b budget e f)
+    go true e (some r) f =
+        tests (ap (λ (a : Bool). tested a (encode x)) e ∙ tested-encode x w)
+        ∙ ap (λ (q : Option Refusal). ran (workOn (unlessRefused q x) (encode x) steps)) f
+    go false e q f = tests (ap (λ (a : Bool). tested a (encode x)) e ∙ tested-wrong x w)
 run-encode asking x w = ap (λ (a : StandingAnswer). record { reply = stands a; state = encode x }) (standing-encode x w)
 
 -- and its index is well-formed
@@ -170,5 +209,5 @@ run-wf =
       formats = λ x o g s f w. format-wf (x .size) o g s f;
       inserts = insert-wf;
       removes = remove-wf;
-      steps = step-wf;
+      steps = kind-wf;
     })

@@ -1,10 +1,10 @@
--- What the outcomes are, on any bytes: a test that fails is the refusal, and leaves store and output; a work call is
--- its steps.
+-- What the outcomes are, on any bytes: a test that fails is the refusal, and leaves store and output; a work or squeeze
+-- call is its steps.
 use mathlib.Core.Path.{_≡_, refl, sym, ap, ap₂, _∙_, subst}
 use mathlib.Core.Logic.{_≢_, _↔_}
 use mathlib.Core.Bool.{Bool, true, false, not, _&&_}
 use mathlib.Core.List.{List}
-use mathlib.Core.Option.{some}
+use mathlib.Core.Option.{Option, none, some}
 use Prim.Native.Nat.{ℕ, _/_, _<_}
 use lib.Dec.{leb}
 use lib.ListN.{length}
@@ -17,15 +17,16 @@ use Rattle.model.specs.declared.LookupAnswer.{LookupAnswer}
 use Rattle.model.specs.declared.Stop.{Stop}
 use Rattle.model.specs.declared.WorkAnswer.{WorkAnswer}
 use Rattle.model.specs.Index.{Index}
-use Rattle.model.specs.Steps.{Step, next, stopped, step, iterate}
+use Rattle.model.specs.Steps.{Step, next, stopped, iterate}
+use Rattle.model.specs.Squeeze.{bucketTest}
 use Rattle.model.specs.Calls.{Result, done, refused, formatOk, overwrites, pairOk, budgetOk, format, formatIn}
 use Rattle.model.specs.Calls.{insert, remove, listed, lookup}
 use Rattle.model.specs.Held.{matches}
-use Rattle.model.specs.Machine.{Call, formatting, inserting, removing, looking, working, asking, Reply, plain, looked}
-use Rattle.model.specs.Machine.{worked, stands, accepted, Ran}
+use Rattle.model.specs.Machine.{Call, formatting, inserting, removing, looking, working, squeezing, asking, Kind}
+use Rattle.model.specs.Machine.{ofSplits, ofSqueeze, Reply, plain, looked, worked, stands, accepted, Ran, stepIndex}
 use Rattle.model.specs.Book.{effect}
 use Rattle.model.specs.RunLaws.{refused-no}
-use Rattle.model.specs.MachineLaws.{never, step-unspent, iterate-works}
+use Rattle.model.specs.MachineLaws.{never, kind-unspent, iterate-works}
 use Rattle.model.specs.Demand.{afterSteps, WorkIs}
 use Rattle.image.specs.Layout.{encode}
 use Rattle.image.specs.Decode.{decode}
@@ -35,7 +36,8 @@ use Rattle.image.specs.Rules.{lengthOk}
 use Rattle.outcomes.specs.Outcomes.{formatReplacing, formatOutcome, insertOn, insertOutcome, removeOn}
 use Rattle.outcomes.specs.Outcomes.{removeOutcome}
 use Rattle.outcomes.specs.Outcomes.{lookupOn, lookupOutcome, standingOn, standingOutcome, stepOn, stepOutcome}
-use Rattle.outcomes.specs.Outcomes.{workOn, workOutcome, runStore, onStore}
+use Rattle.outcomes.specs.Outcomes.{workOn, workOutcome, squeezeStepOutcome, unlessRefused, bucketTested}
+use Rattle.outcomes.specs.Outcomes.{squeezeOutcome, runStore, stepStore, onStore}
 use Rattle.outcomes.specs.Refusals.{callNumbersOk, Tests, refusedAs}
 
 -- ---- the tests, in their order
@@ -67,13 +69,23 @@ module _ (s : List ℕ) where
       go true true (notIndex r) p q e = never (cc)
       go true true (sound y) p q e = (p, (let z : y ≡ x = cc in q ∙ ap sound z))
 
+  -- of a call whose numbers are good
+  pub passed-numbers : (n : Bool) (x : Index) → tested n s ≡ passed x → n ≡ true
+  unfolding tested
+  passed-numbers true x e = refl
+  passed-numbers false x e = go (lengthOk s) e
+    where
+      go : (l : Bool) → testedIn l false (verdict s) ≡ passed x → false ≡ true
+      go true e = never (cc)
+      go false e = never (cc)
+
 -- ---- a call whose tests fail
 
 -- the refusal, and the store as it was
 pub run-failed : (c : Call) → Tests (effect c) → (s : List ℕ) (r : Refusal)
     → tested (callNumbersOk (effect c)) s ≡ failed r
     → runStore c s ≡ record { reply = refusedAs c r; state = s }
-unfolding runStore insertOutcome removeOutcome lookupOutcome standingOutcome workOutcome
+unfolding runStore insertOutcome removeOutcome lookupOutcome standingOutcome workOutcome squeezeOutcome
 run-failed (formatting o) t s r e = absurd t
 run-failed (inserting p) t s r e =
     ap (λ (a : Tested). let c = insertOn a s p in record { reply = plain (c .answer); state = c .store }) e
@@ -82,6 +94,9 @@ run-failed (removing p) t s r e =
 run-failed (looking h out) t s r e = ap (λ (a : Tested). record { reply = looked (lookupOn a h out); state = s }) e
 run-failed (working budget) t s r e =
     ap (λ (a : Tested). let c = workOn a s (iterate stepOutcome budget s) in
+    record { reply = worked (c .answer); state = c .store }) e
+run-failed (squeezing b budget) t s r e =
+    ap (λ (a : Tested). let c = workOn (bucketTested a b) s (iterate (squeezeStepOutcome b) budget s) in
     record { reply = worked (c .answer); state = c .store }) e
 run-failed asking t s r e = ap (λ (a : Tested). record { reply = stands (standingOn a); state = s }) e
 
@@ -124,7 +139,8 @@ changes c s x e (done y) = accepts e refl
 changes c s x e (refused r) = refuses (refused-no r)
 
 pub store-view : (c : Call) (s : List ℕ) → StoreRun c s (runStore c s)
-unfolding runStore formatReplacing formatOutcome insertOutcome removeOutcome lookupOutcome workOutcome standingOutcome
+unfolding runStore formatReplacing formatOutcome insertOutcome removeOutcome lookupOutcome workOutcome squeezeOutcome
+    standingOutcome
 store-view (formatting o) s = go (lengthOk s) (formatOk o) (not (overwrites o) && storeInUse s) refl refl
   where
     go : (l f p : Bool) → lengthOk s ≡ l → formatOk o ≡ f
@@ -159,6 +175,19 @@ store-view (working budget) s = go (tested (budgetOk budget) s) refl
         StoreRun (working budget) s (record { reply = worked (d .answer); state = d .store })
     go (failed r) e = refuses (refused-no r)
     go (passed x) e = accepts e refl
+store-view (squeezing b budget) s = go (tested (budgetOk budget) s) refl
+  where
+    after : (q : Option Refusal) (x : Index) → tested (budgetOk budget) s ≡ passed x
+        → let d = workOn (unlessRefused q x) s (iterate (squeezeStepOutcome b) budget s) in
+        StoreRun (squeezing b budget) s (record { reply = worked (d .answer); state = d .store })
+    after (some r) x e = refuses (refused-no r)
+    after none x e = accepts e refl
+
+    go : (t : Tested) → tested (budgetOk budget) s ≡ t
+        → let d = workOn (bucketTested t b) s (iterate (squeezeStepOutcome b) budget s) in
+        StoreRun (squeezing b budget) s (record { reply = worked (d .answer); state = d .store })
+    go (failed r) e = refuses (refused-no r)
+    go (passed x) e = after (bucketTest x b) x e
 store-view asking s = go (tested true s) refl
   where
     go : (t : Tested) → tested true s ≡ t → StoreRun asking s (record { reply = stands (standingOn t); state = s })
@@ -191,24 +220,44 @@ refusal-output s h out r e = go (tested true s) e
 
 -- ---- "The step count is the number of these steps and the store is theirs"
 
-unspent : (s : List ℕ) → stepOutcome s ≢ stopped Stop.Spent
-unfolding stepOutcome
-unspent s e = go (step (decode s)) (step-unspent (decode s)) e
+-- a step of a store is one of the index that it is read as
+pub step-read : (k : Kind) (s : List ℕ) → stepStore k s ≡ stepOn (stepIndex k (decode s))
+unfolding stepOutcome squeezeStepOutcome
+step-read ofSplits s = refl
+step-read (ofSqueeze b) s = refl
+
+unspent : (k : Kind) (s : List ℕ) → stepStore k s ≢ stopped Stop.Spent
+unspent k s e = go (stepIndex k (decode s)) (kind-unspent k (decode s)) (sym (step-read k s) ∙ e)
   where
     go : (r : Step Index) → r ≢ stopped Stop.Spent → stepOn r ≢ stopped Stop.Spent
     go (next y) h e = never (cc)
     go (stopped r) h e = h (cc)
 
-pub work-steps : (s : List ℕ) (budget : ℕ) (x : Index) → tested (budgetOk budget) s ≡ passed x → WorkIs onStore s budget
+pub work-steps : (s : List ℕ) (budget : ℕ) (x : Index) → tested (budgetOk budget) s ≡ passed x
+    → WorkIs onStore ofSplits s budget
 unfolding runStore workOutcome
 work-steps s budget x e =
-    iterate-works onStore unspent s budget
+    iterate-works onStore ofSplits (unspent ofSplits) s budget
     (ap (λ (t : Tested). let c = workOn t s (iterate stepOutcome budget s) in
     record { reply = worked (c .answer); state = c .store }) e)
 
+-- both tests passed
+pub bucket-passes : (t : Tested) (b : ℕ) (x : Index) → t ≡ passed x → bucketTest x b ≡ none
+    → bucketTested t b ≡ passed x
+bucket-passes t b x e f =
+    ap (λ (a : Tested). bucketTested a b) e ∙ ap (λ (q : Option Refusal). unlessRefused q x) f
+
+pub squeeze-steps : (s : List ℕ) (b budget : ℕ) (x : Index) → tested (budgetOk budget) s ≡ passed x
+    → bucketTest x b ≡ none → WorkIs onStore (ofSqueeze b) s budget
+unfolding runStore squeezeOutcome
+squeeze-steps s b budget x e f =
+    iterate-works onStore (ofSqueeze b) (unspent (ofSqueeze b)) s budget
+    (ap (λ (t : Tested). let c = workOn t s (iterate (squeezeStepOutcome b) budget s) in
+    record { reply = worked (c .answer); state = c .store }) (bucket-passes (tested (budgetOk budget) s) b x e f))
+
 -- the store is that of its steps, and it stopped when the budget was spent or for what the next step says
 pub record WorkEnds (s : List ℕ) (budget k : ℕ) (r : Stop) : Type 0 where
-  pub store : afterSteps onStore k s ≡ some (workOutcome s budget .store)
+  pub store : afterSteps onStore ofSplits k s ≡ some (workOutcome s budget .store)
   pub spent : (k ≡ budget) ↔ (r ≡ Stop.Spent)
   pub ended : k ≢ budget → (k < budget) × (stepOutcome (workOutcome s budget .store) ≡ stopped r)
 
@@ -220,11 +269,11 @@ work-ends s budget k r e = go (tested (budgetOk budget) s) refl e
     same : (i : ℕ) (q : Stop) → worked (WorkAnswer.Worked k r) ≡ worked (WorkAnswer.Worked i q) → (i ≡ k) × (q ≡ r)
     same i q h = (cc, cc)
 
-    given : WorkIs onStore s budget → WorkEnds s budget k r
+    given : WorkIs onStore ofSplits s budget → WorkEnds s budget k r
     given d =
         let h = same (d .steps) (d .stop) (ap worked (sym e) ∙ d .reply) in
         record {
-          store = ap (λ (i : ℕ). afterSteps onStore i s) (sym (h .0)) ∙ d .reached;
+          store = ap (λ (i : ℕ). afterSteps onStore ofSplits i s) (sym (h .0)) ∙ d .reached;
           spent = (λ q. sym (h .1) ∙ d .spent .0 (h .0 ∙ q), λ q. sym (h .0) ∙ d .spent .1 (h .1 ∙ q));
           ended = λ ne.
               let f = d .ended (λ q. ne (sym (h .0) ∙ q)) in
@@ -239,7 +288,7 @@ work-ends s budget k r e = go (tested (budgetOk budget) s) refl e
 
 -- "Steps done before a stop 7 stay; the refused one changes nothing."
 pub work-noRoom : (s : List ℕ) (budget k : ℕ) → workOutcome s budget .answer ≡ WorkAnswer.Worked k Stop.NoRoom
-    → (afterSteps onStore k s ≡ some (workOutcome s budget .store))
+    → (afterSteps onStore ofSplits k s ≡ some (workOutcome s budget .store))
     × (stepOutcome (workOutcome s budget .store) ≡ stopped Stop.NoRoom)
 work-noRoom s budget k e =
     let d = work-ends s budget k Stop.NoRoom e in

@@ -1,23 +1,29 @@
 -- A store does as the well-formed index does whose bytes it is: a simulation, by which demand 3 carries over.
-use mathlib.Core.Path.{_≡_, sym, ap, ap₂, _∙_, subst}
-use mathlib.Core.Bool.{Bool, true, not, _&&_}
+use mathlib.Core.Path.{_≡_, refl, sym, ap, ap₂, _∙_, subst}
+use mathlib.Core.Bool.{Bool, true, false, not, _&&_}
 use mathlib.Core.List.{List}
+use mathlib.Core.Option.{Option, none, some}
 use Prim.Native.Nat.{ℕ}
-use borrow.Author.Tests.{le-leb}
 use Rattle.lists.specs.Block.{blocks}
 use Rattle.endian.specs.Endian.{u32At}
 use Rattle.model.specs.declared.Order.{Order}
+use Rattle.model.specs.declared.Refusal.{Refusal}
 use Rattle.model.specs.declared.Answer.{Answer}
 use Rattle.model.specs.Index.{Index}
-use Rattle.model.specs.Calls.{inUse, overwrites, format, formatIn, formatted}
-use Rattle.model.specs.Machine.{formatting, CallFits, plain, accepted, Ran, settled, runIndex, onIndex}
+use Rattle.model.specs.Squeeze.{squeeze, bucketTest}
+use Rattle.model.specs.Calls.{inUse, overwrites, budgetOk, format, formatIn, formatted, work}
+use Rattle.model.specs.Machine.{formatting, CallFits, Kind, ofSplits, ofSqueeze, stepping, plain, accepted, Ran, settled}
+use Rattle.model.specs.Machine.{workedIn, squeezedIn, runIndex, onIndex}
+use Rattle.model.specs.MachineLaws.{never}
+use Rattle.model.specs.Demand.{WorkIs}
+use Rattle.model.specs.RunLaws.{refused-no}
 use Rattle.model.specs.WellFormed.{WF}
 use Rattle.model.specs.FormatLaws.{format-free}
 use Rattle.model.specs.SimulationLaws.{Formats, Simulates}
 use Rattle.image.specs.Layout.{encode}
 use Rattle.outcomes.specs.Outcomes.{tested, Changed, runStore, onStore}
 use Rattle.image.specs.BridgeTheorem.{count-encode}
-use Rattle.outcomes.specs.OutcomeLaws.{work-steps}
+use Rattle.outcomes.specs.OutcomeLaws.{work-steps, squeeze-steps}
 use Rattle.outcomes.specs.OutcomeSoundLaws.{legal-size, Formatted, format-done}
 use Rattle.image.specs.SoundStore.{Encodes}
 use Rattle.outcomes.specs.OutcomeIndexLaws.{tested-encode, step-alike, run-encode, run-wf}
@@ -49,6 +55,24 @@ formats s o fits e =
         (legal-size s (f .legal)) (f .numbers)
         ∙ ap (λ (p : Bool). settled y (formatIn true true p y)) (format-free (blocks s) o)
 
+-- a work or squeeze call that the index accepts is made of the store's own steps
+works : (k : Kind) (s : List ℕ) (x : Index) → Encodes s x → (budget : ℕ)
+    → accepted (runIndex (stepping k budget) x .reply) ≡ true → WorkIs onStore k s budget
+unfolding runIndex
+works ofSplits s x r budget e = go (budgetOk budget) refl e
+  where
+    go : (a : Bool) → budgetOk budget ≡ a → accepted (workedIn a x (work budget x) .reply) ≡ true
+        → WorkIs onStore ofSplits s budget
+    go true h e = work-steps s budget x (ap₂ tested h (r .1) ∙ tested-encode x (r .0))
+    go false h e = never (cc)
+works (ofSqueeze b) s x r budget e = go (budgetOk budget) refl (bucketTest x b) refl e
+  where
+    go : (a : Bool) → budgetOk budget ≡ a → (q : Option Refusal) → bucketTest x b ≡ q
+        → accepted (squeezedIn a q x (squeeze b budget x) .reply) ≡ true → WorkIs onStore (ofSqueeze b) s budget
+    go true h none g e = squeeze-steps s b budget x (ap₂ tested h (r .1) ∙ tested-encode x (r .0)) g
+    go true h (some q) g e = let n = refused-no q in never (cc)
+    go false h q g e = never (cc)
+
 -- the bytes of a well-formed index do as the index does
 pub simulates : Simulates onIndex onStore Encodes
 simulates =
@@ -62,7 +86,6 @@ simulates =
           );
       step = step-alike;
       stored = λ s x r. ap (λ (t : List ℕ). u32At t 8) (r .1) ∙ count-encode x (r .0);
-      works =
-          λ s x r budget h. work-steps s budget x (ap₂ tested (le-leb budget 65535 h) (r .1) ∙ tested-encode x (r .0));
+      works = works;
       formats = formats;
     }

@@ -13,13 +13,13 @@ use Rattle.lists.specs.Block.{blocks}
 use Rattle.model.specs.declared.Order.{Order}
 use Rattle.model.specs.declared.Answer.{Answer}
 use Rattle.model.specs.Index.{Index}
-use Rattle.model.specs.Steps.{Step, next, stopped, step}
+use Rattle.model.specs.Steps.{Step, next, stopped}
 use Rattle.model.specs.Calls.{sizeOk, formatOk, overwrites, format, formatIn}
-use Rattle.model.specs.Machine.{Call, formatting, CallFits, plain, accepted, Ran, runIndex}
+use Rattle.model.specs.Machine.{Call, formatting, CallFits, Kind, plain, accepted, Ran, runIndex, stepIndex}
 use Rattle.model.specs.Book.{effect}
 use Rattle.model.specs.WellFormed.{WF}
-use Rattle.model.specs.FrameLaws.{insert-frame, remove-frame, step-store}
-use Rattle.model.specs.StepLaws.{step-wf}
+use Rattle.model.specs.FrameLaws.{insert-frame, remove-frame}
+use Rattle.model.specs.KindLaws.{kind-wf, kind-store}
 use Rattle.model.specs.RunLaws.{run-keeps}
 use Rattle.model.specs.FormatLaws.{format-wf}
 use Rattle.model.specs.MachineLaws.{never}
@@ -27,7 +27,7 @@ use Rattle.image.specs.Layout.{encode}
 use Rattle.image.specs.Rules.{sound, verdict}
 use Rattle.outcomes.specs.Outcomes.{passed, judged, tested, storeInUse, Changed, changed, formatReplacing}
 use Rattle.image.specs.Rules.{lengthOk}
-use Rattle.outcomes.specs.Outcomes.{formatOutcome, stepOn, stepOutcome, runStore}
+use Rattle.outcomes.specs.Outcomes.{formatOutcome, stepOn, runStore, stepStore}
 use Rattle.image.specs.BridgeTheorem.{sound-is-encoding, encoding-is-sound}
 use Rattle.outcomes.specs.Refusals.{callNumbersOk}
 use Rattle.outcomes.specs.OutcomeLaws.{passed-sound, StoreRun, refuses, formats, reads, accepts, store-view}
@@ -44,7 +44,7 @@ run-size c f x =
       formats = λ y o g s k h. h;
       inserts = λ y p z h k e. insert-frame y p z e .frame .size ∙ h;
       removes = λ y p z h e. remove-frame y p z e .frame .size ∙ h;
-      steps = λ y z h e. step-store y z e .size ∙ h;
+      steps = λ k y z h e. kind-store k y z e .size ∙ h;
     })
     c f x refl
 
@@ -149,15 +149,15 @@ module _ (s : List ℕ) (b : Bytes s) where
       go (reads {x = x} k) e q = passing x k q
       go (accepts {x = x} k h) e q = passing x k q
 
-  pub step-sound : (x : Index) (t : List ℕ) → lengthOk s ≡ true → verdict s ≡ sound x → stepOutcome s ≡ next t
-      → StaysSound s t
-  step-sound x t h v e = go (step x) refl (sym (ap stepOutcome (r .1) ∙ step-encode x (r .0)) ∙ e)
+  pub step-sound : (k : Kind) (x : Index) (t : List ℕ) → lengthOk s ≡ true → verdict s ≡ sound x
+      → stepStore k s ≡ next t → StaysSound s t
+  step-sound k x t h v e = go (stepIndex k x) refl (sym (ap (stepStore k) (r .1) ∙ step-encode x (r .0) k) ∙ e)
     where
       r : Encodes s x
       r = let g = sound-is-encoding s x b h v in (g .wf, g .bytes)
 
-      go : (a : Step Index) → step x ≡ a → stepOn a ≡ next t → StaysSound s t
-      go (next y) k q =
+      go : (a : Step Index) → stepIndex k x ≡ a → stepOn a ≡ next t → StaysSound s t
+      go (next y) i q =
           let z : encode y ≡ t = cc in
-          encoded s t y h (step-wf x y (r .0) k, sym z) (step-store x y k .size ∙ size-is x r)
-      go (stopped c) k q = never (cc)
+          encoded s t y h (kind-wf k x y (r .0) i, sym z) (kind-store k x y i .size ∙ size-is x r)
+      go (stopped c) i q = never (cc)

@@ -1,8 +1,10 @@
 -- What each call does to a store: from bytes, numbers and output to answer, store and output. docs/RULES.md 2.2: "The
 -- order is 1, 2, 3, 4, 8, 5 or 6, 7. Format tests 1, 2 and 12 only, in this order. Every refusal leaves store and
--- output untouched, but for work (6.7)."
+-- output untouched, but for work and squeeze (6.7, 6.13). Squeeze tests 1, 2 (the budget), 3, 4, 2 (the bucket), 11,
+-- in this order."
 use mathlib.Core.Bool.{Bool, true, false, cond, not, _&&_}
 use mathlib.Core.List.{List}
+use mathlib.Core.Option.{Option, none, some}
 use Prim.Native.Nat.{ℕ}
 use lib.ListN.{length}
 use Rattle.lists.specs.Block.{blocks}
@@ -16,10 +18,11 @@ use Rattle.model.specs.declared.WorkAnswer.{WorkAnswer}
 use Rattle.model.specs.declared.StandingAnswer.{StandingAnswer}
 use Rattle.model.specs.Index.{Index}
 use Rattle.model.specs.Steps.{Step, next, stopped, Worked, step, iterate}
+use Rattle.model.specs.Squeeze.{squeezeStep, bucketTest}
 use Rattle.model.specs.Calls.{Result, done, refused, formatOk, inUse, overwrites, pairOk, budgetOk, format}
 use Rattle.model.specs.Calls.{formatIn, insert, remove, Looked, lookup, standing}
-use Rattle.model.specs.Machine.{Call, formatting, inserting, removing, looking, working, asking, plain, looked}
-use Rattle.model.specs.Machine.{worked, stands, Ran, Machine}
+use Rattle.model.specs.Machine.{Call, formatting, inserting, removing, looking, working, squeezing, asking, Kind}
+use Rattle.model.specs.Machine.{ofSplits, ofSqueeze, plain, looked, worked, stands, Ran, Machine}
 use Rattle.image.specs.declared.Verdict.{Verdict}
 use Rattle.image.specs.Layout.{encode}
 use Rattle.image.specs.Decode.{decode}
@@ -133,7 +136,7 @@ stepOn (stopped r) = stopped r
 unfoldable pub stepOutcome : List ℕ → Step (List ℕ)
 stepOutcome s = stepOn (step (decode s))
 
--- A work call's answer and the store afterwards.
+-- A work or squeeze call's answer and the store afterwards.
 pub record WorkDone : Type 0 where
   pub answer : WorkAnswer
   pub store : List ℕ
@@ -145,6 +148,25 @@ workOn (passed x) s w = record { answer = WorkAnswer.Worked (w .steps) (w .stop)
 unfoldable pub workOutcome : List ℕ → (budget : ℕ) → WorkDone
 workOutcome s budget = workOn (tested (budgetOk budget) s) s (iterate stepOutcome budget s)
 
+-- ---- squeeze
+
+-- one step of a squeeze of a sound store
+unfoldable pub squeezeStepOutcome : (bucket : ℕ) → List ℕ → Step (List ℕ)
+squeezeStepOutcome b s = stepOn (squeezeStep b (decode s))
+
+abbrev pub unlessRefused : Option Refusal → Index → Tested
+unlessRefused (some r) x = failed r
+unlessRefused none x = passed x
+
+-- the tests of a squeeze's bucket come "After 4"
+abbrev pub bucketTested : Tested → (bucket : ℕ) → Tested
+bucketTested (failed r) b = failed r
+bucketTested (passed x) b = unlessRefused (bucketTest x b) x
+
+unfoldable pub squeezeOutcome : List ℕ → (bucket budget : ℕ) → WorkDone
+squeezeOutcome s b budget =
+    workOn (bucketTested (tested (budgetOk budget) s) b) s (iterate (squeezeStepOutcome b) budget s)
+
 -- ---- a store as a machine
 
 unfoldable pub runStore : Call → List ℕ → Ran (List ℕ)
@@ -153,8 +175,14 @@ runStore (inserting p) s = let c = insertOutcome s p in record { reply = plain (
 runStore (removing p) s = let c = removeOutcome s p in record { reply = plain (c .answer); state = c .store }
 runStore (looking h out) s = record { reply = looked (lookupOutcome s h out); state = s }
 runStore (working budget) s = let c = workOutcome s budget in record { reply = worked (c .answer); state = c .store }
+runStore (squeezing b budget) s =
+    let c = squeezeOutcome s b budget in record { reply = worked (c .answer); state = c .store }
 runStore asking s = record { reply = stands (standingOutcome s); state = s }
+
+abbrev pub stepStore : Kind → List ℕ → Step (List ℕ)
+stepStore ofSplits = stepOutcome
+stepStore (ofSqueeze b) = squeezeStepOutcome b
 
 -- the stored count is the meta block's
 abbrev pub onStore : Machine
-onStore = record { State = List ℕ; run = runStore; step = stepOutcome; stored = λ s. u32At s 8 }
+onStore = record { State = List ℕ; run = runStore; step = stepStore; stored = λ s. u32At s 8 }

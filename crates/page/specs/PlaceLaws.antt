@@ -12,7 +12,7 @@ use Rattle.lists.specs.ListsLaws.{zero-any}
 use Rattle.page.specs.declared.Pair.{Pair}
 use Rattle.page.specs.declared.Entry.{Entry}
 use Rattle.page.specs.Pair.{before, pairOf, is, enter, ascending}
-use Rattle.page.specs.PairLaws.{no-way, same-sym, before-trans, before-same, before-le}
+use Rattle.page.specs.PairLaws.{no-way, same-sym, before-irrefl, before-trans, before-same, before-le}
 use Rattle.page.specs.Places.{placeOf, removeAt, insertAt}
 use Rattle.page.specs.SublistLaws.{each-getD, each-map, tally-no, keep-all}
 use Rattle.page.specs.AscendingLaws.{ascending-tail, ascending-head, ascending-enter}
@@ -25,6 +25,17 @@ place-le p (e ∷ es) = go (before (e .pair) p) (place-le p es)
     go : (b : Bool) → placeOf p es ≤ length es → cond b (suc (placeOf p es)) 0 ≤ suc (length es)
     go true ih = omega arith
     go false ih = omega arith
+
+-- an entry of an ascending list stands at its pair's place
+pub place-at : (es : List Entry) (k : ℕ) (d : Entry) → ascending pairOf es ≡ true → k < length es
+    → placeOf (getD es k d .pair) es ≡ k
+unfolding placeOf
+place-at [] k d a l = absurd (omega arith)
+place-at (e ∷ es) zero d a l = rw (before-irrefl (e .pair)) refl
+place-at (e ∷ es) (suc k) d a l =
+    let up : before (e .pair) (getD es k d .pair) ≡ true =
+    each-getD (λ f. before (e .pair) (f .pair) ≡ true) es k d (ascending-head pairOf e es a) (omega arith) in
+    rw up (ap suc (place-at es k d (ascending-tail pairOf e es a) (omega arith)))
 
 -- entering an entry is putting it into the slot of its place
 pub enter-insertAt : (e : Entry) (es : List Entry) → enter pairOf e es ≡ insertAt (placeOf (e .pair) es) e es

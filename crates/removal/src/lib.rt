@@ -1,6 +1,6 @@
 // Plans removals: a pair out of its bucket's chain and, while copying, out of both chains of the job.
-mod pages; // pages.rt: an entry out of its page, an emptied page freed
-mod ending; // ending.rt: the bitmap and the meta block
+pub mod pages; // pages.rt: an entry out of its page, an emptied page freed
+pub mod ending; // ending.rt: the bitmap and the meta block
 
 use crate::ending::end_cut;
 use crate::pages::cut_entry;

@@ -11,7 +11,7 @@ use borrow.Author.Tests.{not-false, ltb-false}
 use lib.Dec.{eqb}
 use lib.ListN.{length, take, drop, List·getD-eq-default}
 use Rattle.lists.specs.Lists.{b2n, any, tally, keep, find}
-use Rattle.lists.specs.ListsLaws.{and-false, tally-le, find-yes}
+use Rattle.lists.specs.ListsLaws.{and-false, tally-le, keep-append, find-yes}
 use Rattle.page.specs.declared.Pair.{Pair}
 use Rattle.page.specs.declared.Entry.{Entry}
 use Rattle.page.specs.Pair.{same, is}
@@ -30,7 +30,6 @@ use Rattle.model.specs.LaidLaws.{chain-wider}
 use Rattle.model.specs.BeginLaws.{begin-widens}
 use Rattle.model.specs.StepsLeftLaws.{stands-once}
 use Rattle.model.specs.MachineLaws.{never}
-use Rattle.chain.specs.PairsLaws.{keep-append}
 use Rattle.split.specs.declared.Spot.{Spot}
 use Rattle.split.specs.declared.Position.{Position}
 use Rattle.split.specs.Mover.{movable, copied}

@@ -1,24 +1,23 @@
 -- Whether an entry is left to move, as code tests it, and the search for one among a page's slots.
-use mathlib.Core.Path.{_≡_, refl, sym, ap, _∙_, subst}
+use mathlib.Core.Path.{_≡_, sym, ap, _∙_, subst}
 use mathlib.Core.Logic.{_≢_}
 use mathlib.Core.Bool.{Bool, true, false, not, _&&_}
-use mathlib.Core.List.{List, [], _∷_}
+use mathlib.Core.List.{List}
 use mathlib.Core.Option.{some}
-use Prim.Native.Nat.{ℕ, zero, suc, _+_, _≤_, _<_}
+use Prim.Native.Nat.{ℕ, _+_, _≤_, _<_}
 use native.Mathlib.Omega.{arith}
 use borrow.Author.Tests.{eq-eqb, ne-eqb}
 use lib.Dec.{eqb}
-use lib.ListN.{length, getD, take}
+use lib.ListN.{length, take}
 use Rattle.lists.specs.Lists.{any}
 use Rattle.address.specs.Address.{bucketOf}
 use Rattle.endian.specs.Endian.{u16At}
 use Rattle.page.specs.declared.Pair.{Pair}
 use Rattle.page.specs.declared.Entry.{Entry}
-use Rattle.page.specs.Pair.{is, before, ascending}
-use Rattle.page.specs.PairLaws.{same-eq, before-irrefl}
-use Rattle.page.specs.SublistLaws.{each-getD}
-use Rattle.page.specs.AscendingLaws.{ascending-head, ascending-tail}
+use Rattle.page.specs.Pair.{is}
+use Rattle.page.specs.PairLaws.{same-eq}
 use Rattle.page.specs.Places.{placeOf}
+use Rattle.page.specs.PlaceLaws.{place-at}
 use Rattle.page.specs.Rule.{orderOk}
 use Rattle.page.specs.Allowed.{Sorted}
 use Rattle.page.specs.Entries.{entryAt, entriesOf}
@@ -118,18 +117,6 @@ movable-same false x e h d q =
     subst (λ (p : Pair). eqb (bucket x p) (newBucket x) ≡ true) (same-eq (e .pair) (d .pair) q) h
 
 -- ---- the slots of a page, from slot i on
-
--- an entry of an ascending list stands at its pair's place
-place-at : (es : List Entry) (k : ℕ) (d : Entry) → ascending (λ (e : Entry). e .pair) es ≡ true → k < length es
-    → placeOf (getD es k d .pair) es ≡ k
-unfolding placeOf
-place-at [] k d a l = absurd (omega arith)
-place-at (e ∷ es) zero d a l = rw (before-irrefl (e .pair)) refl
-place-at (e ∷ es) (suc k) d a l =
-    let up : before (e .pair) (getD es k d .pair) ≡ true =
-    each-getD (λ f. before (e .pair) (f .pair) ≡ true) es k d (ascending-head (λ (f : Entry). f .pair) e es a)
-    (omega arith) in
-    rw up (ap suc (place-at es k d (ascending-tail (λ (f : Entry). f .pair) e es a) (omega arith)))
 
 module _ (t : Entry → Bool) (l : List ℕ) (i : ℕ) where
   module _ (more : i < u16At l 0) where

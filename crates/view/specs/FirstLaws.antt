@@ -3,9 +3,9 @@ use mathlib.Core.Path.{_≡_, refl, ap}
 use mathlib.Core.Bool.{Bool, true, false, cond, _||_}
 use mathlib.Core.List.{List, [], _∷_, map}
 use mathlib.Core.Option.{Option, none, some}
-use Prim.Native.Nat.{ℕ, suc, _<_}
+use Prim.Native.Nat.{ℕ, zero, suc, _≤_, _<_}
 use native.Mathlib.Omega.{arith}
-use lib.ListN.{length, getD}
+use lib.ListN.{length, getD, drop}
 use lib.Seq.{drop-cons}
 use Rattle.lists.specs.Lists.{any, find}
 use Rattle.frame.specs.Frame.{firstPlace}
@@ -33,6 +33,18 @@ module _ {A : Type 0} (t : A → Bool) where
           → cond b 0 (suc (firstPlace t xs)) < suc (length xs)
       go true h ih = omega arith
       go false h ih = omega (arith, ih h)
+
+  -- without elements before the first that passes
+  pub find-drop : (xs : List A) (i : ℕ) → i ≤ firstPlace t xs → find t (drop i xs) ≡ find t xs
+  find-drop xs zero h = refl
+  find-drop [] (suc i) h = absurd (omega arith)
+  find-drop (x ∷ xs) (suc i) h = go (t x) h (find-drop xs i)
+    where
+      go : (b : Bool) → suc i ≤ cond b 0 (suc (firstPlace t xs))
+          → (i ≤ firstPlace t xs → find t (drop i xs) ≡ find t xs)
+          → Path (Option A) (find t (drop i xs)) (elim b [ true ↦ some x | false ↦ find t xs ])
+      go true h ih = absurd (omega arith)
+      go false h ih = ih (omega arith)
 
 pub place-map : {A B : Type 0} (f : A → B) (t : B → Bool) (xs : List A) → firstPlace t (map f xs) ≡ firstPlace (λ x. t (f x)) xs
 place-map f t [] = refl

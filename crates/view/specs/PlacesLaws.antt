@@ -73,7 +73,8 @@ module _ {s : List ℕ} {m : Meta} (r : Reads s m) (b : ℕ) (made : b ≤ m .ma
 
   -- ---- room
 
-  room-place : firstPlace (roomOn s) ks ≡ roomPlace (chain x b)
+  pub room-place : firstPlace (roomOn s) (chainBlocks (decode s) b (chain (decode s) b))
+      ≡ roomPlace (chain (decode s) b)
   room-place =
       ap (firstPlace (roomOn s)) (sym (walk-trail s b ∙ walk-read r b made))
       ∙ ap (λ (n : ℕ). cond (roomOn s (blockOf s b)) 0 (suc n)) (sym (place-map (readPage s) pageRoom (trail s b)))
@@ -82,7 +83,8 @@ module _ {s : List ℕ} {m : Meta} (r : Reads s m) (b : ℕ) (made : b ≤ m .ma
   room-any : any (roomOn s) ks ≡ chainRoom (chain x b)
   room-any = ap (any (roomOn s)) (sym (walk-read r b made)) ∙ room-walk s b (under-max r b made)
 
-  last-read : lastOf ks ≡ pageBlock x b (lastPlace (chain x b))
+  pub last-read : lastOf (chainBlocks (decode s) b (chain (decode s) b))
+      ≡ pageBlock (decode s) b (lastPlace (chain (decode s) b))
   last-read =
       let n : pred (length ks) ≡ length (chain x b .more) = ap pred length-blocks in
       ap (λ (i : ℕ). getD ks i 0) n ∙ getD-default ks (length (chain x b .more)) 0 noLink (omega (arith, length-blocks))

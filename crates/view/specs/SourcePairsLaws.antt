@@ -5,13 +5,13 @@ use mathlib.Core.List.{List, [], _∷_, _++_, map, map-append}
 use Prim.Native.Nat.{ℕ}
 use lib.Dec.{eqb}
 use Rattle.lists.specs.Lists.{keep}
+use Rattle.lists.specs.ListsLaws.{keep-append}
 use Rattle.page.specs.declared.Pair.{Pair}
 use Rattle.page.specs.declared.Entry.{Entry}
 use Rattle.page.specs.Pair.{pairOf}
 use Rattle.model.specs.Index.{Index, entriesAt}
 use Rattle.model.specs.Held.{sources, sorted, hasHash, matches}
 use Rattle.chain.specs.Pairs.{pairsIn}
-use Rattle.chain.specs.PairsLaws.{keep-append}
 use Rattle.view.specs.declared.Sources.{Sources}
 use Rattle.view.specs.Places.{sourcesOf}
 use Rattle.view.specs.SourcesLaws.{entriesBy, sources-by}

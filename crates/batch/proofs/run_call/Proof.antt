@@ -1,5 +1,6 @@
 use borrow.Author.Needs.{needs}
-use Rattle.batch.specs.CallLaws.{ran-format, ran-insert, ran-remove, ran-lookup, ran-work, ran-standing}
+use Rattle.batch.specs.CallLaws.{ran-format, ran-insert, ran-remove, ran-lookup, ran-work, ran-squeeze}
+use Rattle.batch.specs.CallLaws.{ran-standing}
 use Rattle.batch.proofs.run_call.Statement.{statement}
 use Rattle.batch.proofs.run_call.Tie as tie
 
@@ -17,6 +18,9 @@ run-lookup-requires c κs = search needs
 
 amiqsovik-work-requires : tie.Need-amiqsovik-work-requires
 amiqsovik-work-requires c κs = search needs
+
+amiqsovik-squeeze-requires : tie.Need-amiqsovik-squeeze-requires
+amiqsovik-squeeze-requires c κs = search needs
 
 run-standing-requires : tie.Need-run-standing-requires
 run-standing-requires c κs = search needs
@@ -72,15 +76,24 @@ returns-5 c =
 same-length-7 : tie.Need-same-length-7
 same-length-7 c = search needs
 
-same-length-8 : tie.Need-same-length-8
-same-length-8 c = search needs
-
 returns-6 : tie.Need-returns-6
 returns-6 c =
     let f = c .before .before in
+    let m = f .before .before in
+    ran-squeeze _ _ _ _ _ _ (m .match .keys6) (f .amiqsovik-squeeze .ensures .0) (f .amiqsovik-squeeze .ensures .1)
+
+same-length-8 : tie.Need-same-length-8
+same-length-8 c = search needs
+
+same-length-9 : tie.Need-same-length-9
+same-length-9 c = search needs
+
+returns-7 : tie.Need-returns-7
+returns-7 c =
+    let f = c .before .before in
     let m = f .before .before .before in
     let r = m .match .rest in
-    ran-standing _ _ _ _ _ _ (r .0 .0 .0 .0 .1) (r .0 .0 .0 .1) (r .0 .0 .1) (r .0 .1) (r .1)
+    ran-standing _ _ _ _ _ _ (r .0 .0 .0 .0 .0 .1) (r .0 .0 .0 .0 .1) (r .0 .0 .0 .1) (r .0 .0 .1) (r .0 .1) (r .1)
     (f .run-standing .ensures .0) (f .run-standing .ensures .1)
 
 pub run-call-spec : {M : Type 1} → statement M
@@ -92,6 +105,7 @@ run-call-spec =
     amiqsovik-remove-requires
     run-lookup-requires
     amiqsovik-work-requires
+    amiqsovik-squeeze-requires
     run-standing-requires
     same-length
     returns
@@ -105,5 +119,7 @@ run-call-spec =
     same-length-6
     returns-5
     same-length-7
+    returns-6
     same-length-8
-    returns-6)
+    same-length-9
+    returns-7)

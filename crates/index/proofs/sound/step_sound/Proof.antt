@@ -1,5 +1,6 @@
 use mathlib.Core.Path.{refl, sym, _∙_, subst}
 use borrow.Author.Needs.{needs}
+use Rattle.model.specs.Machine.{ofSplits}
 use Rattle.view.specs.Reads.{Reads}
 use Rattle.index.specs.SoundLaws.{sound-first, advances-fits, advances-stepped, advances-from}
 use Rattle.index.proofs.sound.step_sound.Statement.{statement}
@@ -32,7 +33,7 @@ returns c =
     let p = f .before .before .before .before .before .before in
     let r = p .before .before .before .before .before .before .before .pre .0 .0 in
     let e = p .plan-step .ensures in (
-      advances-stepped r (e .0) refl _ (f .finish .ensures),
+      advances-stepped ofSplits r (e .0) refl _ (f .finish .ensures),
       advances-from r (e .0) refl _ (f .finish .ensures) (p .plan-step .result .next) (e .1),
     )
 

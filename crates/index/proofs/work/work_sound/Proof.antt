@@ -3,6 +3,7 @@ use Prim.Native.Nat.{_-_}
 use native.Mathlib.Omega.{arith}
 use borrow.Author.Needs.{needs}
 use lib.ListN.{length}
+use Rattle.model.specs.Machine.{ofSplits}
 use Rattle.image.specs.Decode.{decode}
 use Rattle.split.specs.Seek.{From}
 use Rattle.split.specs.FromLaws.{from-start}
@@ -15,7 +16,7 @@ use Rattle.index.proofs.sound.step_sound.Reads as step-sound-reads
 
 abbrev Inv-loop : tie.InvT-loop
 Inv-loop store₀ budget images₀ steps₀ from₀ store images steps from =
-    Working budget store₀ store steps × From (decode store) from × (length images ≡ 4096)
+    Working ofSplits budget store₀ store steps × From (decode store) from × (length images ≡ 4096)
 
 abbrev μ-loop : tie.MeasureT-loop
 μ-loop store₀ budget images₀ steps₀ from₀ store images steps from = budget - steps
@@ -26,7 +27,7 @@ start-requires c κs = search needs
 loop-holds : tie.Need-loop-holds Inv-loop μ-loop
 loop-holds c =
     let s = c .before .before in (
-      working-none _ _ (s .pre),
+      working-none ofSplits _ _ (s .pre),
       from-start (decode (s .args .store .now)) (c .start .result) (c .start .ensures),
       refl,
     )
@@ -48,7 +49,7 @@ returns c =
     let k = c .before in
     let a = k .before .before .before .before .before in
     let l = a .before .before .before in
-    working-stop (l .before .loop .inv .0) (l .loop-test .taken) (a .step-sound .ensures .0) _ (k .advance .given .1)
+    working-stop ofSplits (l .before .loop .inv .0) (l .loop-test .taken) (a .step-sound .ensures .0) _ (k .advance .given .1)
 
 enum-told : tie.Need-enum-told Inv-loop μ-loop
 enum-told c = search needs
@@ -65,7 +66,7 @@ loop-again c =
     let a = k .before .before .before .before .before in
     let l = a .before .before .before in
     let e = a .step-sound .ensures in (
-      working-next (l .before .loop .inv .0) (l .loop-test .taken) (e .0) (k .enum-told .given .1)
+      working-next ofSplits (l .before .loop .inv .0) (l .loop-test .taken) (e .0) (k .enum-told .given .1)
           (a .step-sound .kept .0),
       e .1 (k .enum-told .given .1),
       a .step-sound .kept .1 .0 ∙ l .before .loop .inv .2,
@@ -75,7 +76,7 @@ same-length-2 : tie.Need-same-length-2 Inv-loop μ-loop
 same-length-2 c = search needs
 
 returns-2 : tie.Need-returns-2 Inv-loop μ-loop
-returns-2 c = working-spent (c .before .loop .inv .0) (c .loop-test .left)
+returns-2 c = working-spent ofSplits (c .before .loop .inv .0) (c .loop-test .left)
 
 pub work-sound-spec : {M : Type 1} → statement M
 work-sound-spec =

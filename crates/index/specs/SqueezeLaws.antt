@@ -1,0 +1,135 @@
+-- What squeeze's outcome is, by what its tests find; what a step leaves the next one.
+use mathlib.Core.Path.{_≡_, refl, sym, ap, _∙_, subst}
+use mathlib.Core.Bool.{Bool, true, false}
+use mathlib.Core.List.{List}
+use mathlib.Core.Option.{Option, none, some}
+use Prim.Native.Nat.{ℕ, _≤_, _<_}
+use borrow.Author.Tests.{leb-true, le-leb, lt-leb}
+use lib.Dec.{leb}
+use Rattle.lists.specs.Bytes.{Bytes}
+use Rattle.model.specs.declared.Refusal.{Refusal}
+use Rattle.model.specs.declared.WorkAnswer.{WorkAnswer}
+use Rattle.model.specs.Index.{Index}
+use Rattle.model.specs.Steps.{Step, iterate}
+use Rattle.model.specs.Squeeze.{squeezeStep, isBusy, bucketIn, bucketTest}
+use Rattle.model.specs.SqueezeStepLaws.{squeeze-wf}
+use Rattle.model.specs.Calls.{budgetOk}
+use Rattle.model.specs.MachineLaws.{never}
+use Rattle.image.specs.Decode.{decode}
+use Rattle.image.specs.EncodeDecodeLaws.{decode-encode}
+use Rattle.outcomes.specs.Outcomes.{Tested, passed, failed, tested, workOn, unlessRefused, bucketTested}
+use Rattle.outcomes.specs.Outcomes.{squeezeStepOutcome, squeezeOutcome}
+use Rattle.store.specs.declared.Change.{Change}
+use Rattle.store.specs.Finish.{finished}
+use Rattle.plan.specs.declared.Advance.{Advance}
+use Rattle.plan.specs.Plan.{Advances, advanced, halted}
+use Rattle.squeeze.specs.declared.Span.{Span}
+use Rattle.squeeze.specs.Span.{Spans, Leads}
+use Rattle.index.specs.declared.Test.{Test}
+use Rattle.index.specs.Tested.{testOf}
+use Rattle.index.specs.TestedLaws.{passes-call, passes-index, passes-sound}
+use Rattle.index.specs.Sound.{Sound, workedBy}
+
+-- ---- the tests of the bucket, in their order
+
+module _ (x : Index) (b : ℕ) where
+  pub bucket-above : x .maxBucket < b → Test.Failed Refusal.Number ≡ testOf (unlessRefused (bucketTest x b) x)
+  unfolding bucketTest
+  bucket-above h =
+      sym (ap (λ (t : Bool). testOf (unlessRefused (bucketIn t (isBusy x b)) x)) (lt-leb b (x .maxBucket) h))
+
+  in-range : b ≤ x .maxBucket → {u : Bool} → isBusy x b ≡ u
+      → testOf (unlessRefused (bucketIn true u) x) ≡ testOf (unlessRefused (bucketTest x b) x)
+  unfolding bucketTest
+  in-range h e = sym (λ i. testOf (unlessRefused (bucketIn (le-leb b (x .maxBucket) h i) (e i)) x))
+
+  pub bucket-busy : b ≤ x .maxBucket → isBusy x b ≡ true
+      → Test.Failed Refusal.Busy ≡ testOf (unlessRefused (bucketTest x b) x)
+  bucket-busy h e = in-range h e
+
+  pub bucket-free : b ≤ x .maxBucket → isBusy x b ≡ false → Test.Passed ≡ testOf (unlessRefused (bucketTest x b) x)
+  bucket-free h e = in-range h e
+
+-- ---- all tests
+
+module _ (s : List ℕ) (b : ℕ) (numbers : Bool) where
+  -- one that fails before the bucket's
+  pub early-fails : (r : Refusal) → testOf (tested numbers s) ≡ Test.Failed r
+      → Test.Failed r ≡ testOf (bucketTested (tested numbers s) b)
+  early-fails r h = go (tested numbers s) h
+    where
+      go : (t : Tested) → testOf t ≡ Test.Failed r → Test.Failed r ≡ testOf (bucketTested t b)
+      go (passed x) h = never (cc)
+      go (failed q) h = sym h
+
+  module _ (bytes : Bytes s) where
+    -- and where those pass, the bucket's decide
+    pub early-passes : testOf (tested numbers s) ≡ Test.Passed
+        → testOf (unlessRefused (bucketTest (decode s) b) (decode s)) ≡ testOf (bucketTested (tested numbers s) b)
+    early-passes h = sym (ap (λ (t : Tested). testOf (bucketTested t b)) (passes-index numbers s bytes h))
+
+    module _ (h : testOf (bucketTested (tested numbers s) b) ≡ Test.Passed) where
+      all-early : testOf (tested numbers s) ≡ Test.Passed
+      all-early = go (tested numbers s) h
+        where
+          go : (t : Tested) → testOf (bucketTested t b) ≡ Test.Passed → testOf t ≡ Test.Passed
+          go (passed x) h = refl
+          go (failed r) h = never (cc)
+
+      pub squeeze-sound : Sound s
+      squeeze-sound = passes-sound (passes-call numbers s bytes all-early)
+
+      -- the bucket is there
+      pub squeeze-range : b ≤ decode s .maxBucket
+      unfolding bucketTest
+      squeeze-range =
+          go (leb b (decode s .maxBucket)) refl
+          (sym (ap (λ (t : Tested). testOf (bucketTested t b)) (passes-index numbers s bytes all-early)) ∙ h)
+        where
+          go : (r : Bool) → leb b (decode s .maxBucket) ≡ r
+              → testOf (unlessRefused (bucketIn r (isBusy (decode s) b)) (decode s)) ≡ Test.Passed
+              → b ≤ decode s .maxBucket
+          go true e h = leb-true b (decode s .maxBucket) e
+          go false e h = never (cc)
+
+      all-passed : bucketTested (tested numbers s) b ≡ passed (decode s)
+      all-passed =
+          ap (λ (t : Tested). bucketTested t b) e
+          ∙ go (bucketTest (decode s) b) (sym (ap (λ (t : Tested). testOf (bucketTested t b)) e) ∙ h)
+        where
+          e : tested numbers s ≡ passed (decode s)
+          e = passes-index numbers s bytes all-early
+
+          go : (q : Option Refusal) → testOf (unlessRefused q (decode s)) ≡ Test.Passed
+              → unlessRefused q (decode s) ≡ passed (decode s)
+          go none h = refl
+          go (some r) h = never (cc)
+
+-- ---- the pages that the next step looks at are there in the store that a step leaves
+
+pub advances-spans : {s : List ℕ} {c : Change} {images : List ℕ} (b : ℕ) → Sound s → {q : Step Index} {a : Advance}
+    → Advances s c images q a → squeezeStep b (decode s) ≡ q → (t : List ℕ) → t ≡ finished s c images
+    → {v : Span} → Leads (decode s) b v → a ≡ Advance.Next → Spans (decode t) b v
+advances-spans {s} b r (advanced {y} p) e t f {v} g n =
+    subst (λ (x : Index). Spans x b v)
+    (sym (ap decode (f ∙ p .makes) ∙ decode-encode y (squeeze-wf b (decode s) y (r .wf) e))) (g y e)
+advances-spans b r (halted z) e t f g n = never (cc)
+
+-- ---- the outcome
+
+module _ (s : List ℕ) (b budget : ℕ) where
+  pub squeeze-fails : (r : Refusal) → testOf (bucketTested (tested (budgetOk budget) s) b) ≡ Test.Failed r
+      → squeezeOutcome s b budget ≡ record { answer = WorkAnswer.Refused r; store = s }
+  unfolding squeezeOutcome
+  squeeze-fails r h = go (bucketTested (tested (budgetOk budget) s) b) h
+    where
+      go : (t : Tested) → testOf t ≡ Test.Failed r
+          → workOn t s (iterate (squeezeStepOutcome b) budget s) ≡ record { answer = WorkAnswer.Refused r; store = s }
+      go (passed x) h = never (cc)
+      go (failed q) h = let e : q ≡ r = cc in λ i. record { answer = WorkAnswer.Refused (e i); store = s }
+
+  pub squeeze-passes : Bytes s → testOf (bucketTested (tested (budgetOk budget) s) b) ≡ Test.Passed
+      → squeezeOutcome s b budget ≡ workedBy (iterate (squeezeStepOutcome b) budget s)
+  unfolding squeezeOutcome
+  squeeze-passes bytes h =
+      ap (λ (t : Tested). workOn t s (iterate (squeezeStepOutcome b) budget s)) (all-passed s b (budgetOk budget) bytes h)
