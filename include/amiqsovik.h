@@ -34,7 +34,7 @@ extern "C" {
 /* The version of this header, and of the archive made from the same sources. 1.0.0 is document 01, whole; 1.0.1 is
  * quicker (request 2026-02); 2.0.0 has a store number (request 2026-03); 3.0.0 formats no store in use unless told to
  * overwrite, and has amiqsovik_in_use (request 2026-04); 3.1.0 takes stores of 129 to 1,024 blocks (request 2026-09);
- * 3.1.1 finds pairs in long chains quicker (request 2026-10).
+ * 3.1.1 finds pairs in long chains quicker (request 2026-10); 3.2.0 has amiqsovik_squeeze (request 2026-01).
  * The first number goes up when a program that was right may have to change: a call's arguments, the answer to a call
  * that was accepted, the bytes of a store. The second goes up when calls are added, or take what they refused, the
  * third when neither is so.
@@ -44,10 +44,10 @@ extern "C" {
  * converts it: a host formats a new store and inserts the pairs again, from its own records. It is not IN_USE either:
  * format takes it without a word. */
 #define AMIQSOVIK_VERSION_MAJOR 3
-#define AMIQSOVIK_VERSION_MINOR 1
-#define AMIQSOVIK_VERSION_PATCH 1
+#define AMIQSOVIK_VERSION_MINOR 2
+#define AMIQSOVIK_VERSION_PATCH 0
 #define AMIQSOVIK_VERSION (AMIQSOVIK_VERSION_MAJOR * 10000 + AMIQSOVIK_VERSION_MINOR * 100 + AMIQSOVIK_VERSION_PATCH)
-#define AMIQSOVIK_VERSION_TEXT "3.1.1"
+#define AMIQSOVIK_VERSION_TEXT "3.2.0"
 
 /* A word that nobody looks at may be a refusal: compilers that can do so warn. */
 #if defined(__GNUC__)
@@ -71,8 +71,9 @@ extern "C" {
 #define AMIQSOVIK_MATCH_BYTES 6   /* a match in the output of a lookup */
 #define AMIQSOVIK_RESULT_BYTES 28 /* what amiqsovik_standing writes */
 
-/* ---- The word that a call answers: bits 0..7 the number of the answer, bits 8..15 work's stop, bits 16..31 work's
- * steps, bits 32..63 what the answer gives besides. Stop and steps are 0 in the word of any other call. */
+/* ---- The word that a call answers: bits 0..7 the number of the answer, bits 8..15 work's or squeeze's stop, bits
+ * 16..31 work's or squeeze's steps, bits 32..63 what the answer gives besides. Stop and steps are 0 in the word of any
+ * other call. */
 
 static inline uint32_t amiqsovik_number(uint64_t word) { return (uint32_t)(word & 0xFF); }
 static inline uint32_t amiqsovik_stop(uint64_t word) { return (uint32_t)(word >> 8 & 0xFF); }
@@ -81,7 +82,8 @@ static inline uint32_t amiqsovik_gives(uint64_t word) { return (uint32_t)(word >
 
 /* The numbers of the answers, 0 to 8 as in document 01's table. What a number gives besides is 0 where nothing is
  * said of it. Where several fit, the call answers the first of 255, 1, 2, 3, 4, 8, 5 or 6, 7; format answers the first
- * of 1, 2, 12. Later versions may have further numbers: whatever is not DONE is a refusal. */
+ * of 1, 2, 12, and squeeze the first of 1, 2 (the budget), 3, 4, 2 (the bucket), 11. Later versions may have further
+ * numbers: whatever is not DONE is a refusal. */
 #define AMIQSOVIK_DONE 0
 #define AMIQSOVIK_LENGTH 1         /* the store is not a multiple of 512 bytes, or N is outside 4..1024 */
 #define AMIQSOVIK_NUMBER 2         /* an argument is outside its range: see the calls */
@@ -91,6 +93,7 @@ static inline uint32_t amiqsovik_gives(uint64_t word) { return (uint32_t)(word >
 #define AMIQSOVIK_NOT_HELD 6       /* remove: the pair is not held */
 #define AMIQSOVIK_NO_ROOM 7        /* insert: the bucket's pages are full, and there is no free page and no new one */
 #define AMIQSOVIK_OUTPUT_SHORT 8   /* lookup: output_length / 6 is below the number of matches; gives that number */
+#define AMIQSOVIK_BUSY 11          /* squeeze: the bucket is the old or new one of a pending job. Request 2026-01 */
 #define AMIQSOVIK_IN_USE 12        /* format, in_use: the store is sound and holds pairs. Request 2026-04 */
 #define AMIQSOVIK_RESULT_SHORT 255 /* standing: result_length is below 28; gives 28. Not in document 01's table */
 
@@ -148,8 +151,19 @@ AMIQSOVIK_MUST_USE uint64_t amiqsovik_lookup(const uint8_t *AMIQSOVIK_RESTRICT s
 AMIQSOVIK_MUST_USE uint64_t amiqsovik_work(uint8_t *store, size_t store_length, uint32_t budget);
 
 #define AMIQSOVIK_STOP_SPENT 0   /* the budget is spent */
-#define AMIQSOVIK_STOP_NO_ROOM 7 /* the next step finds no room; it changed nothing */
-#define AMIQSOVIK_STOP_IDLE 9    /* there is no job, and no split is wanted */
+#define AMIQSOVIK_STOP_NO_ROOM 7 /* the next step finds no room; it changed nothing. Never of a squeeze */
+#define AMIQSOVIK_STOP_IDLE 9    /* work: there is no job, and no split is wanted; squeeze: no earlier page has room */
+
+/* Gathers the pairs of a bucket on the first pages of its chain, which removals may have left long and thin: does
+ * steps, at most `budget`, 0..65535, else NUMBER. A step moves the last entry of the chain's last page to the first
+ * earlier page with room. A page that it leaves empty is freed, and later calls take it again. After each step the
+ * store is sound and every lookup finds what it found before. DONE, with the number of steps done and why they stopped,
+ * LENGTH, NUMBER, DAMAGED, NOT_AN_INDEX, NUMBER (where `bucket` is not below standing's number of buckets) or BUSY.
+ *
+ * Stopped with IDLE, a chain of n entries has n / 40 pages, rounded up, or one if n is 0. That takes at most 40 steps
+ * for each overflow page of the chain, and one more of the budget to say IDLE. Both buckets of a pending job are BUSY,
+ * while copying and while clearing: amiqsovik_work ends the job. Steps of a squeeze are none of a split's. */
+AMIQSOVIK_MUST_USE uint64_t amiqsovik_squeeze(uint8_t *store, size_t store_length, uint32_t bucket, uint32_t budget);
 
 /* Writes 28 bytes to `result`, little-endian (amiqsovik_stands reads them): count of held pairs, buckets, phase, old
  * bucket, new bucket, 32 bits each, and then the slack, fill * buckets - count, in 64 bits, two's complement. A slack
@@ -164,8 +178,8 @@ AMIQSOVIK_MUST_USE uint64_t amiqsovik_standing(const uint8_t *AMIQSOVIK_RESTRICT
 
 /* ---- Readers of what the calls answer and write */
 
-/* The name of an answer by its number: as in document 01's table (9 is a stop of work's, 10 is for a script's lines
- * alone), "in use" for 12, "result short" for 255, and "unknown" for any other. */
+/* The name of an answer by its number: as in document 01's table (9 is a stop of work and squeeze, 10 is for a
+ * script's lines alone), "busy" for 11, "in use" for 12, "result short" for 255, and "unknown" for any other. */
 static inline const char *amiqsovik_name(uint32_t number)
 {
     switch (number) {
@@ -180,6 +194,7 @@ static inline const char *amiqsovik_name(uint32_t number)
     case AMIQSOVIK_OUTPUT_SHORT: return "output short";
     case AMIQSOVIK_STOP_IDLE: return "idle";
     case 10: return "unreadable";
+    case AMIQSOVIK_BUSY: return "busy";
     case AMIQSOVIK_IN_USE: return "in use";
     case AMIQSOVIK_RESULT_SHORT: return "result short";
     default: return "unknown";

@@ -1,4 +1,4 @@
-/* A store on the stack: format it, put readings in, split buckets, look readings up.
+/* A store in an array: format it, put readings in, split buckets, look readings up, squeeze buckets after a storm.
  *
  * Make the archive first, at the top of the repository:   rt staticlib amiqsovik
  * Then, in this folder:
@@ -49,6 +49,40 @@ static void show_readings(uint32_t cell)
     printf("\n");
 }
 
+/* A hundred readings of one cell, of which all but ten are withdrawn again: its bucket's chain is long and thin. */
+static int storm(uint32_t cell)
+{
+    uint32_t reading;
+
+    for (reading = 0; reading < 100; reading++)
+        if (!done("insert", amiqsovik_insert(store, sizeof store, cell, 200 + reading, 1)))
+            return 0;
+    for (reading = 0; reading < 100; reading++)
+        if (reading % 10 != 0 && !done("remove", amiqsovik_remove(store, sizeof store, cell, 200 + reading, 1)))
+            return 0;
+    return 1;
+}
+
+/* Squeezes every bucket as far as it goes. While a split is under way its two buckets are busy, and wait. */
+static int squeeze_all(void)
+{
+    uint8_t result[AMIQSOVIK_RESULT_BYTES];
+    uint32_t bucket, buckets, steps = 0;
+    uint64_t word;
+
+    if (!done("standing", amiqsovik_standing(store, sizeof store, result, sizeof result)))
+        return 0;
+    buckets = amiqsovik_stands(result).buckets;
+    for (bucket = 0; bucket < buckets; bucket++) {
+        word = amiqsovik_squeeze(store, sizeof store, bucket, 65535);
+        if (amiqsovik_number(word) != AMIQSOVIK_BUSY && !done("squeeze", word))
+            return 0;
+        steps += amiqsovik_steps(word);
+    }
+    printf("%" PRIu32 " steps of squeezes\n", steps);
+    return 1;
+}
+
 int main(void)
 {
     uint32_t cell, reading;
@@ -78,5 +112,9 @@ int main(void)
         return 1;
     show_standing();
     show_readings(4);
+
+    if (!storm(20) || !squeeze_all())
+        return 1;
+    show_readings(20);
     return done("verify", amiqsovik_verify(store, sizeof store)) ? 0 : 1;
 }

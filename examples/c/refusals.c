@@ -1,5 +1,5 @@
-/* Tests what the header says of refusals, of sizes, of stores in use, of store numbers, of standing's result, of names
- * and of the version. It is C and C++; `try` builds and runs it. It exits with 0 if all of it holds.
+/* Tests what the header says of refusals, of sizes, of squeezes, of stores in use, of store numbers, of standing's
+ * result, of names and of the version. It is C and C++; `try` builds and runs it. It exits with 0 if all of it holds.
  */
 #include <stdio.h>
 #include <string.h>
@@ -25,7 +25,7 @@ static void names(void)
 {
     static const char *const table[] = {"done",         "length",   "number",  "damaged",      "not an index",
                                         "held already", "not held", "no room", "output short", "idle",
-                                        "unreadable",   "unknown",  "in use"};
+                                        "unreadable",   "busy",     "in use"};
     uint32_t number;
 
     for (number = 0; number < 300; number++) {
@@ -158,6 +158,51 @@ static void no_room(void)
     same("the full store", memcmp(store, before, sizeof store) == 0, 1);
 }
 
+/* The word of a call that made steps. */
+static uint64_t worked(uint64_t steps, uint64_t stop) { return stop << 8 | steps << 16; }
+
+/* A chain of three pages, the second thinned out: the ten entries of the third go there. Then refusals, in order. */
+static void squeezes(void)
+{
+    uint8_t store[8 * AMIQSOVIK_BLOCK_BYTES] = {0}, before[sizeof store];
+    uint32_t reading;
+
+    same("format", amiqsovik_format(store, sizeof store, 40, 7, 0), word(AMIQSOVIK_DONE, 0));
+    for (reading = 0; reading < 90; reading++)
+        same("insert", amiqsovik_insert(store, sizeof store, 2, reading, 1), word(AMIQSOVIK_DONE, 0));
+    for (reading = 50; reading < 80; reading++)
+        same("remove", amiqsovik_remove(store, sizeof store, 2, reading, 1), word(AMIQSOVIK_DONE, 0));
+    same("four steps", amiqsovik_squeeze(store, sizeof store, 0, 4), worked(4, AMIQSOVIK_STOP_SPENT));
+    same("the others", amiqsovik_squeeze(store, sizeof store, 0, 65535), worked(6, AMIQSOVIK_STOP_IDLE));
+    same("verify", amiqsovik_verify(store, sizeof store), word(AMIQSOVIK_DONE, 0));
+    memcpy(before, store, sizeof store);
+    same("no store", amiqsovik_squeeze(NULL, 0, 2, 65536), word(AMIQSOVIK_LENGTH, 0));
+    same("no bucket", amiqsovik_squeeze(store, sizeof store, 2, 0), word(AMIQSOVIK_NUMBER, 0));
+    same("the store", memcmp(store, before, sizeof store) == 0, 1);
+    store[2 * AMIQSOVIK_BLOCK_BYTES + 9] ^= 1;
+    same("a large budget", amiqsovik_squeeze(store, sizeof store, 0, 65536), word(AMIQSOVIK_NUMBER, 0));
+    same("damaged, no bucket", amiqsovik_squeeze(store, sizeof store, 2, 65535), word(AMIQSOVIK_DAMAGED, 2));
+}
+
+/* Both buckets of a split of five steps are busy until it is over, and another one is not. */
+static void busy(void)
+{
+    uint8_t store[8 * AMIQSOVIK_BLOCK_BYTES] = {0};
+    uint32_t i;
+
+    same("format", amiqsovik_format(store, sizeof store, 1, 7, 0), word(AMIQSOVIK_DONE, 0));
+    for (i = 0; i < 3; i++)
+        same("insert", amiqsovik_insert(store, sizeof store, 2 * i, 7, 1), word(AMIQSOVIK_DONE, 0));
+    for (i = 1; i <= 5; i++) {
+        uint64_t wanted = i < 5 ? word(AMIQSOVIK_BUSY, 0) : worked(0, AMIQSOVIK_STOP_IDLE);
+
+        same("work", amiqsovik_work(store, sizeof store, 1), worked(1, AMIQSOVIK_STOP_SPENT));
+        same("the old bucket", amiqsovik_squeeze(store, sizeof store, 0, 9), wanted);
+        same("the new bucket", amiqsovik_squeeze(store, sizeof store, 2, 9), wanted);
+        same("another bucket", amiqsovik_squeeze(store, sizeof store, 1, 9), worked(0, AMIQSOVIK_STOP_IDLE));
+    }
+}
+
 /* What in_use answers of a store, and format of copies of it, with a good fill and `overwrite` from 0 to 3. A format
  * that is refused leaves the store as it was. */
 static void formats(const char *what, const uint8_t *store, size_t length, uint32_t answer)
@@ -246,6 +291,8 @@ int main(void)
     refusals(sound);
     sizes();
     no_room();
+    squeezes();
+    busy();
     in_use(sound);
     wrong_blocks(sound);
     return wrong;

@@ -9,8 +9,8 @@ use core::fmt;
 pub enum Refusal {
     /// 1: the store is not 4 to 1,024 blocks of 512 bytes.
     Length,
-    /// 2: an offset of 0 or above 65535, a reading block of 4294967295, a fill outside 1..=40, or a budget above
-    /// 65535.
+    /// 2: an offset of 0 or above 65535, a reading block of 4294967295, a fill outside 1..=40, a budget above 65535, or
+    /// a bucket to squeeze that there is not.
     Number,
     /// 3: a block's check is wrong: for its bytes, for its place, or for the store's number.
     Damaged {
@@ -33,6 +33,8 @@ pub enum Refusal {
         /// The number of matches; each takes 6 bytes.
         matches: u32,
     },
+    /// 11: the bucket to squeeze is the old or the new one of a pending job.
+    Busy,
     /// 12: the store to format is sound and holds pairs, and the format does not overwrite.
     InUse,
     /// Any other number. An archive of this package's version never answers it; `include/amiqsovik.h` beside the
@@ -62,6 +64,7 @@ impl Refusal {
             Refusal::NotHeld => 6,
             Refusal::NoRoom => 7,
             Refusal::OutputShort { .. } => 8,
+            Refusal::Busy => 11,
             Refusal::InUse => 12,
             Refusal::Unknown { number, .. } => number,
         }
@@ -84,11 +87,12 @@ impl Refusal {
             | Refusal::HeldAlready
             | Refusal::NotHeld
             | Refusal::NoRoom
+            | Refusal::Busy
             | Refusal::InUse => 0,
         }
     }
 
-    /// The name of the refusal, as in document 01's table and in request 2026-04; `Display` has a sentence.
+    /// The name of the refusal, as in document 01's table, request 2026-01 or 2026-04; `Display` has a sentence.
     ///
     /// ```
     /// assert_eq!(amiqsovik::Refusal::HeldAlready.name(), "held already");
@@ -104,6 +108,7 @@ impl Refusal {
             Refusal::NotHeld => "not held",
             Refusal::NoRoom => "no room",
             Refusal::OutputShort { .. } => "output short",
+            Refusal::Busy => "busy",
             Refusal::InUse => "in use",
             Refusal::Unknown { .. } => "unknown",
         }
@@ -121,6 +126,7 @@ impl fmt::Display for Refusal {
             Refusal::NotHeld => f.write_str("the pair is not held"),
             Refusal::NoRoom => f.write_str("the store has no room"),
             Refusal::OutputShort { matches } => write!(f, "the output is too short for {matches} matches"),
+            Refusal::Busy => f.write_str("the bucket is busy: it is one of a pending job"),
             Refusal::InUse => f.write_str("the store is in use: it is sound and holds pairs"),
             Refusal::Unknown { number, gives } => write!(f, "refused with {number}, an unknown number, and {gives}"),
         }
@@ -174,15 +180,15 @@ pub struct Standing {
     pub slack: i64,
 }
 
-/// Why [`work`](crate::work) stopped.
+/// Why [`work`](crate::work) or [`squeeze`](crate::squeeze) stopped.
 #[derive(Debug, Clone, Copy, PartialEq, Eq, Hash)]
 #[non_exhaustive]
 pub enum Stop {
     /// 0: the budget is spent.
     Spent,
-    /// 7: the next step has no room.
+    /// 7: the next step has no room. Never of a squeeze.
     NoRoom,
-    /// 9: there is no job, and no split is wanted.
+    /// 9: there is no step left: of work no job, and no split is wanted; of a squeeze no earlier page has room.
     Idle,
     /// Any other number. An archive of this package's version never answers it.
     Unknown {
@@ -204,7 +210,7 @@ impl Stop {
     }
 }
 
-/// What a [`work`](crate::work) call did.
+/// What a [`work`](crate::work) or [`squeeze`](crate::squeeze) call did.
 #[derive(Debug, Clone, Copy, PartialEq, Eq, Hash)]
 pub struct Worked {
     /// The number of steps made.

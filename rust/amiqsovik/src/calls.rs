@@ -1,4 +1,4 @@
-//! The eight calls, over plain slices and plain numbers; format has two functions.
+//! The nine calls, over plain slices and plain numbers; format has two functions.
 
 use crate::answer::{Refusal, Standing, Worked};
 use crate::foreign;
@@ -208,8 +208,44 @@ pub fn lookup<'o>(store: &[u8], hash: u32, output: &'o mut [u8]) -> Result<Match
 /// # Ok::<(), amiqsovik::Refusal>(())
 /// ```
 pub fn work(store: &mut [u8], budget: u32) -> Result<Worked, Refusal> {
-    let word = Word(foreign::work(store, budget)).done()?;
-    Ok(Worked { steps: word.steps(), stop: word.stop() })
+    Word(foreign::work(store, budget)).done().map(Word::worked)
+}
+
+/// Makes up to `budget` steps, at most 65535, of a squeeze of a bucket: each moves the last entry of the last page of
+/// the bucket's chain to the first earlier page with room, and frees a page that it leaves empty. The store is a sound
+/// index after each step, and every lookup finds what it found before.
+///
+/// When it stops with [`Idle`](crate::Stop::Idle), no earlier page has room: the chain has as few pages as its entries
+/// need. With 40 steps for each overflow page of the chain, and one more, it always comes to that.
+///
+/// # Errors
+///
+/// [`Length`](Refusal::Length), [`Number`](Refusal::Number) of the budget, [`Damaged`](Refusal::Damaged),
+/// [`NotAnIndex`](Refusal::NotAnIndex), [`Number`](Refusal::Number) of a bucket that there is not or
+/// [`Busy`](Refusal::Busy): the first that fits. A bucket is busy while a job, copying or clearing, has it as its old
+/// or new one: [`work`] ends the job.
+///
+/// # Examples
+///
+/// Of three pages the second is thinned out, and the entries of the third go there.
+///
+/// ```
+/// # let mut store = [0; 8 * 512];
+/// use amiqsovik::{format, insert, remove, squeeze, Refusal, Stop, Worked};
+/// format(&mut store, 40, 7)?;
+/// for block in 0..90 {
+///     insert(&mut store, 2, block, 1)?;
+/// }
+/// for block in 50..80 {
+///     remove(&mut store, 2, block, 1)?;
+/// }
+/// assert_eq!(squeeze(&mut store, 0, 4)?, Worked { steps: 4, stop: Stop::Spent });
+/// assert_eq!(squeeze(&mut store, 0, 1000)?, Worked { steps: 6, stop: Stop::Idle });
+/// assert_eq!(squeeze(&mut store, 2, 1000), Err(Refusal::Number));
+/// # Ok::<(), amiqsovik::Refusal>(())
+/// ```
+pub fn squeeze(store: &mut [u8], bucket: u32, budget: u32) -> Result<Worked, Refusal> {
+    Word(foreign::squeeze(store, bucket, budget)).done().map(Word::worked)
 }
 
 /// How the index stands.

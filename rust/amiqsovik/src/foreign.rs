@@ -13,6 +13,7 @@ mod c {
         pub fn amiqsovik_remove(store: *mut u8, len: usize, hash: u32, block: u32, offset: u32) -> u64;
         pub fn amiqsovik_lookup(store: *const u8, len: usize, hash: u32, out: *mut u8, out_len: usize) -> u64;
         pub fn amiqsovik_work(store: *mut u8, len: usize, budget: u32) -> u64;
+        pub fn amiqsovik_squeeze(store: *mut u8, len: usize, bucket: u32, budget: u32) -> u64;
         pub fn amiqsovik_standing(store: *const u8, len: usize, result: *mut u8, result_len: usize) -> u64;
     }
 }
@@ -55,6 +56,11 @@ pub fn lookup(store: &[u8], hash: u32, output: &mut [u8]) -> u64 {
 pub fn work(store: &mut [u8], budget: u32) -> u64 {
     // SAFETY: the store is lent to be changed, and nothing else.
     unsafe { c::amiqsovik_work(store.as_mut_ptr(), store.len(), budget) }
+}
+
+pub fn squeeze(store: &mut [u8], bucket: u32, budget: u32) -> u64 {
+    // SAFETY: the store is lent to be changed, and nothing else.
+    unsafe { c::amiqsovik_squeeze(store.as_mut_ptr(), store.len(), bucket, budget) }
 }
 
 pub fn standing(store: &[u8], result: &mut [u8; RESULT_SIZE]) -> u64 {

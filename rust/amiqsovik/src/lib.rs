@@ -6,7 +6,7 @@
 //! nothing, and needs no `std`. A call takes at most 64 KiB of stack, which is not proved, but measured by
 //! `compare/tests/stack.rs`.
 //!
-//! The eight calls are functions over slices, format two of them; [`Store`] has them as methods.
+//! The nine calls are functions over slices, format two of them; [`Store`] has them as methods.
 //!
 //! ```
 //! use amiqsovik::{Reading, Store};
@@ -20,7 +20,8 @@
 //! ```
 //!
 //! Splits of buckets go step by step, when you say so: call [`work`] when [`standing`]'s slack is below zero. Lookups
-//! find the same readings before, between and after the steps.
+//! find the same readings before, between and after the steps. [`squeeze`] does the same for a chain that removals have
+//! left long and thin: step by step it gathers the entries of a bucket on the first pages, and frees the others.
 
 #![no_std]
 #![warn(missing_docs, clippy::missing_errors_doc, clippy::missing_panics_doc)]
@@ -35,7 +36,7 @@ mod store;
 mod word;
 
 pub use answer::{Phase, Refusal, Standing, Stop, Worked};
-pub use calls::{format, format_over, in_use, insert, lookup, remove, standing, verify, work};
+pub use calls::{format, format_over, in_use, insert, lookup, remove, squeeze, standing, verify, work};
 pub use matches::{Matches, Reading, MATCH_SIZE};
 pub use store::Store;
 

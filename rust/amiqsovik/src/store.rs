@@ -135,6 +135,15 @@ impl<'a> Store<'a> {
         calls::work(self.bytes, budget)
     }
 
+    /// Makes steps of a squeeze of a bucket; see [`squeeze`](crate::squeeze).
+    ///
+    /// # Errors
+    ///
+    /// As [`squeeze`](crate::squeeze) has them.
+    pub fn squeeze(&mut self, bucket: u32, budget: u32) -> Result<Worked, Refusal> {
+        calls::squeeze(self.bytes, bucket, budget)
+    }
+
     /// How the index stands; see [`standing`](crate::standing).
     ///
     /// # Errors

@@ -1,6 +1,6 @@
 //! What the archive answers, taken apart: the word of each call, and the bytes that standing writes.
 
-use crate::answer::{Phase, Refusal, Standing, Stop};
+use crate::answer::{Phase, Refusal, Standing, Stop, Worked};
 
 /// The bytes that standing writes.
 pub const RESULT_SIZE: usize = 28;
@@ -15,12 +15,12 @@ impl Word {
         (self.0 >> 32) as u32
     }
 
-    /// Bits 16..31: work's steps.
+    /// Bits 16..31: the steps of work or a squeeze.
     pub fn steps(self) -> u32 {
         (self.0 >> 16) as u32 & 0xFFFF
     }
 
-    /// Bits 8..15: work's stop.
+    /// Bits 8..15: the stop of work or a squeeze.
     pub fn stop(self) -> Stop {
         match (self.0 >> 8) as u8 {
             0 => Stop::Spent,
@@ -28,6 +28,11 @@ impl Word {
             9 => Stop::Idle,
             number => Stop::Unknown { number },
         }
+    }
+
+    /// What work or a squeeze did.
+    pub fn worked(self) -> Worked {
+        Worked { steps: self.steps(), stop: self.stop() }
     }
 
     /// Bits 0..7: done, or the refusal.
@@ -43,6 +48,7 @@ impl Word {
             6 => Refusal::NotHeld,
             7 => Refusal::NoRoom,
             8 => Refusal::OutputShort { matches: gives },
+            11 => Refusal::Busy,
             12 => Refusal::InUse,
             number => Refusal::Unknown { number, gives },
         })
@@ -68,20 +74,24 @@ pub fn standing(result: &[u8; RESULT_SIZE]) -> Standing {
 mod tests {
     use super::*;
 
-    /// Document 01's table with 12, and what a word with each number becomes. 9 to 11, 13, 14 and 255 are none of the
-    /// wrapper's.
+    /// Document 01's table with 11 and 12, and what a word with each number becomes. 9, 10, 13, 14 and 255 are none of
+    /// the wrapper's.
     #[test]
     fn refusals_by_number() {
         let names =
             ["length", "number", "damaged", "not an index", "held already", "not held", "no room", "output short"];
         for number in 1..=255u8 {
             let refusal = Word(77 << 32 | u64::from(number)).done().err().expect("a refusal");
-            let other = if number == 12 { "in use" } else { "unknown" };
+            let other = match number {
+                11 => "busy",
+                12 => "in use",
+                _ => "unknown",
+            };
             let name = names.get(usize::from(number) - 1).copied().unwrap_or(other);
-            let gives = if [1, 2, 5, 6, 7, 12].contains(&number) { 0 } else { 77 };
+            let gives = if [1, 2, 5, 6, 7, 11, 12].contains(&number) { 0 } else { 77 };
             assert_eq!((refusal.number(), refusal.gives(), refusal.name()), (number, gives, name));
         }
-        assert_eq!(Word(11).done().err(), Some(Refusal::Unknown { number: 11, gives: 0 }));
+        assert_eq!(Word(13).done().err(), Some(Refusal::Unknown { number: 13, gives: 0 }));
         assert_eq!(Word(77 << 32).done().map(Word::gives), Ok(77));
     }
 
@@ -90,6 +100,7 @@ mod tests {
         for number in 0..=255u8 {
             let word = Word(0x1234 << 16 | u64::from(number) << 8);
             assert_eq!((word.stop().number(), word.steps()), (number, 0x1234));
+            assert_eq!(word.worked(), Worked { steps: 0x1234, stop: word.stop() });
             assert_eq!(matches!(word.stop(), Stop::Unknown { .. }), ![0, 7, 9].contains(&number));
         }
     }

@@ -47,6 +47,7 @@ fn numbers_and_names() {
         ("NOT_HELD", Refusal::NotHeld),
         ("NO_ROOM", Refusal::NoRoom),
         ("OUTPUT_SHORT", Refusal::OutputShort { matches: 1 }),
+        ("BUSY", Refusal::Busy),
         ("IN_USE", Refusal::InUse),
     ];
     for (name, refusal) in refusals {

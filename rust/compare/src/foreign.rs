@@ -15,6 +15,7 @@ pub mod c {
         pub fn amiqsovik_remove(store: *mut u8, len: usize, hash: u32, block: u32, offset: u32) -> u64;
         pub fn amiqsovik_lookup(store: *const u8, len: usize, hash: u32, out: *mut u8, out_len: usize) -> u64;
         pub fn amiqsovik_work(store: *mut u8, len: usize, budget: u32) -> u64;
+        pub fn amiqsovik_squeeze(store: *mut u8, len: usize, bucket: u32, budget: u32) -> u64;
         pub fn amiqsovik_standing(store: *const u8, len: usize, result: *mut u8, result_len: usize) -> u64;
 
         pub(super) fn clock_gettime(clock: c_int, time: *mut [i64; 2]) -> c_int;
@@ -34,6 +35,12 @@ pub fn thread_time() -> Duration {
 pub fn format(store: &mut [u8], fill: u32, number: u32, overwrite: u32) -> u64 {
     // SAFETY: the pointer is that of a slice, with its length, which is lent to be changed.
     unsafe { c::amiqsovik_format(store.as_mut_ptr(), store.len(), fill, number, overwrite) }
+}
+
+/// The word that a squeeze answers.
+pub fn squeeze(store: &mut [u8], bucket: u32, budget: u32) -> u64 {
+    // SAFETY: the pointer is that of a slice, with its length, which is lent to be changed.
+    unsafe { c::amiqsovik_squeeze(store.as_mut_ptr(), store.len(), bucket, budget) }
 }
 
 /// The word that in_use answers.

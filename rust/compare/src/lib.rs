@@ -1,14 +1,15 @@
 //! The proved index and the ordinary one, side by side.
 //!
 //! The tests in `tests/` make calls through [`twin::Twin`], which makes each on both and compares answers, stores and
-//! outputs to the byte. Everything else here is aid: a generator of numbers, the check bit by bit, stores built or
-//! spoilt from outside, the book of demand 3, and what the benchmark measures.
+//! outputs to the byte. Everything else here is aid: a generator of numbers, the check bit by bit, stores built, read
+//! or spoilt from outside, the book of demand 3, and what the benchmark measures.
 
 #![deny(unsafe_code)]
 
 pub mod book;
 pub mod brink;
 pub mod build;
+pub mod chains;
 #[allow(unsafe_code)]
 pub mod foreign;
 pub mod lists;

@@ -2,8 +2,8 @@
 
 use crate::foreign;
 
-/// An answer: the number of the refusal or 0, what it gives besides, and work's steps and stop. A done lookup gives
-/// its number of matches.
+/// An answer: the number of the refusal or 0, what it gives besides, and the steps and the stop of work or a squeeze. A
+/// done lookup gives its number of matches.
 #[derive(Debug, Clone, Copy, PartialEq, Eq, Default)]
 pub struct Reply {
     pub number: u8,
@@ -21,7 +21,7 @@ impl Reply {
         Reply { number, gives, ..Reply::default() }
     }
 
-    /// Work that made so many steps and stopped so.
+    /// Work, or a squeeze, that made so many steps and stopped so.
     pub fn worked(steps: u32, stop: u8) -> Self {
         Reply { steps, stop, ..Reply::default() }
     }
@@ -62,6 +62,7 @@ pub trait Side {
     fn work_sealed_once(store: &mut [u8], budget: u32) -> Reply {
         Self::work(store, budget)
     }
+    fn squeeze(store: &mut [u8], bucket: u32, budget: u32) -> Reply;
     fn standing(store: &[u8]) -> (Reply, State);
 }
 
@@ -105,10 +106,11 @@ impl Side for Proved {
     }
 
     fn work(store: &mut [u8], budget: u32) -> Reply {
-        match amiqsovik::work(store, budget) {
-            Ok(did) => Reply::worked(did.steps, did.stop.number()),
-            Err(refusal) => proved(Err(refusal)),
-        }
+        did(amiqsovik::work(store, budget))
+    }
+
+    fn squeeze(store: &mut [u8], bucket: u32, budget: u32) -> Reply {
+        did(amiqsovik::squeeze(store, bucket, budget))
     }
 
     fn standing(store: &[u8]) -> (Reply, State) {
@@ -133,6 +135,13 @@ fn proved(answer: Result<(), amiqsovik::Refusal>) -> Reply {
     match answer {
         Ok(()) => Reply::default(),
         Err(refusal) => Reply::refused(refusal.number(), refusal.gives()),
+    }
+}
+
+fn did(answer: Result<amiqsovik::Worked, amiqsovik::Refusal>) -> Reply {
+    match answer {
+        Ok(did) => Reply::worked(did.steps, did.stop.number()),
+        Err(refusal) => proved(Err(refusal)),
     }
 }
 
@@ -170,6 +179,10 @@ impl Side for Ordinary {
 
     fn work_sealed_once(store: &mut [u8], budget: u32) -> Reply {
         worked(ordinary::work_sealed_once(store, budget))
+    }
+
+    fn squeeze(store: &mut [u8], bucket: u32, budget: u32) -> Reply {
+        worked(ordinary::squeeze(store, bucket, budget))
     }
 
     fn standing(store: &[u8]) -> (Reply, State) {

@@ -71,6 +71,26 @@ pub fn chain(blocks: u32, pages: u32) -> Vec<u8> {
     lone(blocks, pages)
 }
 
+/// One chain of random pairs, with so many on each page.
+pub fn shaped(blocks: u32, lengths: &[u32]) -> Vec<u8> {
+    let mut random = Random::new(lengths.len() as u64 + 3);
+    let mut page = |&entries: &u32| (0..entries).map(|_| (of(&mut random, 4, 0), false)).collect();
+    let pages = lengths.iter().map(&mut page).collect();
+    lone(blocks, pages)
+}
+
+/// One chain of so many pages of 20 random pairs, dealt at random.
+pub fn half_empty(blocks: u32, pages: u32) -> Vec<u8> {
+    shaped(blocks, &vec![20; pages as usize])
+}
+
+/// The same with 1 to 3 pairs a page, as a storm of removals leaves a chain.
+pub fn thin(blocks: u32, pages: u32) -> Vec<u8> {
+    let mut random = Random::new(u64::from(pages) + 4);
+    let lengths: Vec<u32> = (0..pages).map(|_| random.within(1, 3)).collect();
+    shaped(blocks, &lengths)
+}
+
 /// The longest chain that there is, of full pages of random pairs, all but so many at its end.
 pub fn longest(blocks: u32, but: u32) -> Vec<u8> {
     let mut random = Random::new(u64::from(blocks) + 2);

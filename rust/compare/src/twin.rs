@@ -65,6 +65,15 @@ impl Twin {
         self.write(&call, |store| Proved::work(store, budget), |store| Ordinary::work(store, budget))
     }
 
+    pub fn squeeze(&mut self, bucket: u32, budget: u32) -> Reply {
+        let call = format!("squeeze {bucket} {budget}");
+        self.write(
+            &call,
+            |store| Proved::squeeze(store, bucket, budget),
+            |store| Ordinary::squeeze(store, bucket, budget),
+        )
+    }
+
     /// A lookup with an output of `room` bytes, and the matches that it gave.
     pub fn lookup(&self, hash: u32, room: usize) -> (Reply, Vec<(u32, u16)>) {
         let blank: Vec<u8> = (0..room).map(|i| 0xA5 ^ i as u8).collect();

@@ -13,11 +13,15 @@ pub fn file(name: &str) -> String {
     std::fs::read_to_string(format!("{folder}/{name}")).unwrap_or_else(|error| panic!("{name}: {error}"))
 }
 
-/// How many calls were replayed, and how many of them were refused with 12.
+/// How many calls were replayed, and how many of them were refused with 12; how many were squeezes, and how many of
+/// those were refused with 11 and how many made a step.
 #[derive(Debug, Default, PartialEq, Eq)]
 pub struct Replayed {
     pub calls: u32,
     pub in_use: u32,
+    pub squeezes: u32,
+    pub busy: u32,
+    pub moved: u32,
 }
 
 impl Replayed {
@@ -26,6 +30,13 @@ impl Replayed {
         assert_eq!(written, said, "{label}");
         self.calls += 1;
         self.in_use += u32::from(said.starts_with("12 "));
+    }
+
+    /// Counts a squeeze by what the file says: number, what it gives, steps.
+    fn squeeze(&mut self, said: &[&str]) {
+        self.squeezes += 1;
+        self.busy += u32::from(said[0] == "11");
+        self.moved += u32::from(said[2] != "0");
     }
 }
 
@@ -91,7 +102,7 @@ pub fn replay_02<S: Side>(text: &str) -> Replayed {
             "B" => put_block(&mut store, &words),
             _ => {
                 let (taken, mut said) = words.split_at(arguments(kind, 3));
-                if ["+", "-", "w"].contains(&kind) {
+                if ["+", "-", "w", "z"].contains(&kind) {
                     // The last word is the digest of a journal, and there is none yet.
                     said = &said[..said.len() - 1];
                 }
@@ -99,6 +110,9 @@ pub fn replay_02<S: Side>(text: &str) -> Replayed {
                 replayed.call(&with_digest(answer, after), &said.join(" "), &label);
                 if kind == "s" {
                     in_use::<S>(&store, said, &label);
+                }
+                if kind == "z" {
+                    replayed.squeeze(said);
                 }
             }
         }
@@ -126,7 +140,7 @@ fn arguments(kind: &str, format: usize) -> usize {
     match kind {
         "V" | "s" => 0,
         "w" => 1,
-        "?" => 2,
+        "?" | "z" => 2,
         "+" | "-" => 3,
         "f" => format,
         other => panic!("a file has a call {other}"),
@@ -182,6 +196,10 @@ fn answer<S: Side>(store: &[u8], kind: &str, numbers: &[u32]) -> (String, Option
         ("-", &[hash, block, offset]) => plain(S::remove(&mut copy, hash, block, offset)),
         ("w", &[budget]) => {
             let reply = S::work(&mut copy, budget);
+            format!("{} {} {}", plain(reply), reply.steps, reply.stop)
+        }
+        ("z", &[bucket, budget]) => {
+            let reply = S::squeeze(&mut copy, bucket, budget);
             format!("{} {} {}", plain(reply), reply.steps, reply.stop)
         }
         ("f", &[fill, number, overwrite]) => S::format(&mut copy, fill, number, overwrite).number.to_string(),

@@ -1,4 +1,4 @@
-//! Demand 3: after every call, and after every single step of work, both indexes say what the book says.
+//! Demand 3: after every call, and after every single step of work or a squeeze, both indexes say what the book says.
 
 use compare::book::{Book, Tally};
 use compare::lists::{Call, Maker};
@@ -36,6 +36,7 @@ fn runs(seeds: std::ops::Range<u64>, codes: u32, places: u32, calls: u32) {
         run(seed, blocks, 1 + 3 * (seed as u32 % 3), calls, &mut maker, &mut tally);
     }
     assert!(tally.counted > 0 && tally.disturbed > 0 && tally.moved > 0, "{tally:?}");
+    assert!(tally.busy > 0, "{tally:?}");
     // More than the last formats of each list.
     assert!(tally.kept > lists && tally.emptied > 0, "{tally:?}");
 }
@@ -64,6 +65,18 @@ fn splits_with_nothing_in_between() {
         run(seed, 20, 2, 60, &mut maker, &mut tally);
     }
     assert!(tally.counted >= 8, "{tally:?}");
+}
+
+/// Long chains, thinned out where the tide has more removals, and squeezed: also while another bucket is split.
+#[test]
+fn squeezes_of_thin_chains() {
+    let mut tally = Tally::default();
+    for seed in 1500..1506 {
+        let mut maker = Maker::new(seed, 3, 200, true);
+        maker.squeezes = 8;
+        run(seed, 20, 20 + 4 * (seed as u32 % 6), 620, &mut maker, &mut tally);
+    }
+    assert!(tally.squeezed >= 30 && tally.between > 0 && tally.busy > 0, "{tally:?}");
 }
 
 /// A book emptied pair by pair in the midst of a split: then a format that does not overwrite is accepted.

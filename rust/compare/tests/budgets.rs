@@ -1,34 +1,40 @@
-//! Work in parts: whatever the budgets are, the steps and the bytes are those of one call.
+//! Work and squeezes in parts: whatever the budgets are, the steps and the bytes are those of one call.
 
 use compare::build::{found, sound};
+use compare::chains::squeeze_steps;
 use compare::random::Random;
 use compare::side::Reply;
 use compare::spoil::spoil;
-use compare::stores::{copying, copying_one_code, wanting};
+use compare::stores::{copying, copying_one_code, half_empty, shaped, thin, wanting};
 use compare::twin::Twin;
 
 const MOST: u32 = 65_535;
 
-/// The bytes that work leaves when nothing but work is called, and what it answers.
-fn whole(twin: &Twin) -> (Reply, Vec<u8>) {
+/// Work, or a squeeze of bucket 0, with a budget.
+type Steps = fn(&mut Twin, u32) -> Reply;
+
+const WORK: Steps = Twin::work;
+const SQUEEZE: Steps = |twin, budget| twin.squeeze(0, budget);
+
+/// The bytes that steps leave when nothing else is called, and what the call answers.
+fn whole(twin: &Twin, call: Steps) -> (Reply, Vec<u8>) {
     let mut twin = twin.clone();
-    let reply = twin.work(MOST);
+    let reply = call(&mut twin, MOST);
     (reply, twin.bytes().to_vec())
 }
 
-#[test]
-fn every_budget() {
-    let twin = Twin::new(wanting(16), "wanting");
-    let (reply, end) = whole(&twin);
-    assert_eq!(reply, Reply::worked(163, 9));
-    for budget in 0..=164 {
+/// Every budget, up to one more than the steps to the end, and then the rest.
+fn every_budget(twin: &Twin, call: Steps, all: u32) {
+    let (reply, end) = whole(twin, call);
+    assert_eq!(reply, Reply::worked(all, 9), "{}", twin.label);
+    for budget in 0..=all + 1 {
         let mut twin = twin.clone();
-        twin.label = format!("wanting, work {budget}");
-        let mut left = 163;
+        twin.label += &format!(", budget {budget}");
+        let mut left = all;
         for budget in [budget, 3, MOST] {
             let steps = left.min(budget);
             let stop = if steps == budget { 0 } else { 9 };
-            assert_eq!(twin.work(budget), Reply::worked(steps, stop), "{}", twin.label);
+            assert_eq!(call(&mut twin, budget), Reply::worked(steps, stop), "{}", twin.label);
             assert!(twin.verify().done(), "{}", twin.label);
             left -= steps;
         }
@@ -37,10 +43,26 @@ fn every_budget() {
 }
 
 #[test]
+fn every_budget_of_work() {
+    every_budget(&Twin::new(wanting(16), "wanting"), WORK, 163);
+}
+
+#[test]
+fn every_budget_of_a_squeeze() {
+    let shapes = [&[5, 1][..], &[0, 40], &[39, 40, 38, 20, 3], &[0, 7, 40, 3, 39, 1, 1, 20, 40, 2, 5, 1, 9]];
+    for lengths in shapes {
+        let twin = Twin::new(shaped(16, lengths), format!("{lengths:?}"));
+        every_budget(&twin, SQUEEZE, squeeze_steps(twin.bytes(), 0));
+    }
+}
+
+#[test]
 fn random_budgets() {
-    for (name, store) in [("copying", copying(128)), ("one code", copying_one_code(128))] {
+    let work = [("copying", copying(128), WORK), ("one code", copying_one_code(128), WORK)];
+    let squeezes = [("thin", thin(128, 125), SQUEEZE), ("half empty", half_empty(128, 125), SQUEEZE)];
+    for (name, store, call) in work.into_iter().chain(squeezes) {
         let twin = Twin::new(store, name);
-        let (reply, end) = whole(&twin);
+        let (reply, end) = whole(&twin, call);
         for seed in 0..6 {
             let mut random = Random::new(10_000 + seed);
             let mut twin = twin.clone();
@@ -48,7 +70,7 @@ fn random_budgets() {
             let mut steps = 0;
             let stop = loop {
                 let budget = [0, 1, 2, random.below(40), random.below(300), random.below(1500)];
-                let reply = twin.work(random.pick(&budget));
+                let reply = call(&mut twin, random.pick(&budget));
                 assert!(reply.done() && twin.verify().done(), "{}, after {steps}: {reply:?}", twin.label);
                 steps += reply.steps;
                 if reply.stop != 0 {
@@ -61,33 +83,38 @@ fn random_budgets() {
     }
 }
 
-/// Work by `first` and then by `second` does what work by both together does.
-fn twice(twin: &Twin, first: u32, second: u32) {
+/// Steps by `first` and then by `second` are those by both together.
+fn twice(twin: &Twin, call: Steps, first: u32, second: u32) {
     let (mut parted, mut once) = (twin.clone(), twin.clone());
-    let (a, b) = (parted.work(first), parted.work(second));
-    let together = once.work(first + second);
+    let (a, b) = (call(&mut parted, first), call(&mut parted, second));
+    let together = call(&mut once, first + second);
     let label = format!("{}, {first} and {second}", twin.label);
-    assert_eq!(Reply::worked(a.steps + b.steps, b.stop), together, "{label}");
+    // A budget of 0 stops with 0 whatever came before it.
+    let stop = if second == 0 { a.stop } else { b.stop };
+    assert_eq!(Reply { steps: a.steps + b.steps, stop, ..b }, together, "{label}");
     assert!(parted.bytes() == once.bytes(), "{label}: other bytes");
 }
 
 #[test]
 fn two_calls_as_one() {
-    let long = [copying(128), copying_one_code(128), copying_one_code(108), wanting(64), wanting(128)];
+    let work = [copying(128), copying_one_code(128), copying_one_code(108), wanting(64), wanting(128)];
+    let squeezes = [thin(128, 125), half_empty(128, 125), thin(1024, 1021), half_empty(1024, 1021)];
     let mut random = Random::new(11_000);
-    for (number, store) in long.into_iter().enumerate() {
+    let long = work.map(|store| (store, WORK)).into_iter().chain(squeezes.map(|store| (store, SQUEEZE)));
+    for (number, (store, call)) in long.enumerate() {
         let twin = Twin::new(store, format!("long {number}"));
-        let (reply, _) = whole(&twin);
+        let (reply, _) = whole(&twin, call);
         for _ in 0..12 {
             let both = random.below(reply.steps + 50);
             let first = random.below(both + 1);
-            twice(&twin, first, both - first);
+            twice(&twin, call, first, both - first);
         }
     }
     for seed in 0..200 {
         let blocks = random.within(4, 24);
         let twin = Twin::new(sound(&mut random, blocks, seed % 3, 90), format!("built {seed}"));
-        twice(&twin, random.below(30), random.below(60));
+        twice(&twin, WORK, random.below(30), random.below(60));
+        twice(&twin, SQUEEZE, random.below(30), random.below(60));
     }
 }
 

@@ -10,19 +10,22 @@ fn pairs(store: &[u8]) -> Vec<Pair> {
     found(store).map(|entry| entry.pair).collect()
 }
 
-/// Calls on a store: on pairs that stand in it, on others, and work.
+/// Calls on a store: on pairs that stand in it, on others, work, and squeezes.
 fn calls(random: &mut Random, twin: &mut Twin, number: u32, seen: &mut Seen) {
     for _ in 0..number {
         let pair = match pairs(twin.bytes()) {
             pairs if pairs.is_empty() => (1, 1, 1),
             pairs => random.pick(&pairs),
         };
-        let call = match random.below(8) {
+        let bucket = random.below(twin.standing().1.buckets + 1);
+        let call = match random.below(10) {
             0 | 1 => Call::Insert(pair),
             2 => Call::Insert((pair.0, pair.1 ^ 1 << random.below(20), pair.2)),
             3 | 4 => Call::Remove(pair),
             5 => Call::Lookup(pair.0, random.below(90) as usize),
             6 => Call::Lookup(pair.0, 40_000),
+            7 => Call::Squeeze(bucket, random.below(20)),
+            8 => Call::Squeeze(bucket, 65_535),
             _ => Call::Work(random.below(20)),
         };
         let reply = call.make(twin);
@@ -45,8 +48,9 @@ fn small_and_middle() {
         let reply = twin.work(65_535);
         seen.note(Call::Work(65_535), reply, &twin);
     }
-    seen.reached(&[0, 5, 6, 7, 8], &[0, 7, 9], &[0, 1, 2]);
-    assert!(seen.longest_chain >= 5 && seen.most_free_pages >= 5, "{seen:?}");
+    seen.reached(&[0, 2, 5, 6, 7, 8, 11], &[0, 7, 9], &[0, 1, 2]);
+    assert!([(2, 0), (11, 0), (0, 0), (0, 9)].iter().all(|wanted| seen.squeezes.contains_key(wanted)), "{seen:?}");
+    assert!(seen.squeezed > 0 && seen.longest_chain >= 5 && seen.most_free_pages >= 5, "{seen:?}");
 }
 
 #[test]

@@ -74,6 +74,7 @@ fn checks_that_calls_write() {
     let mut random = Random::new(3);
     let mut pairs = Vec::new();
     let number = 0xA1B2_C3D4;
+    let mut squeezed = 0;
     assert!(twin.format(5, number, 0).done());
     for round in 0..60 {
         for _ in 0..10 {
@@ -85,8 +86,10 @@ fn checks_that_calls_write() {
         let (hash, block, offset) = pairs.swap_remove(random.below(pairs.len() as u32) as usize);
         assert!(twin.remove(hash, block, offset).done());
         assert_eq!(twin.work(7).number, 0);
+        squeezed += (0..3).map(|bucket| twin.squeeze(bucket, 9).steps).sum::<u32>();
         for (at, block) in twin.bytes().chunks_exact(512).enumerate() {
             assert_eq!(block[508..], check(number, at, block).to_le_bytes(), "round {round}, block {at}");
         }
     }
+    assert!(squeezed > 0);
 }

@@ -2,6 +2,7 @@
 
 use compare::build::sound;
 use compare::random::Random;
+use compare::seal::seal_all;
 use compare::side::Reply;
 use compare::twin::Twin;
 
@@ -37,6 +38,7 @@ fn lengths() {
             assert_eq!((twin.insert(1, 1, good), twin.insert(1, 1, bad)), (length, length));
             assert_eq!((twin.remove(1, 1, good), twin.remove(1, u32::MAX, bad)), (length, length));
             assert_eq!((twin.work(good), twin.work(u32::MAX)), (length, length));
+            assert_eq!((twin.squeeze(0, good), twin.squeeze(bad, u32::MAX)), (length, length));
         }
     }
 }
@@ -66,6 +68,10 @@ fn numbers() {
     }
     for budget in [65_536, 65_537, u32::MAX] {
         assert_eq!(twin.work(budget), number);
+        assert_eq!((twin.squeeze(0, budget), twin.squeeze(2, budget)), (number, number));
+    }
+    for bucket in [2, 3, 65_536, 1 << 31, u32::MAX] {
+        assert_eq!([0, 1, 65_535].map(|budget| twin.squeeze(bucket, budget)), [number; 3]);
     }
     for hash in [0, 77, u32::MAX] {
         assert!(twin.insert(hash, u32::MAX - 1, 65_535).done());
@@ -75,6 +81,48 @@ fn numbers() {
     }
     assert_eq!(twin.work(65_535), Reply::worked(0, 9));
     assert_eq!(twin.work(0), Reply::default());
+    for bucket in [0, 1] {
+        assert_eq!(twin.squeeze(bucket, 65_535), Reply::worked(0, 9));
+        assert_eq!(twin.squeeze(bucket, 0), Reply::default());
+    }
+}
+
+/// A squeeze's refusals: 2 for the budget, 3 or 4, 2 for the bucket, 11, whatever else is wrong, and whatever budget.
+#[test]
+fn the_order_of_a_squeeze() {
+    let (number, busy) = (Reply::refused(2, 0), Reply::refused(11, 0));
+    for (seed, blocks) in (0..).zip([5, 5, 5, 12, 12, 40, 40, 128, 700, 1024]) {
+        for phase in 0..3 {
+            let store = sound(&mut Random::new(26_000 + seed), blocks, phase, 60);
+            let mut damaged = store.clone();
+            damaged[512 * 3 + 8] ^= 4;
+            let mut broken = damaged.clone();
+            seal_all(&mut broken);
+            let mut twin = Twin::new(store, format!("seed {seed}, phase {phase}"));
+            let (_, state) = twin.standing();
+            let job = |bucket| phase > 0 && [state.old, state.new].contains(&bucket);
+            let buckets = [0, 1, state.old, state.new, state.buckets - 1, state.buckets, 1 << 31, u32::MAX];
+            for bucket in buckets {
+                for budget in [65_536, 1 << 31, u32::MAX] {
+                    let stores = [&damaged, &broken].map(|bytes| Twin::new(bytes.clone(), "wrong"));
+                    assert_eq!(stores.map(|mut wrong| wrong.squeeze(bucket, budget)), [number; 2], "{}", twin.label);
+                    assert_eq!(twin.squeeze(bucket, budget), number, "{}", twin.label);
+                }
+                for budget in [0, 1, 65_535] {
+                    let answer = |bytes: &[u8]| Twin::new(bytes.to_vec(), "wrong").squeeze(bucket, budget);
+                    let wanted = [Reply::refused(3, 3), Reply::refused(4, 6)];
+                    assert_eq!([answer(&damaged), answer(&broken)], wanted, "{}", twin.label);
+                    let reply = twin.clone().squeeze(bucket, budget);
+                    match bucket {
+                        bucket if bucket >= state.buckets => assert_eq!(reply, number, "{}", twin.label),
+                        bucket if job(bucket) => assert_eq!(reply, busy, "{}", twin.label),
+                        _ if budget == 0 => assert_eq!(reply, Reply::default(), "{}", twin.label),
+                        _ => assert!(reply.done() && [0, 9].contains(&reply.stop), "{}: {reply:?}", twin.label),
+                    }
+                }
+            }
+        }
+    }
 }
 
 #[test]

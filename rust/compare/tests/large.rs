@@ -33,6 +33,7 @@ fn built_and_spoilt_stores() {
         *seen.entry((verdict.number, verdict.gives)).or_default() += 1;
         let answers = [twin.standing().0, twin.lookup(1, 12).0, twin.clone().work(2), twin.clone().insert(1, 1, 1)];
         assert!(verdict.done() || answers == [verdict; 4], "{}: {verdict:?}, {answers:?}", twin.label);
+        assert!(verdict.done() || twin.clone().squeeze(seed as u32, 2) == verdict, "{}: {verdict:?}", twin.label);
     }
     assert!((1..=8).all(|rule| seen.get(&(4, rule)).is_some_and(|&times| times >= 2)), "{seen:?}");
     assert_eq!(seen.len(), 9, "{seen:?}");

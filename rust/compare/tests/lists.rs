@@ -28,6 +28,14 @@ fn formats_reached(seen: &Seen) {
     }
 }
 
+/// Squeezes that were refused with 2 and 11, that spent their budget and that came to an end, and steps of theirs.
+fn squeezes_reached(seen: &Seen) {
+    for wanted in [(2, 0), (11, 0), (0, 0), (0, 9)] {
+        assert!(seen.squeezes.contains_key(&wanted), "{wanted:?}: {seen:?}");
+    }
+    assert!(seen.squeezed > 0, "{seen:?}");
+}
+
 #[test]
 fn few_codes_in_small_stores() {
     let mut seen = Seen::default();
@@ -37,6 +45,7 @@ fn few_codes_in_small_stores() {
     }
     seen.reached(&[0, 2, 5, 6, 7, 8, 12], &[0, 7, 9], &[0, 1, 2]);
     formats_reached(&seen);
+    squeezes_reached(&seen);
     assert!(seen.longest_chain >= 4 && seen.most_free_pages >= 1, "{seen:?}");
 }
 
@@ -49,6 +58,7 @@ fn many_codes_in_middle_stores() {
     }
     seen.reached(&[0, 2, 5, 6, 8, 12], &[0, 7, 9], &[0, 1, 2]);
     formats_reached(&seen);
+    squeezes_reached(&seen);
     assert!(seen.most_buckets >= 12 && seen.most_free_pages >= 1, "{seen:?}");
 }
 

@@ -1,11 +1,12 @@
 //! The stores that the benchmark measures on are sound and what it says, and both sides make its calls alike.
 
 use compare::build::{found, Layout};
+use compare::chains::{dense, lengths, squeeze_steps};
 use compare::foreign::thread_time;
 use compare::rows::{rows, Bench};
 use compare::side::{Ordinary, Proved, Side};
-use compare::stores::{chain, copying, copying_one_code, crowd, even, job_pages, leavers, leaving, longest, wanting};
-use compare::stores::{Order, Split, CODE, EACH};
+use compare::stores::{chain, copying, copying_one_code, crowd, even, half_empty, leaving, longest, thin, wanting};
+use compare::stores::{job_pages, leavers, Order, Split, CODE, EACH};
 use compare::twin::Twin;
 use std::collections::BTreeMap;
 use std::time::Duration;
@@ -106,6 +107,30 @@ fn chains_and_crowds() {
             let wanted = (2, blocks as usize - 3, entries - but);
             assert_eq!((buckets, pages, twin.standing().1.count), wanted, "{}", twin.label);
             assert_eq!(twin.insert(4, 7, 7).number, if but == 0 { 7 } else { 0 }, "{}", twin.label);
+        }
+    }
+}
+
+/// The rows of squeezes: the longest chains, of half-empty pages and of 1 to 3 entries a page, which one call brings to
+/// as few pages as their entries need.
+#[test]
+fn squeezes() {
+    let rows: Vec<_> = rows().into_iter().filter(|row| row.has("squeeze")).collect();
+    let sizes: Vec<_> = rows.iter().map(|row| row.blocks).collect();
+    assert_eq!(sizes, [16, 128, 1024].repeat(4));
+    for blocks in [16, 128, 1024] {
+        let stores = [(half_empty(blocks, blocks - 3), 20..=20), (thin(blocks, blocks - 3), 1..=3)];
+        for (store, each) in stores {
+            let (mut twin, buckets, pages) = judged(store, format!("N {blocks}, {each:?} entries a page"));
+            let before = lengths(twin.bytes(), 0);
+            assert!(before.iter().all(|entries| each.contains(entries)), "{}: {before:?}", twin.label);
+            assert_eq!((buckets, pages, before.len() as u32 + 3), (2, before.len(), blocks), "{}", twin.label);
+            let count = twin.standing().1.count;
+            assert_eq!(count, before.iter().sum::<u32>(), "{}", twin.label);
+            let steps = squeeze_steps(twin.bytes(), 0);
+            assert!(steps > count / 3 && steps < count, "{}: {steps} of {count}", twin.label);
+            assert_eq!(twin.squeeze(0, 65_535).steps, steps, "{}", twin.label);
+            assert!(dense(twin.bytes(), 0) && twin.verify().done(), "{}", twin.label);
         }
     }
 }

@@ -42,6 +42,7 @@ fn damaged(store: &[u8], wrong: usize, label: String) {
     assert_eq!((twin.standing().0, twin.lookup(5, 60).0), (verdict, verdict), "{}", twin.label);
     assert_eq!((twin.clone().insert(5, 7, 1), twin.clone().remove(5, 7, 1)), (verdict, verdict), "{}", twin.label);
     assert_eq!(twin.clone().work(3), verdict, "{}", twin.label);
+    assert_eq!(twin.clone().squeeze(0, 3), verdict, "{}", twin.label);
 }
 
 #[test]

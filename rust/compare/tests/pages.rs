@@ -54,7 +54,7 @@ fn list(twin: &mut Twin, seed: u64, seen: &mut Seen, reached: &mut Reached) {
     let full = twin.bytes().chunks_exact(512).filter(alone).filter_map(|page| found(page).next());
     maker.know(full.map(|entry| entry.pair).take(99));
     reached.freed.clear();
-    for i in 0..60 {
+    for i in 0..90 {
         if i % 15 == 0 {
             maker.tide = if i % 30 == 0 { 0 } else { 400 };
         }

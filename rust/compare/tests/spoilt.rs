@@ -16,6 +16,7 @@ fn calls(random: &mut Random, twin: &Twin, verdict: Reply) {
     answers.push(twin.clone().insert(hash, block, offset));
     answers.push(twin.clone().remove(hash, block, offset));
     answers.push(twin.clone().work(random.below(30)));
+    answers.push(twin.clone().squeeze(random.pick(&[0, 1, 2, 3, u32::MAX]), random.below(30)));
     if !verdict.done() {
         assert!(answers.iter().all(|&reply| reply == verdict), "{}: {answers:?}", twin.label);
     }
@@ -23,6 +24,7 @@ fn calls(random: &mut Random, twin: &Twin, verdict: Reply) {
     assert_eq!(twin.clone().insert(hash, block, 0), Reply::refused(2, 0), "{}", twin.label);
     assert_eq!(twin.clone().remove(hash, u32::MAX, 1), Reply::refused(2, 0), "{}", twin.label);
     assert_eq!(twin.clone().work(65_536), Reply::refused(2, 0), "{}", twin.label);
+    assert_eq!(twin.clone().squeeze(hash, 65_536), Reply::refused(2, 0), "{}", twin.label);
     if random.once_in(8) {
         assert!(twin.clone().format(1, random.store_number(), 1).done(), "{}", twin.label);
     }

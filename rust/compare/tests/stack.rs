@@ -7,7 +7,7 @@ use compare::brink::{brink, stuffed};
 use compare::build::{found, sound_at};
 use compare::foreign::c::*;
 use compare::random::Random;
-use compare::stores::{copying, copying_one_code, even, leaving, longest, wanting, Split};
+use compare::stores::{copying, copying_one_code, even, half_empty, leaving, longest, thin, wanting, Split};
 use std::collections::BTreeMap;
 use std::ffi::{c_int, c_void};
 use std::hint::black_box;
@@ -149,6 +149,10 @@ fn calls(table: &mut Table, name: &str, store: &[u8]) {
     }
     for budget in [1, 50, 65_535] {
         table.add("work", name, &[0], || unsafe { amiqsovik_work(fresh(), len, budget) });
+        for bucket in [0, 1, 300] {
+            let wanted = [0, 2, 11];
+            table.add("squeeze", name, &wanted, || unsafe { amiqsovik_squeeze(fresh(), len, bucket, budget) });
+        }
     }
 }
 
@@ -164,6 +168,8 @@ fn at_most_64_kibibytes() {
         ("long copying of one code", copying_one_code(1024)),
         ("long chain, half moves", wanting(1024)),
         ("long chain, a quarter moves", leaving(1024)),
+        ("half empty chain", half_empty(1024, 1021)),
+        ("thin chain", thin(1024, 1021)),
         ("512 buckets", even(1024, 512, 28, Split::Over)),
         ("512 buckets, copying", even(1024, 512, 28, Split::Copying)),
         ("768 buckets, begin", brink(&mut random, 1024, 11, 100, 20)),
@@ -175,7 +181,7 @@ fn at_most_64_kibibytes() {
     for (name, (bytes, store)) in &table.most {
         println!("{name:9} {bytes:>6} bytes of stack ({store})");
     }
-    assert_eq!(table.most.len(), 8);
+    assert_eq!(table.most.len(), 9);
     assert!(table.most.values().all(|(bytes, _)| *bytes <= MOST), "more than {MOST} bytes of stack");
 }
 

@@ -8,12 +8,14 @@ use compare::vectors::{file, replay_01, replay_02, Replayed};
 fn stores_01<S: Side>() {
     let text = file("stores.txt");
     for number in [0, 1, u32::MAX, 0x8000_0000, 0x1D2C_3B4A] {
-        assert_eq!(replay_01::<S>(&text, number), Replayed { calls: 1510 + 168, in_use: 24 }, "number {number}");
+        let wanted = Replayed { calls: 1510 + 168, in_use: 24, ..Replayed::default() };
+        assert_eq!(replay_01::<S>(&text, number), wanted, "number {number}");
     }
 }
 
 fn stores_02<S: Side>() {
-    assert_eq!(replay_02::<S>(&file("02/stores.txt")), Replayed { calls: 3575, in_use: 21 });
+    let wanted = Replayed { calls: 3575 + 1269, in_use: 21, squeezes: 1269, busy: 56, moved: 8 };
+    assert_eq!(replay_02::<S>(&file("02/stores.txt")), wanted);
 }
 
 #[test]

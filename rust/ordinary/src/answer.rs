@@ -21,12 +21,14 @@ pub enum Refusal {
     NoRoom,
     /// The output is too short for the matches; their number.
     OutputShort(u32),
+    /// The bucket to squeeze is one of a pending job.
+    Busy,
     /// The store to format is sound and holds pairs.
     InUse,
 }
 
 impl Refusal {
-    /// The number of the refusal: 1 to 8 are document 01's, 12 is request 2026-04's.
+    /// The number of the refusal: 1 to 8 are document 01's, 11 is request 2026-01's and 12 request 2026-04's.
     pub fn number(self) -> u8 {
         match self {
             Refusal::Length => 1,
@@ -37,6 +39,7 @@ impl Refusal {
             Refusal::NotHeld => 6,
             Refusal::NoRoom => 7,
             Refusal::OutputShort(_) => 8,
+            Refusal::Busy => 11,
             Refusal::InUse => 12,
         }
     }
@@ -61,6 +64,7 @@ impl fmt::Display for Refusal {
             Refusal::NotHeld => write!(f, "the pair is not held"),
             Refusal::NoRoom => write!(f, "the store has no room"),
             Refusal::OutputShort(matches) => write!(f, "the output is too short for {matches} matches"),
+            Refusal::Busy => write!(f, "the bucket is busy: it is one of a pending job"),
             Refusal::InUse => write!(f, "the store is in use: it holds pairs"),
         }
     }
@@ -86,11 +90,14 @@ pub struct Standing {
     pub slack: i64,
 }
 
-/// Why work stopped.
+/// Why work or a squeeze stopped.
 #[derive(Debug, Clone, Copy, PartialEq, Eq)]
 pub enum Stop {
+    /// The budget is spent.
     Spent,
+    /// Work's next step has no room.
     NoRoom,
+    /// There is no step: work has no job, and no split is wanted; of a squeeze no earlier page has room.
     Idle,
 }
 
@@ -105,7 +112,7 @@ impl Stop {
     }
 }
 
-/// What a work call did.
+/// What a work or squeeze call did.
 #[derive(Debug, Clone, Copy, PartialEq, Eq)]
 pub struct Worked {
     pub steps: u32,

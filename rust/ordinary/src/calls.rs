@@ -1,6 +1,6 @@
-//! The eight calls.
+//! The nine calls.
 
-use crate::answer::{Refusal, Standing, Worked};
+use crate::answer::{Phase, Refusal, Standing, Worked};
 use crate::block::{self, Block, Trailer, BITMAP, BUCKET, NONE};
 use crate::check::sound;
 use crate::edit::Edit;
@@ -132,11 +132,34 @@ pub fn work_sealed_once(store: &mut [u8], budget: u32) -> Result<Worked, Refusal
 
 fn worked(store: &mut [u8], budget: u32, once: bool) -> Result<Worked, Refusal> {
     let blocks = blocks_mut(store)?;
+    in_range(budget)?;
+    let meta = sound(blocks)?;
+    Ok(Work::new(Edit::new(blocks, meta), budget, once).run())
+}
+
+fn in_range(budget: u32) -> Result<(), Refusal> {
     if budget > 65_535 {
         return Err(Refusal::Number);
     }
+    Ok(())
+}
+
+/// Makes up to `budget` steps of a squeeze: each moves an entry from the end of a bucket's chain to the first page with
+/// room. The store is sound after each.
+pub fn squeeze(store: &mut [u8], bucket: u32, budget: u32) -> Result<Worked, Refusal> {
+    let blocks = blocks_mut(store)?;
+    in_range(budget)?;
     let meta = sound(blocks)?;
-    Ok(Work::new(Edit::new(blocks, meta), budget, once).run())
+    if bucket > meta.max_bucket {
+        return Err(Refusal::Number);
+    }
+    let edit = Edit::new(blocks, meta);
+    match edit.view().phase() {
+        Phase::Copying { old, new } | Phase::Clearing { old, new } if [old, new].contains(&bucket) => {
+            Err(Refusal::Busy)
+        }
+        _ => Ok(Work::new(edit, budget, false).squeeze(bucket)),
+    }
 }
 
 /// How the index stands.

@@ -95,10 +95,15 @@ impl<'a> Edit<'a> {
             Some(number) => number,
             None => self.extend(first, bucket)?,
         };
+        self.put(number, entry);
+        Ok(number)
+    }
+
+    /// Puts an entry at its sorted place of a page with room.
+    pub fn put(&mut self, number: usize, entry: Entry) {
         let page = self.block(number);
         let slot = page::search(page, entry.pair).unwrap_or_else(|slot| slot);
         page::insert(page, slot, entry);
-        Ok(number)
     }
 
     /// Links a new, empty page to the end of a chain that has `first` in it.

@@ -1,5 +1,5 @@
-//! The hash index of document 01 in ordinary Rust, with the store number of request 2026-03, the in-use test of request
-//! 2026-04 and the sizes of request 2026-09.
+//! The hash index of document 01 in ordinary Rust, with the squeeze of request 2026-01, the store number of request
+//! 2026-03, the in-use test of request 2026-04 and the sizes of request 2026-09.
 //!
 //! A store is a byte slice of 4 to 1,024 blocks of 512 bytes. Every call takes any bytes and any numbers, judges the
 //! whole store first, but for a format that overwrites, and either is done or gives a [`Refusal`] and leaves the store
@@ -32,5 +32,5 @@ mod view;
 mod work;
 
 pub use answer::{Phase, Refusal, Standing, Stop, Worked};
-pub use calls::{format, in_use, insert, lookup, remove, standing, verify, work, work_sealed_once};
+pub use calls::{format, in_use, insert, lookup, remove, squeeze, standing, verify, work, work_sealed_once};
 pub use crc::crc32c;

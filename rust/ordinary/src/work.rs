@@ -1,14 +1,15 @@
-//! The steps of splits.
+//! The steps of splits, and those of a squeeze.
 
 use crate::answer::{Phase, Stop, Worked};
 use crate::block::{self, Trailer, BUCKET, CLEANUP, NONE, POPULATED, SPLIT};
 use crate::check::sound;
 use crate::edit::Edit;
 use crate::meta::{buckets_at, splits_from};
-use crate::page::{self, Entry, Pair};
+use crate::page::{self, Entry, Pair, ROOM};
+use std::collections::VecDeque;
 use std::convert::Infallible;
 
-/// A work call under way.
+/// A work or squeeze call under way.
 pub struct Work<'a> {
     edit: Edit<'a>,
     budget: u32,
@@ -25,6 +26,14 @@ impl<'a> Work<'a> {
     /// Makes steps until the budget is spent or there is no further step.
     pub fn run(mut self) -> Worked {
         let Err(stop) = self.go_on();
+        self.edit.seal();
+        Worked { steps: self.steps, stop }
+    }
+
+    /// Moves entries from the end of a bucket's chain to the front, until the budget is spent or no earlier page has
+    /// room.
+    pub fn squeeze(mut self, bucket: u32) -> Worked {
+        let Err(stop) = self.move_up(bucket);
         self.edit.seal();
         Worked { steps: self.steps, stop }
     }
@@ -119,6 +128,32 @@ impl<'a> Work<'a> {
         }
         self.set_flags(old, BUCKET);
         self.step()
+    }
+
+    /// Moves the last entry of the chain's last page to the first page before it with room, until there is none.
+    fn move_up(&mut self, bucket: u32) -> Result<Infallible, Stop> {
+        self.left()?;
+        let mut pages: VecDeque<usize> = self.edit.view().chain(bucket).collect();
+        while let [Some(&first), Some(&last)] = [pages.front(), pages.back()] {
+            let blocks = self.edit.view().blocks;
+            if first == last {
+                break;
+            }
+            if page::len(&blocks[first]) == ROOM {
+                // It stays full.
+                pages.pop_front();
+                continue;
+            }
+            let slot = page::len(&blocks[last]) - 1;
+            let entry = page::entry(&blocks[last], slot);
+            self.edit.take_away(last, slot);
+            self.edit.put(first, entry);
+            if slot == 0 {
+                pages.pop_back();
+            }
+            self.step()?;
+        }
+        Err(Stop::Idle)
     }
 
     fn set_flags(&mut self, bucket: u32, flags: u16) {
