@@ -106,7 +106,7 @@ abbrev pub also : Option Call → List Call → List Call
 also none cs = cs
 also (some c) cs = c ∷ cs
 
--- the calls of document 01 among them, each with what it is lent
+-- the calls that demand 3 speaks of among them, each with what it is lent
 abbrev pub callsIn : (calls : List ℕ) → (n i : ℕ) → Kept → List Call
 callsIn ws zero i k = []
 callsIn ws (suc n) i k = also (callAt ws i (k .output)) (callsIn ws n (suc i) (ranAt ws i k))

@@ -27,7 +27,7 @@ use Rattle.squeeze.specs.declared.Span.{Span}
 use Rattle.squeeze.specs.Span.{Spans, Leads}
 use Rattle.index.specs.declared.Test.{Test}
 use Rattle.index.specs.Tested.{testOf}
-use Rattle.index.specs.TestedLaws.{passes-call, passes-index, passes-sound}
+use Rattle.index.specs.TestedLaws.{failed-is, fails, passes-call, passes-index, passes-sound}
 use Rattle.index.specs.Sound.{Sound, workedBy}
 
 -- ---- the tests of the bucket, in their order
@@ -56,11 +56,7 @@ module _ (s : List ℕ) (b : ℕ) (numbers : Bool) where
   -- one that fails before the bucket's
   pub early-fails : (r : Refusal) → testOf (tested numbers s) ≡ Test.Failed r
       → Test.Failed r ≡ testOf (bucketTested (tested numbers s) b)
-  early-fails r h = go (tested numbers s) h
-    where
-      go : (t : Tested) → testOf t ≡ Test.Failed r → Test.Failed r ≡ testOf (bucketTested t b)
-      go (passed x) h = never (cc)
-      go (failed q) h = sym h
+  early-fails r h = sym (ap (λ (t : Tested). testOf (bucketTested t b)) (fails numbers s r h))
 
   module _ (bytes : Bytes s) where
     -- and where those pass, the bucket's decide
@@ -121,12 +117,9 @@ module _ (s : List ℕ) (b budget : ℕ) where
   pub squeeze-fails : (r : Refusal) → testOf (bucketTested (tested (budgetOk budget) s) b) ≡ Test.Failed r
       → squeezeOutcome s b budget ≡ record { answer = WorkAnswer.Refused r; store = s }
   unfolding squeezeOutcome
-  squeeze-fails r h = go (bucketTested (tested (budgetOk budget) s) b) h
-    where
-      go : (t : Tested) → testOf t ≡ Test.Failed r
-          → workOn t s (iterate (squeezeStepOutcome b) budget s) ≡ record { answer = WorkAnswer.Refused r; store = s }
-      go (passed x) h = never (cc)
-      go (failed q) h = let e : q ≡ r = cc in λ i. record { answer = WorkAnswer.Refused (e i); store = s }
+  squeeze-fails r h =
+      ap (λ (t : Tested). workOn t s (iterate (squeezeStepOutcome b) budget s))
+      (failed-is (bucketTested (tested (budgetOk budget) s) b) r h)
 
   pub squeeze-passes : Bytes s → testOf (bucketTested (tested (budgetOk budget) s) b) ≡ Test.Passed
       → squeezeOutcome s b budget ≡ workedBy (iterate (squeezeStepOutcome b) budget s)

@@ -21,6 +21,7 @@ use Rattle.image.specs.Decode.{metaAt, decode}
 use Rattle.image.specs.Rules.{Judged, damaged, notIndex, sound, verdict}
 use Rattle.image.specs.BridgeTheorem.{sound-is-encoding}
 use Rattle.outcomes.specs.Outcomes.{Tested, passed, failed, judged, testedIn, tested, verdictOf, verifyOutcome}
+use Rattle.outcomes.specs.OutcomeLaws.{passed-numbers}
 use Rattle.image.specs.Rules.{lengthOk}
 use Rattle.chain.specs.WalkLaws.{lengthOk-sized}
 use Rattle.view.specs.Reads.{Reads}
@@ -79,22 +80,20 @@ passes-room {s} p =
     omega (arith, z .whole, leb-true 4 (blocks s) (and-left (leb 4 (blocks s)) (leb (blocks s) maxBlocks) few))
 
 -- one that does not: the refusal
+pub failed-is : (t : Tested) (r : Refusal) → testOf t ≡ Test.Failed r → t ≡ failed r
+failed-is (passed x) r h = never (cc)
+failed-is (failed q) r h = cc
+
 pub fails : (n : Bool) (s : List ℕ) (r : Refusal) → testOf (tested n s) ≡ Test.Failed r → tested n s ≡ failed r
-fails n s r h = go (tested n s) h
-  where
-    go : (t : Tested) → testOf t ≡ Test.Failed r → t ≡ failed r
-    go (passed x) h = never (cc)
-    go (failed q) h = cc
+fails n s = failed-is (tested n s)
 
 -- the numbers of a call that passes are good
 pub passes-numbers : (n : Bool) (s : List ℕ) → testOf (tested n s) ≡ Test.Passed → n ≡ true
-unfolding tested
-passes-numbers true s h = refl
-passes-numbers false s h = go (lengthOk s) h
+passes-numbers n s h = go (tested n s) refl h
   where
-    go : (l : Bool) → testOf (testedIn l false (verdict s)) ≡ Test.Passed → false ≡ true
-    go true h = never (cc)
-    go false h = never (cc)
+    go : (t : Tested) → tested n s ≡ t → testOf t ≡ Test.Passed → n ≡ true
+    go (passed x) e h = passed-numbers s n x e
+    go (failed r) e h = never (cc)
 
 -- a call with numbers that passes
 pub passes-call : (n : Bool) (s : List ℕ) → Bytes s → testOf (tested n s) ≡ Test.Passed → Passes s

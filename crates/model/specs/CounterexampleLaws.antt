@@ -1,5 +1,5 @@
--- A machine that demand 3 shuts out: standing tells of a job before any begin, and its steps never end. It answers every
--- insert with 7 and every squeeze with 11; lookups, removals, work calls and counts are those of an empty book.
+-- A machine that demand 3 shuts out: standing tells of a job before any begin, and its steps never end. It answers
+-- every insert with 7 and every squeeze with 11; lookups, removals, work calls and counts are those of an empty book.
 use mathlib.Core.Path.{_≡_, refl}
 use mathlib.Core.List.{[]}
 use Prim.Native.Nat.{ℕ, _*_}

@@ -68,8 +68,8 @@ module _ (M : Machine) where
   afterSteps k zero s = some s
   afterSteps k (suc n) s = elim (M .step k s) [ next t ↦ afterSteps k n t | stopped r ↦ none ]
 
-  -- the steps of a work or squeeze call were made, and it stopped because the budget was spent or for what the next step
-  -- says
+  -- the steps of a work or squeeze call were made, and it stopped because the budget was spent or for what the next
+  -- step says
   pub record WorkIs (k : Kind) (s : M .State) (budget : ℕ) : Type 0 where
     pub steps : ℕ
     pub stop : Stop

@@ -1,23 +1,16 @@
--- A step of whatever kind keeps the index well-formed, what is held, N and the store number.
+-- A step of whatever kind keeps the index well-formed, N and the store number.
 use mathlib.Core.Path.{_≡_}
-use Prim.Native.Nat.{ℕ}
-use Rattle.page.specs.declared.Pair.{Pair}
 use Rattle.model.specs.Index.{Index}
-use Rattle.model.specs.Held.{held}
 use Rattle.model.specs.Steps.{next}
 use Rattle.model.specs.Machine.{Kind, ofSplits, ofSqueeze, stepIndex}
 use Rattle.model.specs.WellFormed.{WF}
-use Rattle.model.specs.StepLaws.{step-wf, step-held}
+use Rattle.model.specs.StepLaws.{step-wf}
 use Rattle.model.specs.FrameLaws.{SameStore, step-store, squeeze-frame}
-use Rattle.model.specs.SqueezeStepLaws.{squeeze-wf, squeeze-held}
+use Rattle.model.specs.SqueezeStepLaws.{squeeze-wf}
 
 pub kind-wf : (k : Kind) (x y : Index) → WF x → stepIndex k x ≡ next y → WF y
 kind-wf ofSplits = step-wf
 kind-wf (ofSqueeze b) = squeeze-wf b
-
-pub kind-held : (k : Kind) (x y : Index) → WF x → stepIndex k x ≡ next y → (p : Pair) → held y p ≡ held x p
-kind-held ofSplits = step-held
-kind-held (ofSqueeze b) = squeeze-held b
 
 pub kind-store : (k : Kind) (x y : Index) → stepIndex k x ≡ next y → SameStore x y
 kind-store ofSplits x y e = step-store x y e

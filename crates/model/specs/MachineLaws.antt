@@ -52,12 +52,12 @@ kind-unspent (ofSqueeze b) x e = unfold squeezeStep in go (mover (chain x b)) e
 
 module _ (M : Machine) (k : Kind) (unspent : (s : M .State) → M .step k s ≢ stopped Stop.Spent) where
   -- the steps were made, and the iteration ended because the budget was spent or for what the next step says
-  record Ends (s : M .State) (budget : ℕ) (w : Worked (M .State)) : Type 0 where
-    reached : afterSteps M k (w .steps) s ≡ some (w .state)
-    spent : (w .steps ≡ budget) ↔ (w .stop ≡ Stop.Spent)
-    ended : w .steps ≢ budget → (w .steps < budget) × (M .step k (w .state) ≡ stopped (w .stop))
+  pub record Ends (s : M .State) (budget : ℕ) (w : Worked (M .State)) : Type 0 where
+    pub reached : afterSteps M k (w .steps) s ≡ some (w .state)
+    pub spent : (w .steps ≡ budget) ↔ (w .stop ≡ Stop.Spent)
+    pub ended : w .steps ≢ budget → (w .steps < budget) × (M .step k (w .state) ≡ stopped (w .stop))
 
-  iterate-ends : (budget : ℕ) (s : M .State) → Ends s budget (iterate (M .step k) budget s)
+  pub iterate-ends : (budget : ℕ) (s : M .State) → Ends s budget (iterate (M .step k) budget s)
   iterate-ends zero s = record { reached = refl; spent = (λ e. refl, λ e. refl); ended = λ ne. absurd (ne refl) }
   iterate-ends (suc n) s = go (M .step k s) refl (iterate-ends n)
     where

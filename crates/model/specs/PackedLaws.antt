@@ -2,7 +2,7 @@
 use mathlib.Core.Path.{_≡_, refl, sym, ap, _∙_, subst}
 use mathlib.Core.Logic.{_↔_}
 use mathlib.Core.Bool.{Bool, true, false, _||_}
-use mathlib.Core.List.{List, [], _∷_, _++_, map, map-append}
+use mathlib.Core.List.{List, [], _∷_, _++_, map-append}
 use mathlib.Core.Option.{Option, none, some}
 use Prim.Native.Nat.{ℕ, zero, suc, _+_, _*_, _≤_, _<_}
 use native.Mathlib.Omega.{arith}
@@ -16,28 +16,29 @@ use Rattle.page.specs.PairLaws.{no-way}
 use Rattle.model.specs.Index.{Page, Chain, onPages, entriesIn}
 use Rattle.model.specs.Pages.{hasRoom, pageRoom, chainRoom}
 use Rattle.model.specs.Squeeze.{init, final, earlier, moverIn, mover, pagesFor, pagesOf}
+use Rattle.model.specs.Shift.{entriesOn, pagesIn, Full}
 use Rattle.model.specs.WellFormed.{MoreOk, ChainOk}
 use Rattle.model.specs.TallyLaws.{or-left, or-right}
 use Rattle.model.specs.SqueezeLaws.{final-is, final-none, init-end, onPages-append}
 
 -- ---- pages without room
 
-pub pages-full : (gs : List Page) → any pageRoom gs ≡ false → Each (λ (g : Page). 40 ≤ length (g .entries)) gs
+pub pages-full : (gs : List Page) → any pageRoom gs ≡ false → Each (λ (g : Page). Full (g .entries)) gs
 pages-full [] h = tt
 pages-full (g ∷ gs) h = go (pageRoom g) refl h (pages-full gs)
   where
     go : (b : Bool) → pageRoom g ≡ b → b || any pageRoom gs ≡ false
-        → (any pageRoom gs ≡ false → Each (λ (k : Page). 40 ≤ length (k .entries)) gs)
-        → Each (λ (k : Page). 40 ≤ length (k .entries)) (g ∷ gs)
+        → (any pageRoom gs ≡ false → Each (λ (k : Page). Full (k .entries)) gs)
+        → Each (λ (k : Page). Full (k .entries)) (g ∷ gs)
     go true e h ih = no-way refl h
     go false e h ih = (ltb-false (length (g .entries)) 40 e, ih h)
 
-pub full-pages : (gs : List Page) → Each (λ (g : Page). 40 ≤ length (g .entries)) gs → any pageRoom gs ≡ false
+pub full-pages : (gs : List Page) → Each (λ (g : Page). Full (g .entries)) gs → any pageRoom gs ≡ false
 full-pages [] h = refl
 full-pages (g ∷ gs) h = rw (le-ltb (length (g .entries)) 40 (h .0)) (full-pages gs (h .1))
 
 -- they have forty entries each
-full-length : (gs : List Page) → Each MoreOk gs → Each (λ (g : Page). 40 ≤ length (g .entries)) gs
+full-length : (gs : List Page) → Each MoreOk gs → Each (λ (g : Page). Full (g .entries)) gs
     → length (onPages gs) ≡ 40 * length gs
 full-length [] o h = refl
 full-length (g ∷ gs) o h =
@@ -70,7 +71,7 @@ pagesFor-is zero (suc n) u l g = rw (eqb-no (suc n) 0 (λ e. omega arith)) (omeg
 pagesFor-is (suc k) (suc n) u l g =
     let h : 40 * suc k < suc n = g (omega arith) in rw (eqb-no (suc n) 0 (λ e. omega arith)) (omega arith)
 
--- "at stop 9 a chain of n entries has exactly n / 40 pages, rounded up, or one if n is 0"
+-- "At stop 9 a chain of n entries has exactly n / 40 pages, rounded up, or one if n is 0"
 pub packed : (c : Chain) → ChainOk c → mover c ≡ none → pagesOf c ≡ pagesFor (length (entriesIn c))
 packed c ok h = go (mover-none c ok h)
   where
@@ -102,36 +103,28 @@ packed c ok h = go (mover-none c ok h)
 
 -- ---- which pages
 
-abbrev entriesOn : Page → List Entry
-entriesOn g = g .entries
-
-abbrev Full : List Entry → Type 0
-Full es = 40 ≤ length es
-
-to-pages : (gs : List Page) → Each (λ (g : Page). Full (g .entries)) gs → Each Full (map entriesOn gs)
+to-pages : (gs : List Page) → Each (λ (g : Page). Full (g .entries)) gs → Each Full (entriesOn gs)
 to-pages [] h = tt
 to-pages (g ∷ gs) h = (h .0, to-pages gs (h .1))
 
-of-pages : (gs : List Page) → Each Full (map entriesOn gs) → Each (λ (g : Page). Full (g .entries)) gs
+of-pages : (gs : List Page) → Each Full (entriesOn gs) → Each (λ (g : Page). Full (g .entries)) gs
 of-pages [] h = tt
 of-pages (g ∷ gs) h = (h .0, of-pages gs (h .1))
 
 -- all pages but the last
 but-last : (c : Chain) (g : Page) → c .more ≡ init (c .more) ++ g ∷ []
-    → init (c .first ∷ map entriesOn (c .more)) ≡ c .first ∷ map entriesOn (init (c .more))
+    → init (pagesIn c) ≡ c .first ∷ entriesOn (init (c .more))
 but-last c g more =
-    ap (λ (gs : List Page). init (c .first ∷ map entriesOn gs)) more
-    ∙ ap (λ (l : List (List Entry)). init (c .first ∷ l)) (map-append entriesOn (init (c .more)) (g ∷ []))
-    ∙ init-end (c .first ∷ map entriesOn (init (c .more))) (g .entries)
+    ap (λ (gs : List Page). init (c .first ∷ entriesOn gs)) more
+    ∙ ap (λ (l : List (List Entry)). init (c .first ∷ l)) (map-append (λ (h : Page). h .entries) (init (c .more)) (g ∷ []))
+    ∙ init-end (c .first ∷ entriesOn (init (c .more))) (g .entries)
 
 -- "no earlier page has room"
-pub noEarlier-is : (c : Chain) → ChainOk c
-    → (mover c ≡ none)
-    ↔ Each (λ (es : List Entry). 40 ≤ length es) (init (c .first ∷ map (λ (g : Page). g .entries) (c .more)))
+pub noEarlier-is : (c : Chain) → ChainOk c → (mover c ≡ none) ↔ Each Full (init (pagesIn c))
 noEarlier-is c ok = (λ h. to (mover-none c ok h), from)
   where
-    to : Still c → Each Full (init (c .first ∷ map entriesOn (c .more)))
-    to (alone z) = subst (λ (gs : List Page). Each Full (init (c .first ∷ map entriesOn gs))) (sym z) tt
+    to : Still c → Each Full (init (pagesIn c))
+    to (alone z) = subst (λ (gs : List Page). Each Full (init (c .first ∷ entriesOn gs))) (sym z) tt
     to (filled g more l) =
         subst (Each Full) (sym (but-last c g more)) (
           ltb-false (length (c .first)) 40 (or-left (hasRoom (c .first)) (any pageRoom (init (c .more))) l),
@@ -139,7 +132,7 @@ noEarlier-is c ok = (λ h. to (mover-none c ok h), from)
               (pages-full (init (c .more)) (or-right (hasRoom (c .first)) (any pageRoom (init (c .more))) l)),
         )
 
-    from : Each Full (init (c .first ∷ map entriesOn (c .more))) → mover c ≡ none
+    from : Each Full (init (pagesIn c)) → mover c ≡ none
     from h = unfold mover in go (final (c .more)) refl
       where
         go : (g : Option Page) → final (c .more) ≡ g → moverIn g (chainRoom (earlier c)) ≡ none

@@ -1,7 +1,7 @@
 -- What a squeeze's step does (docs/RULES.md 6.13), said of a chain's pages and apart from how the step goes about it: a
 -- step that changes nothing, or a 9 that is made up, doesn't meet it.
 use mathlib.Core.Path.{_≡_}
-use mathlib.Core.Logic.{_↔_}
+use mathlib.Core.Logic.{_↔_, _≢_}
 use mathlib.Core.List.{List, [], _∷_, _++_, map}
 use Prim.Native.Nat.{ℕ, _≤_, _<_}
 use lib.Dec.{ltb}
@@ -16,9 +16,13 @@ use Rattle.model.specs.Squeeze.{init}
 use Rattle.model.specs.Machine.{ofSqueeze, Machine}
 use Rattle.model.specs.History.{Moment}
 
--- the entries of a chain's pages, page by page, the bucket page first
+-- the entries of overflow pages, page by page
+abbrev pub entriesOn : List Page → List (List Entry)
+entriesOn gs = map (λ (g : Page). g .entries) gs
+
+-- of a chain's pages, the bucket page first
 abbrev pub pagesIn : Chain → List (List Entry)
-pagesIn c = c .first ∷ map (λ (g : Page). g .entries) (c .more)
+pagesIn c = c .first ∷ entriesOn (c .more)
 
 -- a page without room
 abbrev pub Full : List Entry → Type 0
@@ -48,3 +52,6 @@ module _ (M : Machine) (index : M .State → Index) where
         ↔ ((r ≡ Stop.Idle) × NoEarlier (index (t .state)) b)
     pub moves : (b : ℕ) (s : M .State) → M .step (ofSqueeze b) (t .state) ≡ next s
         → Moves (pagesIn (chain (index (t .state)) b)) (pagesIn (chain (index s) b))
+    -- the chains of the other buckets stay
+    pub others : (b d : ℕ) (s : M .State) → d ≢ b → M .step (ofSqueeze b) (t .state) ≡ next s
+        → chain (index s) d ≡ chain (index (t .state)) d

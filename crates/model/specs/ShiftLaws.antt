@@ -1,17 +1,17 @@
 -- A squeeze's step moves the last entry of the last page to the first earlier page with room, page by page.
-use mathlib.Core.Path.{_≡_, refl, sym, ap, ap₂, _∙_}
+use mathlib.Core.Path.{_≡_, refl, ap, ap₂, _∙_}
 use mathlib.Core.Bool.{Bool, true, false, cond, _||_}
-use mathlib.Core.List.{List, [], _∷_, _++_, map, map-append, append-assoc}
-use Prim.Native.Nat.{ℕ, _≤_, _<_}
+use mathlib.Core.List.{List, [], _∷_, _++_, map-append, append-assoc}
+use Prim.Native.Nat.{ℕ, _<_}
 use borrow.Author.Tests.{ltb-true, ltb-false}
 use lib.Dec.{ltb}
 use lib.ListN.{length}
 use Rattle.lists.specs.Lists.{any, keep, Each}
 use Rattle.page.specs.declared.Entry.{Entry}
 use Rattle.model.specs.Index.{Page, Chain}
-use Rattle.model.specs.Pages.{hasRoom, pageRoom, chainRoom, enterEntry, addMore, addEntry, inUse}
+use Rattle.model.specs.Pages.{hasRoom, pageRoom, chainRoom, enterEntry, addMore, addEntry}
 use Rattle.model.specs.Squeeze.{squeezed}
-use Rattle.model.specs.Shift.{pagesIn, Full, Moves}
+use Rattle.model.specs.Shift.{entriesOn, pagesIn, Full, Moves}
 use Rattle.model.specs.MachineLaws.{never}
 use Rattle.model.specs.SqueezeLaws.{Moving, pages, page, rest, behind}
 
@@ -24,9 +24,6 @@ record Enters (e : Entry) (before after : List (List Entry)) : Type 0 where
   is : after ≡ full ++ enterEntry e target ∷ later
   none : Each Full full
   room : length target < 40
-
-abbrev texts : List Page → List (List Entry)
-texts gs = map (λ (g : Page). g .entries) gs
 
 -- behind a full page
 later-enters : {e : Entry} {before after : List (List Entry)} (es : List Entry) → Full es → Enters e before after
@@ -42,19 +39,19 @@ later-enters es h n =
       room = n .room;
     }
 
-more-enters : (e : Entry) (gs : List Page) → any pageRoom gs ≡ true → Enters e (texts gs) (texts (addMore e gs))
+more-enters : (e : Entry) (gs : List Page) → any pageRoom gs ≡ true → Enters e (entriesOn gs) (entriesOn (addMore e gs))
 more-enters e [] h = never (cc)
 more-enters e (g ∷ gs) h = go (pageRoom g) refl h (more-enters e gs)
   where
     go : (b : Bool) → pageRoom g ≡ b → b || any pageRoom gs ≡ true
-        → (any pageRoom gs ≡ true → Enters e (texts gs) (texts (addMore e gs)))
-        → Enters e (texts (g ∷ gs))
-        (texts (cond b (page (g .bit) (enterEntry e (g .entries)) ∷ gs) (g ∷ addMore e gs)))
+        → (any pageRoom gs ≡ true → Enters e (entriesOn gs) (entriesOn (addMore e gs)))
+        → Enters e (entriesOn (g ∷ gs))
+        (entriesOn (cond b (page (g .bit) (enterEntry e (g .entries)) ∷ gs) (g ∷ addMore e gs)))
     go true k h ih =
         record {
           full = [];
           target = g .entries;
-          later = texts gs;
+          later = entriesOn gs;
           was = refl;
           is = refl;
           none = tt;
@@ -72,7 +69,7 @@ chain-enters e c h = go (hasRoom (c .first)) refl h
         record {
           full = [];
           target = c .first;
-          later = texts (c .more);
+          later = entriesOn (c .more);
           was = refl;
           is = refl;
           none = tt;
@@ -81,13 +78,13 @@ chain-enters e c h = go (hasRoom (c .first)) refl h
     go false k h =
         later-enters (c .first) (ltb-false (length (c .first)) 40 k) (more-enters e (c .more) h)
 
-pages-behind : (hs : List Page) (c : Chain) → pagesIn (behind hs c) ≡ pagesIn c ++ texts hs
+pages-behind : (hs : List Page) (c : Chain) → pagesIn (behind hs c) ≡ pagesIn c ++ entriesOn hs
 pages-behind hs c = ap (λ (l : List (List Entry)). c .first ∷ l) (map-append (λ (g : Page). g .entries) (c .more) hs)
 
-rest-pages : (n : ℕ) (es : List Entry) → texts (rest n es) ≡ keep (λ (ds : List Entry). ltb 0 (length ds)) (es ∷ [])
+rest-pages : (n : ℕ) (es : List Entry) → entriesOn (rest n es) ≡ keep (λ (ds : List Entry). ltb 0 (length ds)) (es ∷ [])
 rest-pages n es = go (ltb 0 (length es))
   where
-    go : (b : Bool) → texts (cond b (page n es ∷ []) []) ≡ cond b (es ∷ []) []
+    go : (b : Bool) → entriesOn (cond b (page n es ∷ []) []) ≡ cond b (es ∷ []) []
     go true = refl
     go false = refl
 

@@ -56,9 +56,13 @@ squeezed e c =
 
 -- ---- steps
 
+-- the index with this entry of the bucket's chain moved
+abbrev pub movedTo : Index → (bucket : ℕ) → Entry → Index
+movedTo x b e = setChain x (x .spares) b (squeezed e (chain x b))
+
 -- "9 when no earlier page has room"
 abbrev pub squeezeIn : Option Entry → (bucket : ℕ) → Index → Step Index
-squeezeIn (some e) b x = next (setChain x (x .spares) b (squeezed e (chain x b)))
+squeezeIn (some e) b x = next (movedTo x b e)
 squeezeIn none b x = stopped Stop.Idle
 
 unfoldable pub squeezeStep : (bucket : ℕ) → Index → Step Index

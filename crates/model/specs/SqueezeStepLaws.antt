@@ -15,10 +15,10 @@ use Rattle.page.specs.declared.Entry.{Entry}
 use Rattle.page.specs.Pair.{is}
 use Rattle.model.specs.declared.Stop.{Stop}
 use Rattle.model.specs.Index.{Job, idle, copying, clearing, Index, noChain, chain, entriesAt, bucket}
-use Rattle.model.specs.Index.{newBucket, oldBucket, setChain}
+use Rattle.model.specs.Index.{newBucket, oldBucket}
 use Rattle.model.specs.Held.{held, matches, count}
 use Rattle.model.specs.Steps.{Step, next, stopped, moves, toCopy, copiesLeft, Worked, iterate}
-use Rattle.model.specs.Squeeze.{mover, squeezed, squeezeIn, squeezeStep, squeeze, pagesFor, pagesOf}
+use Rattle.model.specs.Squeeze.{mover, squeezed, movedTo, squeezeIn, squeezeStep, squeeze, pagesFor, pagesOf}
 use Rattle.model.specs.WellFormed.{unmovedAt, movedAt, ChainOk, Laid, WF}
 use Rattle.model.specs.StepsLeft.{oldEntries, stepsIn, stepsLeft}
 use Rattle.model.specs.Spare.{spare}
@@ -41,8 +41,7 @@ use Rattle.model.specs.SpareLaws.{spare-le, spare-lt, squeezed-spare}
 
 pub data Squeezing (x : Index) (b : ℕ) : Step Index → Type 0 where
   full : mover (chain x b) ≡ none → Squeezing x b (stopped Stop.Idle)
-  moved : (e : Entry) → mover (chain x b) ≡ some e
-      → Squeezing x b (next (setChain x (x .spares) b (squeezed e (chain x b))))
+  moved : (e : Entry) → mover (chain x b) ≡ some e → Squeezing x b (next (movedTo x b e))
 
 pub squeeze-view : (x : Index) (b : ℕ) → Squeezing x b (squeezeStep b x)
 unfolding squeezeStep
@@ -68,7 +67,7 @@ mover-range x b e k = go (decLt b (length (x .chains)))
 
 module _ (x : Index) (w : WF x) (b : ℕ) (e : Entry) (k : mover (chain x b) ≡ some e) where
   abbrev after : Index
-  after = setChain x (x .spares) b (squeezed e (chain x b))
+  after = movedTo x b e
 
   fits : b < length (x .chains)
   fits = mover-range x b e k

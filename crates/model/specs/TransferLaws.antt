@@ -138,6 +138,9 @@ module _ {M L : Machine} (R : L .State → M .State → Type 0) (sim : Simulates
         moves = λ c y h.
             let g = alike-next R (L .step (ofSqueeze c) s) (M .step (ofSqueeze c) x) y (sim .step (ofSqueeze c) s x r) h in
             rw (e, same y (g .state) (g .related)) (f .moves c (g .state) (g .goes));
+        others = λ c d y ne h.
+            let g = alike-next R (L .step (ofSqueeze c) s) (M .step (ofSqueeze c) x) y (sim .step (ofSqueeze c) s x r) h in
+            rw (e, same y (g .state) (g .related)) (f .others c d (g .state) ne (g .goes));
       }
     where
       s : L .State

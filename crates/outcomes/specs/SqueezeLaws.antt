@@ -1,10 +1,9 @@
 -- An accepted squeeze of a store, by the index that it is read as.
-use mathlib.Core.Path.{_≡_, refl, sym, ap, ap₂, _∙_, subst}
-use mathlib.Core.Bool.{Bool, true, false}
+use mathlib.Core.Path.{_≡_, refl, sym, ap, _∙_, subst}
+use mathlib.Core.Bool.{true}
 use mathlib.Core.List.{List}
 use mathlib.Core.Option.{Option, none, some}
-use Prim.Native.Nat.{ℕ, zero, suc, _*_, _/_}
-use native.Mathlib.Omega.{arith}
+use Prim.Native.Nat.{ℕ, suc, _*_, _/_}
 use lib.Dec.{leb}
 use lib.IntN.{subℕ}
 use lib.ListN.{length}
@@ -15,19 +14,19 @@ use Rattle.model.specs.declared.Refusal.{Refusal}
 use Rattle.model.specs.declared.Stop.{Stop}
 use Rattle.model.specs.declared.WorkAnswer.{WorkAnswer}
 use Rattle.model.specs.declared.StandingAnswer.{StandingAnswer}
-use Rattle.model.specs.Index.{Job, Index, chain, entriesAt}
+use Rattle.model.specs.Index.{Index, chain, entriesAt}
 use Rattle.model.specs.Held.{matches, slack, count}
-use Rattle.model.specs.Steps.{Step, next, stopped, iterate}
+use Rattle.model.specs.Steps.{stopped, iterate}
 use Rattle.model.specs.Squeeze.{squeezeStep, squeeze, bucketTest, pagesFor, pagesOf}
-use Rattle.model.specs.Calls.{budgetOk, Looked, listed, lookup, phaseIn, standing}
+use Rattle.model.specs.Calls.{budgetOk, listed, lookup, phaseIn, standing}
+use Rattle.model.specs.Machine.{ofSqueeze, onIndex}
 use Rattle.model.specs.WellFormed.{WF}
 use Rattle.model.specs.FrameLaws.{SameJob, squeeze-frame}
 use Rattle.model.specs.WorkLaws.{iterate-keeps}
-use Rattle.model.specs.MachineLaws.{never}
-use Rattle.model.specs.SqueezeStepLaws.{squeeze-all, squeeze-stops, squeeze-packed}
+use Rattle.model.specs.MachineLaws.{never, kind-unspent, iterate-ends}
+use Rattle.model.specs.SqueezeStepLaws.{squeeze-all, squeeze-packed}
 use Rattle.image.specs.Layout.{encode}
 use Rattle.image.specs.Decode.{decode}
-use Rattle.image.specs.SoundStore.{Encodes}
 use Rattle.image.specs.BridgeTheorem.{encoding-is-sound}
 use Rattle.outcomes.specs.Outcomes.{Tested, passed, failed, tested, lookupOutcome, standingOutcome, WorkDone}
 use Rattle.outcomes.specs.Outcomes.{workOn, unlessRefused, bucketTested, squeezeStepOutcome, squeezeOutcome}
@@ -70,18 +69,6 @@ same-standing x y f c = λ i. record {
   phase = phaseIn (f .job i) (splitFrom (f .frame .maxBucket i)) (f .frame .maxBucket i);
   slack = subℕ (f .frame .fill i * suc (f .frame .maxBucket i)) (c i);
 }
-
--- a stop other than for the budget is the next step's
-iterate-stops : {S : Type 0} (f : S → Step S) (n : ℕ) (s : S) (r : Stop) → iterate f n s .stop ≡ r
-    → (Stop.Spent ≡ r → ⊥) → f (iterate f n s .state) ≡ stopped r
-iterate-stops f zero s r e ne = absurd (ne e)
-iterate-stops {S} f (suc n) s r e ne = go (f s) refl e (iterate-stops f n)
-  where
-    go : (a : Step S) → f s ≡ a → iterate f (suc n) s .stop ≡ r
-        → ((t : S) (q : Stop) → iterate f n t .stop ≡ q → (Stop.Spent ≡ q → ⊥) → f (iterate f n t .state) ≡ stopped q)
-        → f (iterate f (suc n) s .state) ≡ stopped r
-    go (next t) k e ih = rw (k, iterate) (ih t r (rw (k, iterate) at e) ne)
-    go (stopped q) k e ih = let h : q ≡ r = (rw (k, iterate) at e) in rw (k, iterate) (k ∙ ap stopped h)
 
 -- ---- the store
 
@@ -153,4 +140,11 @@ module _ (s : List ℕ) (bytes : Bytes s) (b budget : ℕ) where
       let a = accepted e in
       subst (λ (y : Index). pagesOf (chain y b) ≡ pagesFor (length (entriesAt y b))) (sym (a .read))
       (squeeze-packed b (squeeze b budget (decode s) .state) (squeeze-all b budget (decode s) (a .wf) .0)
-      (unfold squeeze in iterate-stops (squeezeStep b) budget (decode s) Stop.Idle (sym (a .stop)) (λ q. never (cc))))
+      (idles (sym (a .stop))))
+    where
+      -- the next step says so
+      idles : squeeze b budget (decode s) .stop ≡ Stop.Idle
+          → squeezeStep b (squeeze b budget (decode s) .state) ≡ stopped Stop.Idle
+      idles z = unfold squeeze in
+          let d = iterate-ends onIndex (ofSqueeze b) (kind-unspent (ofSqueeze b)) budget (decode s) in
+          d .ended (λ q. (let l = d .spent .0 q in never (cc))) .1 ∙ ap stopped z

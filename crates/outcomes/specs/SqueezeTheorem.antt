@@ -1,6 +1,6 @@
--- A SQUEEZE OF A STORE (docs/RULES.md 6.13): what lookups and standing answer stays; at stop 9 the bucket's chain has as
--- few pages as its entries need; a budget above 40 times its overflow pages comes to stop 9, and one of as much leaves
--- such a chain, whatever the stop.
+-- A SQUEEZE OF A STORE (docs/RULES.md 6.13): what lookups and standing answer stays; at stop 9 the bucket's chain has
+-- as few pages as its entries need; a budget of 40 times its overflow pages leaves such a chain, whatever the stop, and
+-- comes to stop 9 if it is more, or if these are two or more.
 use mathlib.Core.Path.{_≡_, sym, _∙_, subst}
 use mathlib.Core.List.{List}
 use Prim.Native.Nat.{ℕ, _*_, _≤_, _<_}
@@ -11,7 +11,7 @@ use Rattle.model.specs.declared.Stop.{Stop}
 use Rattle.model.specs.declared.WorkAnswer.{WorkAnswer}
 use Rattle.model.specs.Index.{Index, chain, entriesAt}
 use Rattle.model.specs.Squeeze.{pagesFor, pagesOf}
-use Rattle.model.specs.SqueezeStepLaws.{squeeze-enough, squeeze-ends, spare-bound}
+use Rattle.model.specs.SqueezeStepLaws.{squeeze-enough, squeeze-ends, squeeze-forty, spare-bound}
 use Rattle.image.specs.Decode.{decode}
 use Rattle.outcomes.specs.Outcomes.{lookupOutcome, standingOutcome, squeezeOutcome}
 use Rattle.outcomes.specs.SqueezeLaws.{accepted, squeeze-pages}
@@ -32,15 +32,18 @@ module _ (s : List ℕ) (bytes : Bytes s) (b budget : ℕ) where
       → pagesOf (chain (decode after) b) ≡ pagesFor (length (entriesAt (decode after) b))
   squeeze-packs e = squeeze-pages s bytes b budget e
 
-  -- a budget of 40 for each overflow page leaves such a chain, and one of more comes to stop 9
+  -- a budget of 40 for each overflow page leaves such a chain; one of more comes to stop 9, and so does one of as much
+  -- where there are two overflow pages or more
   pub squeeze-reaches : {k : ℕ} {r : Stop} → squeezeOutcome s b budget .answer ≡ WorkAnswer.Worked k r
       → 40 * length (chain (decode s) b .more) ≤ budget
       → (pagesOf (chain (decode after) b) ≡ pagesFor (length (entriesAt (decode after) b)))
       × (40 * length (chain (decode s) b .more) < budget → r ≡ Stop.Idle)
+      × (2 ≤ length (chain (decode s) b .more) → r ≡ Stop.Idle)
   squeeze-reaches {k} {r} e l =
       let a = accepted s bytes b budget e in
       let x = decode s in (
         subst (λ (y : Index). pagesOf (chain y b) ≡ pagesFor (length (entriesAt y b))) (sym (a .read))
             (squeeze-enough b budget x (a .wf) (omega (arith, spare-bound b x, l)) .1),
         λ m. a .stop ∙ squeeze-ends b budget x (a .wf) (omega (arith, spare-bound b x, m)) .stop,
+        λ two. a .stop ∙ squeeze-forty b budget x (a .wf) two l .stop,
       )
