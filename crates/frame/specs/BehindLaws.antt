@@ -1,18 +1,19 @@
--- Pages behind a chain that has room move no place in it, and no block.
+-- Pages behind a chain that has room move no place in it, and no block. The places of a chain in which an entry is to
+-- move: of its last page, and of its first page with room.
 use mathlib.Core.Path.{_≡_, refl, ap, _∙_}
 use mathlib.Core.Bool.{Bool, true, false, cond, _||_}
 use mathlib.Core.List.{List, [], _∷_, _++_, map-append}
 use Prim.Native.Nat.{ℕ, suc, _≤_}
 use native.Mathlib.Omega.{arith}
-use lib.ListN.{length, getD, length-map, List·getD-append}
+use lib.ListN.{length, getD, length-map, length-append, List·getD-append}
 use lib.Seq.{getD-at}
 use Rattle.lists.specs.Lists.{any}
 use Rattle.page.specs.declared.Entry.{Entry}
 use Rattle.model.specs.Index.{Page, Chain, Index}
 use Rattle.model.specs.Pages.{hasRoom, pageRoom, chainRoom}
-use Rattle.model.specs.SqueezeLaws.{pages, behind}
+use Rattle.model.specs.SqueezeLaws.{Moving, pages, page, behind}
 use Rattle.store.specs.Flags.{noLink}
-use Rattle.frame.specs.Frame.{blockOfBit, blocksAfter, chainBlocks, placeBlock, firstPlace, roomPlace}
+use Rattle.frame.specs.Frame.{blockOfBit, blocksAfter, chainBlocks, placeBlock, firstPlace, roomPlace, lastPlace}
 use Rattle.frame.specs.ListsLaws.{place-left}
 use Rattle.frame.specs.PagesLaws.{room-at}
 
@@ -26,6 +27,26 @@ behind-place hs c h = go (hasRoom (c .first)) h
 
 pub place-inside : (e : Entry) (c : Chain) → chainRoom c ≡ true → roomPlace c ≤ length (c .more)
 place-inside e c h = omega (arith, room-at e c h .inside, length-map (c .more) (λ (g : Page). g .entries))
+
+-- ---- a chain in which an entry is to move: the pages before its last one have room
+
+module _ {c : Chain} {e : Entry} (m : Moving c e) where
+  abbrev front : Chain
+  front = pages (c .first) (m .before)
+
+  abbrev last : Page
+  last = page (m .bit) (m .entries ++ e ∷ [])
+
+  pub last-place : lastPlace c ≡ suc (length (m .before))
+  last-place = ap (λ (d : Chain). length (d .more)) (m .shape) ∙ length-append (m .before) (last ∷ []) ∙ omega arith
+
+  pub front-place : roomPlace c ≡ roomPlace (pages (c .first) (m .before))
+  front-place = ap roomPlace (m .shape) ∙ behind-place (last ∷ []) front (m .room)
+
+  pub front-inside : roomPlace (pages (c .first) (m .before)) ≤ length (m .before)
+  front-inside = place-inside e front (m .room)
+
+-- ---- blocks
 
 module _ (x : Index) (b : ℕ) (c : Chain) where
   blocks-length : length (chainBlocks x b c) ≡ suc (length (c .more))

@@ -86,6 +86,16 @@ module _ {A : Type 0} (t : A → Bool) where
       go true z ih = absurd (omega arith)
       go false z ih = omega (arith, ih (omega arith))
 
+  -- not before the first list's
+  pub place-later : (xs ys : List A) → firstPlace t xs ≤ firstPlace t (xs ++ ys)
+  place-later [] ys = omega arith
+  place-later (x ∷ xs) ys = go (t x) (place-later xs ys)
+    where
+      go : (b : Bool) → firstPlace t xs ≤ firstPlace t (xs ++ ys)
+          → cond b 0 (suc (firstPlace t xs)) ≤ cond b 0 (suc (firstPlace t (xs ++ ys)))
+      go true ih = omega arith
+      go false ih = omega (arith, ih)
+
 pub getD-map : {A B : Type 0} (f : A → B) (xs : List A) (i : ℕ) (d : A) (e : B) → i < length xs
     → getD (map f xs) i e ≡ f (getD xs i d)
 getD-map f [] i d e h = absurd (omega arith)

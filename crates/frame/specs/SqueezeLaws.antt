@@ -8,7 +8,7 @@ use Prim.Native.Nat.{ℕ, suc, _+_, _-_, _≤_, _<_}
 use native.Mathlib.Decide.{ℕ-discrete}
 use native.Mathlib.Omega.{arith}
 use borrow.Author.Tests.{ltb-false}
-use lib.ListN.{length, length-set, length-append}
+use lib.ListN.{length, length-set}
 use Rattle.lists.specs.Lists.{b2n, tally}
 use Rattle.lists.specs.ListsLaws.{tally-append, any-append, any-yes, zero-any}
 use Rattle.page.specs.declared.Pair.{Pair}
@@ -35,7 +35,7 @@ use Rattle.frame.specs.ListsLaws.{place-right}
 use Rattle.frame.specs.PutLaws.{frame-room, frame-again}
 use Rattle.frame.specs.CutLaws.{frees-none}
 use Rattle.frame.specs.RemoveLaws.{frame-cut}
-use Rattle.frame.specs.BehindLaws.{behind-place, place-inside, behind-block, behind-last}
+use Rattle.frame.specs.BehindLaws.{behind-place, last-place, front-inside, behind-block, behind-last}
 use Rattle.frame.specs.MetaLaws.{meta-same, room-free, thin-free}
 
 -- ---- pages without a pair
@@ -106,13 +106,7 @@ module _ (x : Index) (w : WF x) (b : ℕ) (e : Entry) (h : mover (chain x b) ≡
       ∙ ap (setChain x (x .spares) b)
       (ap (addEntry e) (chain-here x (x .spares) b (without p c) fits) ∙ sym (squeezed-is c e (l .pages b) once m))
 
-  last-place : lastPlace (chain x b) ≡ suc (length (m .before))
-  last-place = ap (λ (d : Chain). length (d .more)) (m .shape) ∙ length-append (m .before) (last ∷ []) ∙ omega arith
-
   -- ---- the put
-
-  inside : roomPlace front ≤ length (m .before)
-  inside = place-inside e front (m .room)
 
   pub target : let z = cut (e .pair) b x in pageBlock z b (roomPlace (chain z b)) ≡ earlyBlock x b
   unfolding cut
@@ -120,8 +114,8 @@ module _ (x : Index) (w : WF x) (b : ℕ) (e : Entry) (h : mover (chain x b) ≡
       (λ t. placeBlock x b (chain-z t) (roomPlace (chain-z t)))
       ∙ ap (placeBlock x b (behind (rest (m .bit) (m .entries)) front))
       (behind-place (rest (m .bit) (m .entries)) front (m .room))
-      ∙ behind-block x b front (rest (m .bit) (m .entries)) (roomPlace front) inside
-      ∙ sym (behind-block x b front (last ∷ []) (roomPlace front) inside)
+      ∙ behind-block x b front (rest (m .bit) (m .entries)) (roomPlace front) (front-inside m)
+      ∙ sym (behind-block x b front (last ∷ []) (roomPlace front) (front-inside m))
       ∙ (λ t. placeBlock x b (sym (m .shape) t) (roomPlace (sym (m .early) t)))
 
   frame-in : (k : ℕ) → k ≢ 0 → k ≢ earlyBlock x b → encodeBlock y k ≡ encodeBlock z k
@@ -140,7 +134,7 @@ module _ (x : Index) (w : WF x) (b : ℕ) (e : Entry) (h : mover (chain x b) ≡
       (place-right (onPage p) (m .before) (last ∷ [])
       (pages-without p (m .before) (omega (arith, nowhere c e (l .pages b) once m)))
       ∙ ap (λ (a : Bool). length (m .before) + cond a 0 1) here)
-      ∙ omega (arith, last-place)
+      ∙ omega (arith, last-place m)
     where
       here : onPage (e .pair) last ≡ true
       here =
@@ -213,7 +207,7 @@ module _ (x : Index) (w : WF x) (b : ℕ) (e : Entry) (h : mover (chain x b) ≡
     before : pageBlock z b (lastPlace (chain z b)) ≡ pageBlock x b (lastPlace (chain x b) - 1)
     unfolding cut
     before =
-        let i : length (m .before) ≡ lastPlace (chain x b) - 1 = omega (arith, last-place) in
+        let i : length (m .before) ≡ lastPlace (chain x b) - 1 = omega (arith, last-place m) in
         (λ t. placeBlock x b (gone t) (lastPlace (gone t)))
         ∙ sym (behind-block x b front (last ∷ []) (length (m .before)) (omega arith))
         ∙ (λ t. placeBlock x b (sym (m .shape) t) (length (m .before)))
@@ -221,7 +215,7 @@ module _ (x : Index) (w : WF x) (b : ℕ) (e : Entry) (h : mover (chain x b) ≡
 
     own : blockOfBit z (m .bit) ≡ pageBlock x b (lastPlace (chain x b))
     unfolding cut
-    own = sym (behind-last x b front last) ∙ (λ t. placeBlock x b (sym (m .shape) t) (sym last-place t))
+    own = sym (behind-last x b front last) ∙ (λ t. placeBlock x b (sym (m .shape) t) (sym (last-place m) t))
 
     frame-freed : (k : ℕ) → k ≢ 0 → k ≢ mapBlock x → k ≢ pageBlock x b (lastPlace (chain x b) - 1)
         → k ≢ pageBlock x b (lastPlace (chain x b)) → encodeBlock z k ≡ encodeBlock x k

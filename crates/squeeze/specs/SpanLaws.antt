@@ -30,7 +30,8 @@ use Rattle.frame.specs.Frame.{blockOfBit, chainBlocks, placeBlock, pageBlock, e
 use Rattle.frame.specs.Frame.{pageWith, firstPlace, roomPlace, lastPlace}
 use Rattle.frame.specs.PagesLaws.{room-blocks}
 use Rattle.frame.specs.ImagesLaws.{page-image}
-use Rattle.frame.specs.BehindLaws.{behind-place, behind-block, behind-last, place-inside}
+use Rattle.frame.specs.ListsLaws.{place-later}
+use Rattle.frame.specs.BehindLaws.{last-place, front-place, front-inside, behind-block, behind-last}
 use Rattle.chain.specs.Walk.{walk, lastOf}
 use Rattle.chain.specs.WalkLaws.{walk-first}
 use Rattle.view.specs.Reads.{Reads}
@@ -83,18 +84,9 @@ add-later e c = go (hasRoom (c .first)) refl
 behind-later : (hs : List Page) (c : Chain) → roomPlace c ≤ roomPlace (behind hs c)
 behind-later hs c = go (hasRoom (c .first))
   where
-    more : (gs : List Page) → firstPlace pageRoom gs ≤ firstPlace pageRoom (gs ++ hs)
-    more [] = omega arith
-    more (g ∷ gs) = at (pageRoom g) (more gs)
-      where
-        at : (a : Bool) → firstPlace pageRoom gs ≤ firstPlace pageRoom (gs ++ hs)
-            → cond a 0 (suc (firstPlace pageRoom gs)) ≤ cond a 0 (suc (firstPlace pageRoom (gs ++ hs)))
-        at true ih = omega arith
-        at false ih = omega (arith, ih)
-
     go : (a : Bool) → cond a 0 (suc (firstPlace pageRoom (c .more))) ≤ cond a 0 (suc (firstPlace pageRoom (c .more ++ hs)))
     go true = omega arith
-    go false = omega (arith, more (c .more))
+    go false = omega (arith, place-later pageRoom (c .more) hs)
 
 -- ---- the last page
 
@@ -148,16 +140,6 @@ module _ {s : List ℕ} {m : Meta} {b : ℕ} {e : Entry} {last slot target : ℕ
   shape : chain (decode s) b ≡ behind (whole ∷ []) front
   shape = mv .shape
 
-  last-place : lastPlace (chain (decode s) b) ≡ suc (length (mv .before))
-  last-place =
-      ap (λ (d : Chain). length (d .more)) shape ∙ length-append (mv .before) (whole ∷ []) ∙ omega arith
-
-  room-place : roomPlace (chain (decode s) b) ≡ roomPlace front
-  room-place = ap roomPlace shape ∙ behind-place (whole ∷ []) front (mv .room)
-
-  front-inside : roomPlace front ≤ length (mv .before)
-  front-inside = place-inside e front (mv .room)
-
   -- a block of a page before the last
   front-block : (i : ℕ) → i ≤ length (mv .before) → pageBlock (decode s) b i ≡ placeBlock (decode s) b front i
   front-block i l = ap (λ (d : Chain). placeBlock x b d i) shape ∙ behind-block x b front (whole ∷ []) i l
@@ -203,7 +185,7 @@ module _ {s : List ℕ} {m : Meta} {b : ℕ} {e : Entry} {last slot target : ℕ
       (number : suc slot ≡ length (pageEntries (decode s) b (lastPlace (chain (decode s) b)))) where
     slot-is : slot ≡ length (mv .entries)
     slot-is =
-        let k = ap length ((λ t. placeEntries (shape t) (last-place t)) ∙ end-entries front whole) in
+        let k = ap length ((λ t. placeEntries (shape t) (last-place mv t)) ∙ end-entries front whole) in
         omega (arith, number, k, length-append (mv .entries) (e ∷ []))
 
     last-is : (es : List Entry) → mv .entries ≡ es
@@ -211,8 +193,8 @@ module _ {s : List ℕ} {m : Meta} {b : ℕ} {e : Entry} {last slot target : ℕ
     last-is [] q =
         let gone : lastPlace (chain y b) ≡ n =
         after-length ∙ ap (λ (es : List Entry). n + length (rest (mv .bit) es)) q ∙ omega arith in
-        ap (λ (k : ℕ). prevAt (block s k)) (here ∙ ap (pageBlock x b) last-place)
-        ∙ prev-is (h .reads) b (h .made) n (omega (arith, last-place))
+        ap (λ (k : ℕ). prevAt (block s k)) (here ∙ ap (pageBlock x b) (last-place mv))
+        ∙ prev-is (h .reads) b (h .made) n (omega (arith, last-place mv))
         ∙ sym (ap (pageBlock y b) gone ∙ after-block n (omega arith))
     last-is (d ∷ es) q =
         let g : Page = page (mv .bit) (d ∷ es) in
@@ -223,7 +205,7 @@ module _ {s : List ℕ} {m : Meta} {b : ℕ} {e : Entry} {last slot target : ℕ
         after-length ∙ ap (λ (hs : List Page). n + length hs) used ∙ omega (arith, put-length) in
         ap (λ (a : Bool). cond a (prevAt (block s last)) last) (ne-eqb (suc (length es)) 0 (λ z. omega arith))
         ∙ here
-        ∙ (λ t. placeBlock x b (shape t) (last-place t))
+        ∙ (λ t. placeBlock x b (shape t) (last-place mv t))
         ∙ behind-last x b front whole
         ∙ sym ((λ t. placeBlock x b (same t) (stays t)) ∙ behind-last x b put g)
 
@@ -233,7 +215,7 @@ module _ {s : List ℕ} {m : Meta} {b : ℕ} {e : Entry} {last slot target : ℕ
         record {
           made = omega (arith, h .made, reads-max (h .reads));
           place = roomPlace front;
-          inside = omega (arith, front-inside, after-length);
+          inside = omega (arith, front-inside mv, after-length);
           passed =
               omega (
                 arith,
@@ -242,7 +224,7 @@ module _ {s : List ℕ} {m : Meta} {b : ℕ} {e : Entry} {last slot target : ℕ
                 ap roomPlace chain-after,
               );
           first =
-              f ∙ h .room .page ∙ ap (pageBlock x b) room-place ∙ sym (after-block (roomPlace front) front-inside);
+              f ∙ h .room .page ∙ ap (pageBlock x b) (front-place mv) ∙ sym (after-block (roomPlace front) (front-inside mv));
           last =
               l ∙ ap (λ (k : ℕ). cond (eqb k 0) (prevAt (block s last)) last) slot-is ∙ last-is (mv .entries) refl;
         }

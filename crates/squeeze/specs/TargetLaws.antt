@@ -31,7 +31,7 @@ use Rattle.image.specs.Decode.{decode}
 use Rattle.frame.specs.Frame.{blockOfBit, mapBlock, chainBlocks, pageBlock, entriesAfter, placeEntries, pageEntries}
 use Rattle.frame.specs.Frame.{roomPlace}
 use Rattle.frame.specs.ApartLaws.{page-meta, page-map}
-use Rattle.frame.specs.BehindLaws.{behind-place, place-inside}
+use Rattle.frame.specs.BehindLaws.{behind-place, place-inside, front-place, front-inside}
 use Rattle.frame.specs.ImagesLaws.{page-inside}
 use Rattle.frame.specs.PagesLaws.{room-at}
 use Rattle.frame.specs.RemoveLaws.{stands-once}
@@ -122,14 +122,8 @@ module _ {s : List ℕ} {m : Meta} {b : ℕ} {e : Entry} {last slot k : ℕ} (h 
       let ok = reads-laid (h .reads) .pages b in
       ap chainRoom (shape-cut ∙ sym (without-is (chain x b) e ok once mv)) ∙ without-room (chain x b) e ok once mv
 
-  front-inside : roomPlace front ≤ length (mv .before)
-  front-inside = place-inside e front (mv .room)
-
   place-cut : roomPlace (chain z b) ≡ roomPlace front
   place-cut = ap roomPlace shape-cut ∙ behind-place left front (mv .room)
-
-  place-front : roomPlace (chain x b) ≡ roomPlace front
-  place-front = ap roomPlace (mv .shape) ∙ behind-place whole front (mv .room)
 
   inside : roomPlace (chain x b) ≤ length (chain x b .more)
   inside = place-inside e (chain x b) (h .room .room)
@@ -139,13 +133,13 @@ module _ {s : List ℕ} {m : Meta} {b : ℕ} {e : Entry} {last slot k : ℕ} (h 
 
   pub target-is : k ≡ roomBlock (cut (e .pair) b (decode s)) b
   target-is =
-      h .room .page ∙ ap (pageBlock x b) (place-front ∙ ap roomPlace (sym (mv .early))) ∙ sym (target x wf b e (h .moves))
+      h .room .page ∙ ap (pageBlock x b) (front-place mv ∙ ap roomPlace (sym (mv .early))) ∙ sym (target x wf b e (h .moves))
 
   entries-same : pageEntries x b (roomPlace (chain x b)) ≡ pageEntries z b (roomPlace (chain z b))
   entries-same =
-      (λ t. placeEntries (mv .shape t) (place-front t))
-      ∙ behind-entries whole front (roomPlace front) front-inside
-      ∙ sym (behind-entries left front (roomPlace front) front-inside)
+      (λ t. placeEntries (mv .shape t) (front-place mv t))
+      ∙ behind-entries whole front (roomPlace front) (front-inside mv)
+      ∙ sym (behind-entries left front (roomPlace front) (front-inside mv))
       ∙ (λ t. placeEntries (sym shape-cut t) (sym place-cut t))
 
   pub target-read : let z = cut (e .pair) b (decode s) in
