@@ -27,7 +27,7 @@ use Rattle.view.specs.ReadsLaws.{reads-laid}
 use Rattle.view.specs.Places.{roomAt}
 use Rattle.plan.specs.Plan.{Plans, Places, placed, full}
 use Rattle.plan.specs.StoreLaws.{map-shape}
-use Rattle.insertion.specs.Put.{roomBlock, lastBlock, extended, Leaves, InRoom, AtEnd}
+use Rattle.insertion.specs.Put.{roomBlock, lastBlock, extended, RoomIn, Leaves, InRoom, AtEnd}
 use Rattle.plan.specs.FieldLaws.{read-size, read-made}
 use Rattle.insertion.specs.FreeLaws.{bits-shaped, free-read, none-read}
 use Rattle.insertion.specs.PutLaws.{put-room, put-free, put-fresh, put-full}
@@ -44,11 +44,6 @@ module _ {s : List ℕ} {c : Change} {images : List ℕ} {o : Option Index} wher
 -- ---- what room_in finds
 
 module _ (x : Index) (b : ℕ) where
-  -- the first page with room
-  pub record RoomIn (k : ℕ) : Type 0 where
-    pub room : chainRoom (chain x b) ≡ true
-    pub page : k ≡ roomBlock x b
-
   -- no room, and the last page
   pub record NoRoomIn (k : ℕ) : Type 0 where
     pub room : chainRoom (chain x b) ≡ false
@@ -57,11 +52,11 @@ module _ (x : Index) (b : ℕ) where
   abbrev found : Bool → Room
   found t = cond t (Room.Page (roomBlock x b)) (Room.Full (lastBlock x b))
 
-  pub roomAt-page : (k : ℕ) → roomAt x b ≡ Room.Page k → RoomIn k
+  pub roomAt-page : (k : ℕ) → roomAt x b ≡ Room.Page k → RoomIn x b k
   unfolding roomAt
   roomAt-page k h = go (chainRoom (chain x b)) refl h
     where
-      go : (t : Bool) → chainRoom (chain x b) ≡ t → found t ≡ Room.Page k → RoomIn k
+      go : (t : Bool) → chainRoom (chain x b) ≡ t → found t ≡ Room.Page k → RoomIn x b k
       go true e h = record { room = e; page = cc }
       go false e h = let z : _≡_ {A = ℕ} 0 1 = cc in absurd (omega arith)
 

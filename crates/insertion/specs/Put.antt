@@ -38,6 +38,11 @@ entered x b e = setChain x (x .spares) b (addEntry e (chain x b))
 abbrev pub extended : Index → (sp : List ℕ) → (b n : ℕ) → Entry → Index
 extended x sp b n e = setChain x sp b (addPage n e (chain x b))
 
+-- block k is the first page with room in bucket b's chain of the index x
+pub record RoomIn (x : Index) (b k : ℕ) : Type 0 where
+  pub room : chainRoom (chain x b) ≡ true
+  pub page : k ≡ roomBlock x b
+
 -- a put into bucket b's chain of the store s leaves the index y, in which n pairs are held
 pub record Leaves (s : List ℕ) (m : Meta) (b n : ℕ) (y : Index) : Type 0 where
   pub reads : Reads s m

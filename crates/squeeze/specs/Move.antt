@@ -11,7 +11,7 @@ use Rattle.image.specs.Decode.{decode}
 use Rattle.chain.specs.declared.Found.{Found}
 use Rattle.view.specs.Reads.{Reads}
 use Rattle.view.specs.Places.{findAt}
-use Rattle.insertion.specs.PlacesLaws.{RoomIn}
+use Rattle.insertion.specs.Put.{RoomIn}
 
 -- the entry e moved to the first page with room of bucket b's chain
 abbrev pub movedTo : Index → (b : ℕ) → Entry → Index

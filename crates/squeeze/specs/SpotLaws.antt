@@ -48,8 +48,8 @@ use Rattle.view.specs.PlacesLaws.{room-place, room-read, last-read}
 use Rattle.plan.specs.declared.Advance.{Advance}
 use Rattle.plan.specs.Plan.{Plans, Advances, advanced, halted}
 use Rattle.plan.specs.StoreLaws.{page-under, page-few}
-use Rattle.insertion.specs.Put.{roomBlock, lastBlock}
-use Rattle.insertion.specs.PlacesLaws.{RoomIn, roomAt-page, roomAt-full}
+use Rattle.insertion.specs.Put.{roomBlock, lastBlock, RoomIn}
+use Rattle.insertion.specs.PlacesLaws.{roomAt-page, roomAt-full}
 use Rattle.squeeze.specs.declared.Spot.{Spot}
 use Rattle.squeeze.specs.declared.Span.{Span}
 use Rattle.squeeze.specs.Spot.{roomBefore, spotAt}

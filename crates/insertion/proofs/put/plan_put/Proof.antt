@@ -1,8 +1,9 @@
 use mathlib.Core.Path.{sym, _∙_}
 use borrow.Author.Needs.{needs}
 use Rattle.image.specs.Decode.{decode}
+use Rattle.insertion.specs.Put.{RoomIn}
 use Rattle.insertion.specs.PutLaws.{put-room}
-use Rattle.insertion.specs.PlacesLaws.{places-some, RoomIn, roomAt-page, roomAt-full, in-room}
+use Rattle.insertion.specs.PlacesLaws.{places-some, roomAt-page, roomAt-full, in-room}
 use Rattle.insertion.proofs.put.plan_put.Statement.{statement}
 use Rattle.insertion.proofs.put.plan_put.Tie as tie
 
