@@ -1,4 +1,5 @@
--- An entry taken out of the last page and put into an earlier one: the draft after both edits, and what ends the change.
+-- An entry taken out of the last page and put into an earlier one: the draft after both edits, and what ends the
+-- change.
 use mathlib.Core.Path.{_≡_, refl, sym, ap, _∙_, subst}
 use mathlib.Core.Logic.{_≢_}
 use mathlib.Core.Bool.{Bool, not}

@@ -1,32 +1,30 @@
--- The pages that a step looks at: all of the chain at first, and after a step those from the page on that it put its entry
--- into, to the page that is last then.
-use mathlib.Core.Path.{_≡_, refl, sym, ap, _∙_, subst}
-use mathlib.Core.Bool.{Bool, true, false, cond, _||_}
-use mathlib.Core.List.{List, [], _∷_, _++_, map-append, append-nil}
-use Prim.Native.Nat.{ℕ, zero, suc, _+_, _^_, _≤_, _<_}
+-- The pages that a step looks at: all of the chain at first, and after a step those from the page on that it put its
+-- entry into, to the page that is last then.
+use mathlib.Core.Path.{_≡_, refl, sym, ap, _∙_}
+use mathlib.Core.Bool.{Bool, true, false, cond}
+use mathlib.Core.List.{List, [], _∷_, _++_, map-append}
+use Prim.Native.Nat.{ℕ, suc, _+_, _≤_}
 use native.Mathlib.Omega.{arith}
 use borrow.Author.Tests.{lt-ltb, ne-eqb}
 use lib.Dec.{eqb}
 use lib.ListN.{length, getD, length-map, length-append}
 use lib.Seq.{getD-at}
-use Rattle.lists.specs.Lists.{any}
 use Rattle.lists.specs.Block.{block}
 use Rattle.page.specs.declared.Entry.{Entry}
 use Rattle.page.specs.Entries.{encodePage}
 use Rattle.store.specs.Store.{prevAt}
 use Rattle.store.specs.Flags.{noLink}
 use Rattle.model.specs.Index.{Page, Chain, Index, chain}
-use Rattle.model.specs.Pages.{hasRoom, pageRoom, chainRoom, enterEntry, addMore, addEntry}
+use Rattle.model.specs.Pages.{hasRoom, pageRoom, enterEntry, addMore, addEntry}
 use Rattle.model.specs.Squeeze.{squeezed}
 use Rattle.model.specs.StandLaws.{chain-here}
-use Rattle.model.specs.MachineLaws.{never}
 use Rattle.model.specs.SqueezeLaws.{Moving, mover-is, pages, page, rest, behind}
 use Rattle.model.specs.SqueezeStepLaws.{mover-range}
 use Rattle.image.specs.declared.Meta.{Meta}
 use Rattle.image.specs.Decode.{blockOf, decode}
 use Rattle.image.specs.PagedLaws.{prev-paged}
 use Rattle.image.specs.PageOkLaws.{length-pageFront}
-use Rattle.frame.specs.Frame.{blockOfBit, chainBlocks, placeBlock, pageBlock, entriesAfter, placeEntries, pageEntries}
+use Rattle.frame.specs.Frame.{blockOfBit, placeBlock, pageBlock, entriesAfter, placeEntries, pageEntries}
 use Rattle.frame.specs.Frame.{pageWith, firstPlace, roomPlace, lastPlace}
 use Rattle.frame.specs.PagesLaws.{room-blocks}
 use Rattle.frame.specs.ImagesLaws.{page-image}
@@ -84,7 +82,8 @@ add-later e c = go (hasRoom (c .first)) refl
 behind-later : (hs : List Page) (c : Chain) → roomPlace c ≤ roomPlace (behind hs c)
 behind-later hs c = go (hasRoom (c .first))
   where
-    go : (a : Bool) → cond a 0 (suc (firstPlace pageRoom (c .more))) ≤ cond a 0 (suc (firstPlace pageRoom (c .more ++ hs)))
+    go : (a : Bool)
+        → cond a 0 (suc (firstPlace pageRoom (c .more))) ≤ cond a 0 (suc (firstPlace pageRoom (c .more ++ hs)))
     go true = omega arith
     go false = omega (arith, place-later pageRoom (c .more) hs)
 
@@ -224,7 +223,8 @@ module _ {s : List ℕ} {m : Meta} {b : ℕ} {e : Entry} {last slot target : ℕ
                 ap roomPlace chain-after,
               );
           first =
-              f ∙ h .room .page ∙ ap (pageBlock x b) (front-place mv) ∙ sym (after-block (roomPlace front) (front-inside mv));
+              f ∙ h .room .page ∙ ap (pageBlock x b) (front-place mv)
+              ∙ sym (after-block (roomPlace front) (front-inside mv));
           last =
               l ∙ ap (λ (k : ℕ). cond (eqb k 0) (prevAt (block s last)) last) slot-is ∙ last-is (mv .entries) refl;
         }

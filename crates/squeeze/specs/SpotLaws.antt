@@ -5,7 +5,7 @@ use mathlib.Core.Logic.{_≢_}
 use mathlib.Core.Bool.{Bool, true, false, cond, not, _&&_}
 use mathlib.Core.List.{List}
 use mathlib.Core.Option.{Option, none, some}
-use Prim.Native.Nat.{ℕ, suc, _-_, _≤_, _<_}
+use Prim.Native.Nat.{ℕ, suc, _≤_, _<_}
 use native.Mathlib.Omega.{arith}
 use lib.Dec.{eqb}
 use lib.ListN.{length, getD, drop, length-map}
@@ -13,17 +13,15 @@ use Rattle.lists.specs.Lists.{find}
 use Rattle.lists.specs.ListsLaws.{eqb-yes, eqb-no, and-left}
 use Rattle.lists.specs.Block.{blocks, block}
 use Rattle.endian.specs.Endian.{u16At}
-use Rattle.page.specs.declared.Pair.{Pair}
 use Rattle.page.specs.declared.Entry.{Entry}
-use Rattle.page.specs.Pair.{is}
 use Rattle.page.specs.Entries.{entryAt, entriesOf}
 use Rattle.page.specs.EntriesLaws.{length-entriesOf, getD-entriesOf}
 use Rattle.store.specs.declared.Change.{Change}
 use Rattle.store.specs.Flags.{noLink}
 use Rattle.model.specs.declared.Stop.{Stop}
-use Rattle.model.specs.Index.{Page, Chain, Job, idle, copying, clearing, Index, chain, entriesAt, oldBucket, newBucket}
+use Rattle.model.specs.Index.{Page, Chain, Job, idle, copying, clearing, Index, chain, oldBucket, newBucket}
 use Rattle.model.specs.Pages.{chainRoom}
-use Rattle.model.specs.Steps.{Step, next, stopped}
+use Rattle.model.specs.Steps.{Step, next}
 use Rattle.model.specs.Squeeze.{final, mover, squeezeIn, squeezeStep, busyIn, isBusy}
 use Rattle.model.specs.Calls.{phaseIn}
 use Rattle.model.specs.Demand.{ofJob}
@@ -44,7 +42,7 @@ use Rattle.view.specs.ReadsLaws.{reads-laid, reads-size, reads-max}
 use Rattle.view.specs.Places.{findAt, roomAt}
 use Rattle.view.specs.FirstLaws.{getD-default, find-drop}
 use Rattle.view.specs.ChainLaws.{walk-read, walk-bounded, page-read}
-use Rattle.view.specs.PlacesLaws.{room-place, room-read, last-read}
+use Rattle.view.specs.PlacesLaws.{room-place, room-read}
 use Rattle.plan.specs.declared.Advance.{Advance}
 use Rattle.plan.specs.Plan.{Plans, Advances, advanced, halted}
 use Rattle.plan.specs.StoreLaws.{page-under, page-few}

@@ -133,7 +133,8 @@ module _ {s : List ℕ} {m : Meta} {b : ℕ} {e : Entry} {last slot k : ℕ} (h 
 
   pub target-is : k ≡ roomBlock (cut (e .pair) b (decode s)) b
   target-is =
-      h .room .page ∙ ap (pageBlock x b) (front-place mv ∙ ap roomPlace (sym (mv .early))) ∙ sym (target x wf b e (h .moves))
+      h .room .page ∙ ap (pageBlock x b) (front-place mv ∙ ap roomPlace (sym (mv .early)))
+      ∙ sym (target x wf b e (h .moves))
 
   entries-same : pageEntries x b (roomPlace (chain x b)) ≡ pageEntries z b (roomPlace (chain z b))
   entries-same =

@@ -106,7 +106,8 @@ fn plan_move(
     end_cut(store, m, moved, images, m.count, freed, Freed::Nothing)
 }
 
-// The chain's last page once the entry in slot `slot` is out of it, its last one: the page before it, if it has no other.
+// The chain's last page once the entry in slot `slot` is out of it, its last one: the page before it, if it has no
+// other.
 fn last_after(page: &[u8], last: u32, slot: usize) -> u32
     requires { ⌜ length (now page) ≡ 512 ⌝ }
     ensures { λ r. ⌜ r ≡ cond (eqb slot 0) (prevAt (now (page .entry))) last ⌝ }

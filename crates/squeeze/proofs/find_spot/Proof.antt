@@ -1,13 +1,10 @@
 use borrow.Author.Needs.{needs}
 use mathlib.Core.Path.{_≡_, sym, _∙_}
-use Prim.Native.Nat.{ℕ}
 use native.Mathlib.Omega.{arith}
-use Rattle.image.specs.Decode.{decode}
 use Rattle.chain.specs.declared.Room.{Room}
 use Rattle.chain.specs.Walk.{walk}
 use Rattle.chain.specs.Search.{roomIn}
 use Rattle.view.specs.ReadsLaws.{reads-max}
-use Rattle.squeeze.specs.Span.{Spans}
 use Rattle.squeeze.specs.SpotLaws.{span-bounded, spot-full, spot-one, spot-two}
 use Rattle.squeeze.proofs.find_spot.Statement.{statement}
 use Rattle.squeeze.proofs.find_spot.Tie as tie
