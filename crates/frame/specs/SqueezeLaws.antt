@@ -18,7 +18,7 @@ use Rattle.page.specs.PairLaws.{same-refl}
 use Rattle.model.specs.Index.{Page, Chain, Index, onPages, chain, entriesAt, setChain}
 use Rattle.model.specs.Pages.{addEntry, addPage, isFree, inUse, thin, without, cut}
 use Rattle.model.specs.Steps.{next}
-use Rattle.model.specs.Squeeze.{final, shortened, mover, squeezed, squeezeIn, squeezeStep}
+use Rattle.model.specs.Squeeze.{final, shortened, mover, movedTo, squeezeIn, squeezeStep}
 use Rattle.model.specs.WellFormed.{Laid, WF}
 use Rattle.model.specs.StandLaws.{chain-here, set-again, set-back}
 use Rattle.model.specs.LaidLaws.{cut-laid}
@@ -65,7 +65,7 @@ module _ (x : Index) (w : WF x) (b : ℕ) (e : Entry) (h : mover (chain x b) ≡
   z = cut (e .pair) b x
 
   abbrev y : Index
-  y = setChain x (x .spares) b (squeezed e (chain x b))
+  y = movedTo x b e
 
   l : Laid x
   l = w .laid
@@ -98,8 +98,7 @@ module _ (x : Index) (w : WF x) (b : ℕ) (e : Entry) (h : mover (chain x b) ≡
   chain-z = chain-here x (x .spares) b (without p c) fits ∙ without-is c e (l .pages b) once m
 
   -- the step is the cut, and a put
-  pub again : let z = cut (e .pair) b x in
-      setChain z (z .spares) b (addEntry e (chain z b)) ≡ setChain x (x .spares) b (squeezed e (chain x b))
+  pub again : let z = cut (e .pair) b x in setChain z (z .spares) b (addEntry e (chain z b)) ≡ movedTo x b e
   unfolding cut
   again =
       set-again x (x .spares) b (without p c) (addEntry e (chain z b))

@@ -1,21 +1,17 @@
--- A squeeze's step: the index after it, and what the code is told of its pages.
+-- What the code is told of the pages of a squeeze's step.
 use mathlib.Core.Path.{_≡_}
 use mathlib.Core.List.{List}
 use mathlib.Core.Option.{some}
 use Prim.Native.Nat.{ℕ, _≤_}
 use Rattle.page.specs.declared.Entry.{Entry}
-use Rattle.model.specs.Index.{Index, chain, setChain}
-use Rattle.model.specs.Squeeze.{mover, squeezed}
+use Rattle.model.specs.Index.{chain}
+use Rattle.model.specs.Squeeze.{mover}
 use Rattle.image.specs.declared.Meta.{Meta}
 use Rattle.image.specs.Decode.{decode}
 use Rattle.chain.specs.declared.Found.{Found}
 use Rattle.view.specs.Reads.{Reads}
 use Rattle.view.specs.Places.{findAt}
 use Rattle.insertion.specs.Put.{RoomIn}
-
--- the entry e moved to the first page with room of bucket b's chain
-abbrev pub movedTo : Index → (b : ℕ) → Entry → Index
-movedTo x b e = setChain x (x .spares) b (squeezed e (chain x b))
 
 -- e is the entry that a step moves, out of slot `slot` of block `last`; block `target` is the first page with room
 pub record Movable (s : List ℕ) (m : Meta) (b : ℕ) (e : Entry) (last slot target : ℕ) : Type 0 where

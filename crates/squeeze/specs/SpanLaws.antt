@@ -16,7 +16,7 @@ use Rattle.store.specs.Store.{prevAt}
 use Rattle.store.specs.Flags.{noLink}
 use Rattle.model.specs.Index.{Page, Chain, Index, chain}
 use Rattle.model.specs.Pages.{hasRoom, pageRoom, enterEntry, addMore, addEntry}
-use Rattle.model.specs.Squeeze.{squeezed}
+use Rattle.model.specs.Squeeze.{squeezed, movedTo}
 use Rattle.model.specs.StandLaws.{chain-here}
 use Rattle.model.specs.SqueezeLaws.{Moving, mover-is, pages, page, rest, behind}
 use Rattle.model.specs.SqueezeStepLaws.{mover-range}
@@ -39,7 +39,7 @@ use Rattle.view.specs.PlacesLaws.{last-read}
 use Rattle.plan.specs.StoreLaws.{block-is, page-under, page-few}
 use Rattle.insertion.specs.Put.{lastBlock}
 use Rattle.squeeze.specs.declared.Span.{Span}
-use Rattle.squeeze.specs.Move.{movedTo, Movable}
+use Rattle.squeeze.specs.Move.{Movable}
 use Rattle.squeeze.specs.Span.{Spans}
 
 -- ---- all pages

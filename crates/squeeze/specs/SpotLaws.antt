@@ -19,12 +19,10 @@ use Rattle.page.specs.EntriesLaws.{length-entriesOf, getD-entriesOf}
 use Rattle.store.specs.declared.Change.{Change}
 use Rattle.store.specs.Flags.{noLink}
 use Rattle.model.specs.declared.Stop.{Stop}
-use Rattle.model.specs.Index.{Page, Chain, Job, idle, copying, clearing, Index, chain, oldBucket, newBucket}
+use Rattle.model.specs.Index.{Page, Chain, Index, chain}
 use Rattle.model.specs.Pages.{chainRoom}
 use Rattle.model.specs.Steps.{Step, next}
-use Rattle.model.specs.Squeeze.{final, mover, squeezeIn, squeezeStep, busyIn, isBusy}
-use Rattle.model.specs.Calls.{phaseIn}
-use Rattle.model.specs.Demand.{ofJob}
+use Rattle.model.specs.Squeeze.{final, mover, movedTo, squeezeIn, squeezeStep}
 use Rattle.model.specs.MachineLaws.{never}
 use Rattle.image.specs.declared.Meta.{Meta}
 use Rattle.image.specs.Decode.{blockOf, decode}
@@ -36,7 +34,6 @@ use Rattle.chain.specs.declared.Room.{Room}
 use Rattle.chain.specs.Walk.{walk, lastOf, Bounded}
 use Rattle.chain.specs.WalkLaws.{Onward, walk-onward}
 use Rattle.chain.specs.Search.{roomOn, roomAs, roomIn}
-use Rattle.reader.specs.Job.{phaseOf}
 use Rattle.view.specs.Reads.{Reads}
 use Rattle.view.specs.ReadsLaws.{reads-laid, reads-size, reads-max}
 use Rattle.view.specs.Places.{findAt, roomAt}
@@ -52,7 +49,7 @@ use Rattle.squeeze.specs.declared.Spot.{Spot}
 use Rattle.squeeze.specs.declared.Span.{Span}
 use Rattle.squeeze.specs.Spot.{roomBefore, spotAt}
 use Rattle.squeeze.specs.Span.{Spans}
-use Rattle.squeeze.specs.Move.{movedTo, Movable}
+use Rattle.squeeze.specs.Move.{Movable}
 use Rattle.squeeze.specs.LastLaws.{final-getD, mover-last, room-inside, last-used, found-at}
 
 -- ---- the spot, of an index
@@ -113,17 +110,6 @@ module _ (x : Index) (b : ℕ) where
       let q : _≡_ {A = Step Index} (next (movedTo x b e)) (next y) =
       sym (ap (λ (o : Option Entry). squeezeIn o b x) h) ∙ k in
       cc
-
-  -- ---- the job's buckets
-
-  pub busy-phase : ofJob (phaseOf x) b ≡ isBusy x b
-  unfolding isBusy
-  busy-phase = go (x .job)
-    where
-      go : (j : Job) → ofJob (phaseIn j (oldBucket x) (newBucket x)) b ≡ busyIn j x b
-      go idle = refl
-      go copying = refl
-      go clearing = refl
 
 -- ---- in a store that is read as an index
 

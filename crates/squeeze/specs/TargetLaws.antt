@@ -22,7 +22,7 @@ use Rattle.model.specs.Index.{Page, Chain, Index, chain, entriesAt}
 use Rattle.model.specs.Pages.{chainRoom, cut}
 use Rattle.model.specs.Held.{count}
 use Rattle.model.specs.Steps.{next}
-use Rattle.model.specs.Squeeze.{squeezeIn, squeezeStep}
+use Rattle.model.specs.Squeeze.{movedTo, squeezeIn, squeezeStep}
 use Rattle.model.specs.WellFormed.{WF, Laid}
 use Rattle.model.specs.SqueezeLaws.{Moving, mover-is, behind, rest, page, pages, without-is, without-room}
 use Rattle.model.specs.SqueezeStepLaws.{squeeze-wf, squeeze-count}
@@ -39,7 +39,7 @@ use Rattle.frame.specs.SqueezeLaws.{fits-z, laid-z, chain-z, again, target}
 use Rattle.view.specs.ReadsLaws.{reads-laid, reads-size, reads-max, reads-count, reads-block}
 use Rattle.view.specs.ChainLaws.{pages-read, page-read}
 use Rattle.insertion.specs.Put.{entered, roomBlock}
-use Rattle.squeeze.specs.Move.{movedTo, Movable}
+use Rattle.squeeze.specs.Move.{Movable}
 
 -- pages behind a chain change no page of it
 behind-entries : (hs : List Page) (c : Chain) (i : ℕ) → i ≤ length (c .more)

@@ -28,12 +28,12 @@ ghost use Prim.Native.Nat.{ℕ, _≤_};
 ghost use lib.Dec.{eqb};
 ghost use lib.ListN.{length};
 ghost use Rattle.store.specs.Store.{prevAt};
-ghost use Rattle.model.specs.Squeeze.{squeezeStep, isBusy};
+ghost use Rattle.model.specs.Squeeze.{movedTo, squeezeStep, isBusy};
 ghost use Rattle.image.specs.Decode.{decode};
 ghost use Rattle.view.specs.Reads.{Reads};
 ghost use Rattle.plan.specs.declared.Advance.{Advance};
 ghost use Rattle.plan.specs.Plan.{Plans, Advances};
-ghost use Rattle.squeeze.specs.Move.{movedTo, Movable};
+ghost use Rattle.squeeze.specs.Move.{Movable};
 ghost use Rattle.squeeze.specs.Spot.{spotAt};
 ghost use Rattle.squeeze.specs.Span.{Spans, Leads};
 

@@ -5,7 +5,7 @@ use Rattle.model.specs.Squeeze.{isBusy}
 use Rattle.image.specs.Decode.{decode}
 use Rattle.view.specs.ReadsLaws.{reads-known}
 use Rattle.model.specs.Demand.{ofJob}
-use Rattle.squeeze.specs.SpotLaws.{busy-phase}
+use Rattle.model.specs.Demand3SqueezeLaws.{busy-phase}
 use Rattle.squeeze.proofs.is_busy.Statement.{statement}
 use Rattle.squeeze.proofs.is_busy.Tie as tie
 
