@@ -216,7 +216,7 @@ pub fn work(store: &mut [u8], budget: u32) -> Result<Worked, Refusal> {
 /// index after each step, and every lookup finds what it found before.
 ///
 /// When it stops with [`Idle`](crate::Stop::Idle), no earlier page has room: the chain has as few pages as its entries
-/// need. With 40 steps for each overflow page of the chain, and one more, it always comes to that.
+/// need. With a budget of 40 for each overflow page of the chain, and one more, it always comes to that.
 ///
 /// # Errors
 ///

@@ -1,7 +1,9 @@
-//! The chains of a sound store, read from outside.
+//! The chains of a sound store, read from outside, and the blocks in which two stores differ.
 
-use crate::build::{Layout, NONE};
+use crate::build::{found, Layout, NONE};
+use crate::lists::Pair;
 use crate::word::word;
+use std::collections::BTreeSet;
 
 /// The blocks of a bucket's chain, bucket page first.
 pub fn chain(store: &[u8], bucket: u32) -> Vec<u32> {
@@ -12,6 +14,13 @@ pub fn chain(store: &[u8], bucket: u32) -> Vec<u32> {
 /// The number of entries on each page of a bucket's chain.
 pub fn lengths(store: &[u8], bucket: u32) -> Vec<u32> {
     chain(store, bucket).into_iter().map(|block| store[512 * block as usize].into()).collect()
+}
+
+/// The last entry of a chain's last page, and its mark.
+pub fn last(store: &[u8], bucket: u32) -> (Pair, bool) {
+    let block = chain(store, bucket).pop().unwrap_or(0) as usize;
+    let entry = found(&store[512 * block..][..512]).last().expect("an entry");
+    (entry.pair, entry.moved)
 }
 
 /// The overflow pages of a bucket's chain.
@@ -40,8 +49,28 @@ pub fn squeeze_steps(store: &[u8], bucket: u32) -> u32 {
     emptied.max(filled)
 }
 
+/// The blocks that a step of a squeeze alters when it moves an entry to the chain's page `to`: the two pages; where
+/// the last is freed, the bitmap and the page before it, which may be `to`, and meta where first free falls.
+pub fn squeeze_blocks(store: &[u8], bucket: u32, to: usize) -> Vec<u32> {
+    let pages = chain(store, bucket);
+    let [.., before, last] = pages[..] else { panic!("a chain of one page") };
+    let mut blocks = BTreeSet::from([pages[to], last]);
+    if store[512 * last as usize] == 1 {
+        blocks.extend([3, before]);
+        let falls = last < Layout::of(store).bit_block(word(store, 32));
+        blocks.extend(falls.then_some(0));
+    }
+    blocks.into_iter().collect()
+}
+
 /// The overflow pages that a store has free.
 pub fn free_pages(store: &[u8]) -> u32 {
     let bits = &store[3 * 512..3 * 512 + 256];
     bits.iter().map(|byte| byte.count_zeros()).sum()
+}
+
+/// The blocks in which two stores differ.
+pub fn changed(store: &[u8], before: &[u8]) -> Vec<u32> {
+    let blocks = store.chunks_exact(512).zip(before.chunks_exact(512)).zip(0..);
+    blocks.filter(|((now, then), _)| now != then).map(|(_, at)| at).collect()
 }

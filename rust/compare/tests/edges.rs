@@ -1,6 +1,7 @@
-//! Lengths, numbers and outputs at and past their ends.
+//! Lengths, numbers and outputs at and past their ends; what squeezes are refused with.
 
-use compare::build::sound;
+use compare::brink::stuffed;
+use compare::build::{sound, sound_at};
 use compare::random::Random;
 use compare::seal::seal_all;
 use compare::side::Reply;
@@ -122,6 +123,26 @@ fn the_order_of_a_squeeze() {
                 }
             }
         }
+    }
+}
+
+/// A job with max bucket 1, which no split has: buckets 0 and 1 are busy, and there is no other.
+#[test]
+fn busy_with_two_buckets() {
+    let mut random = Random::new(27_600);
+    let mut stores = vec![(1, stuffed(128)), (1, stuffed(1024))];
+    for (phase, blocks) in [(1, 4), (2, 4), (1, 9), (2, 9), (1, 128), (2, 128), (1, 1024), (2, 1024)] {
+        stores.push((phase, sound_at(&mut random, blocks, 1, phase, 300)));
+    }
+    for (phase, store) in stores {
+        let mut twin = Twin::new(store, format!("phase {phase}"));
+        let (_, state) = twin.standing();
+        assert_eq!((state.buckets, state.phase, state.old, state.new), (2, phase, 0, 1), "{}", twin.label);
+        for budget in [0, 1, 40, 65_535] {
+            let answers = [0, 1, 2, u32::MAX].map(|bucket| twin.squeeze(bucket, budget).number);
+            assert_eq!(answers, [11, 11, 2, 2], "{}, budget {budget}", twin.label);
+        }
+        assert_eq!([0, 1, 2].map(|bucket| twin.squeeze(bucket, 65_536).number), [2; 3], "{}", twin.label);
     }
 }
 

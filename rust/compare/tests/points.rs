@@ -4,6 +4,7 @@
 use compare::book::Book;
 use compare::brink::brink;
 use compare::build::{found, Layout, IN_ALL};
+use compare::chains::changed;
 use compare::lists::{Maker, Seen};
 use compare::random::Random;
 use compare::side::Reply;
@@ -17,12 +18,6 @@ fn at_brink(seed: u64, blocks: u32, point: u32, bits: u32, fill: u32) -> Twin {
     let wanted = (Reply::default(), IN_ALL[point as usize], -1, 0);
     assert_eq!((reply, state.buckets, state.slack, state.phase), wanted, "{}", twin.label);
     twin
-}
-
-/// The blocks in which two stores differ.
-fn changed(store: &[u8], before: &[u8]) -> Vec<u32> {
-    let blocks = store.chunks_exact(512).zip(before.chunks_exact(512)).zip(0..);
-    blocks.filter(|((now, then), _)| now != then).map(|(_, at)| at).collect()
 }
 
 /// The begin takes the next point, and changes three blocks: meta, old and new bucket. Then the split goes to its end.

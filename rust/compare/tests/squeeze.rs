@@ -1,10 +1,9 @@
 //! Squeezes (request 2026-01): long thin chains after storms of removals, step by step; what they come to, and when;
-//! squeezes between the steps of a split; marks, freed pages and busy buckets.
+//! squeezes between the steps of a split, whose buckets are busy; altered blocks, marks and freed pages.
 
 use compare::book::Book;
-use compare::brink::stuffed;
-use compare::build::{found, sound, sound_at, Layout};
-use compare::chains::{chain, dense, free_pages, lengths, overflow, squeeze_steps};
+use compare::build::{found, sound, Layout};
+use compare::chains::{chain, changed, dense, free_pages, last, lengths, overflow, squeeze_blocks, squeeze_steps};
 use compare::foreign;
 use compare::lists::{Call, Pair};
 use compare::random::Random;
@@ -24,22 +23,17 @@ fn entries(store: &[u8]) -> Vec<(u32, Pair, bool)> {
     entries
 }
 
-/// The last entry of a chain's last page.
-fn last(store: &[u8], bucket: u32) -> (Pair, bool) {
-    let block = chain(store, bucket).pop().unwrap_or(0) as usize;
-    let entry = found(&store[512 * block..][..512]).last().expect("an entry");
-    (entry.pair, entry.moved)
-}
-
 /// What a single step has to be, on a store without a job: the last entry goes to the first page with room, with its
-/// mark, and its page is freed if that leaves it empty. Count, standing and lookups stay.
-fn step(twin: &mut Twin, bucket: u32, random: &mut Random) {
+/// mark, and its page is freed if that leaves it empty. Count, standing and lookups stay. Gives the number of altered
+/// blocks.
+fn step(twin: &mut Twin, bucket: u32, random: &mut Random) -> usize {
     let (before, standing, label) = (twin.bytes().to_vec(), twin.standing(), twin.label.clone());
     let (mut wanted, (pair, moved)) = (lengths(&before, bucket), last(&before, bucket));
     let to = wanted.iter().position(|&entries| entries < 40).expect("a page with room");
     wanted[to] += 1;
     let left = wanted.pop().expect("a page") - 1;
     wanted.extend(Some(left).filter(|&left| left > 0));
+    let altered = squeeze_blocks(&before, bucket, to);
     assert_eq!(twin.squeeze(bucket, 1), Reply::worked(1, 0), "{label}");
     let store = twin.bytes();
     assert!(twin.verify().done() && twin.standing() == standing && store[8..12] == before[8..12], "{label}");
@@ -49,10 +43,12 @@ fn step(twin: &mut Twin, bucket: u32, random: &mut Random) {
     assert!(entries(store) == entries(&before), "{label}: other entries");
     assert_eq!(free_pages(store), free_pages(&before) + u32::from(left == 0), "{label}: free pages");
     assert_eq!(store[40..104], before[40..104], "{label}: spares");
+    assert_eq!(changed(store, &before), altered, "{label}: altered blocks");
     let all: Vec<u32> = found(&before).map(|entry| entry.pair.0).collect();
     for hash in [pair.0, random.pick(&all), random.number()] {
         lookup(twin, hash);
     }
+    altered.len()
 }
 
 /// A lookup, on a store without a job, finds the places that stand under a code.
@@ -90,6 +86,24 @@ fn storms_step_by_step() {
         assert!(dense(twin.bytes(), 1), "{}", twin.label);
         let codes: BTreeSet<u32> = found(twin.bytes()).map(|entry| entry.pair.0).collect();
         codes.into_iter().for_each(|code| lookup(&twin, code));
+    }
+}
+
+/// A step alters 2 blocks, or 3 where it frees the last page; then one more where the page with room is not the one
+/// before the last, and one more where first free falls, which it does not if an earlier page is free.
+#[test]
+fn altered_blocks() {
+    let all_taken = [(&[39, 2][..], 2), (&[39, 1], 4), (&[40, 39, 1], 4), (&[39, 40, 1], 5)];
+    // Of these the second page is freed first, by a removal.
+    let one_free = [(&[39, 1, 2][..], 2), (&[39, 1, 1], 3), (&[40, 1, 39, 1], 3), (&[39, 1, 40, 1], 4)];
+    for (free, shapes) in [(false, all_taken), (true, one_free)] {
+        for (shape, wanted) in shapes {
+            let mut twin = Twin::new(shaped(7, shape), format!("{shape:?}, {free}"));
+            let second = found(&twin.bytes()[4 * 512..5 * 512]).next().filter(|_| free).map(|entry| entry.pair);
+            assert!(second.is_none_or(|(hash, block, offset)| twin.remove(hash, block, offset).done()), "{shape:?}");
+            assert_eq!(free_pages(twin.bytes()), u32::from(free), "{shape:?}");
+            assert_eq!(step(&mut twin, 0, &mut Random::new(27_800)), wanted, "{shape:?}, {free}");
+        }
     }
 }
 
@@ -244,26 +258,6 @@ fn freed_pages_are_taken_again() {
             }
             assert_eq!(free_pages(twin.bytes()), free - 1, "insert {i}");
         }
-    }
-}
-
-/// A job with max bucket 1, which no split has: buckets 0 and 1 are busy, and there is no other.
-#[test]
-fn busy_with_two_buckets() {
-    let mut random = Random::new(27_600);
-    let mut stores = vec![(1, stuffed(128)), (1, stuffed(1024))];
-    for (phase, blocks) in [(1, 4), (2, 4), (1, 9), (2, 9), (1, 128), (2, 128), (1, 1024), (2, 1024)] {
-        stores.push((phase, sound_at(&mut random, blocks, 1, phase, 300)));
-    }
-    for (phase, store) in stores {
-        let mut twin = Twin::new(store, format!("phase {phase}"));
-        let (_, state) = twin.standing();
-        assert_eq!((state.buckets, state.phase, state.old, state.new), (2, phase, 0, 1), "{}", twin.label);
-        for budget in [0, 1, 40, MOST] {
-            let answers = [0, 1, 2, u32::MAX].map(|bucket| twin.squeeze(bucket, budget).number);
-            assert_eq!(answers, [11, 11, 2, 2], "{}, budget {budget}", twin.label);
-        }
-        assert_eq!([0, 1, 2].map(|bucket| twin.squeeze(bucket, MOST + 1).number), [2; 3], "{}", twin.label);
     }
 }
 
