@@ -17,7 +17,7 @@ use Rattle.model.specs.History.{Moment, phaseAt}
 use Rattle.model.specs.Demand.{ofJob, JobIs, WorkIs, SqueezeIs, SplitIs, Faithful, Holds, Demand3}
 use Rattle.model.specs.Room.{RoomIs}
 use Rattle.model.specs.Shift.{ShiftIs}
-use Rattle.model.specs.SimulationLaws.{alike-stopped, alike-next, Simulates, Beside, phase-same, carry}
+use Rattle.model.specs.SimulationLaws.{Alike, alike-stopped, alike-next, Simulates, Beside, phase-same, carry}
 
 module _ {M L : Machine} (R : L .State → M .State → Type 0) (sim : Simulates M L R) where
   faithful-beside : (t : Moment L) (u : Moment M) → Beside R t u → Faithful M u → Faithful L t
@@ -99,61 +99,53 @@ module _ {M L : Machine} (R : L .State → M .State → Type 0) (sim : Simulates
 
 module _ {M L : Machine} (R : L .State → M .State → Type 0) (sim : Simulates M L R)
     (i : M .State → Index) (j : L .State → Index) (same : (s : L .State) (x : M .State) → R s x → j s ≡ i x) where
-  room-beside : (t : Moment L) (u : Moment M) → Beside R t u → RoomIs M i u → RoomIs L j t
-  room-beside t u b f =
-      record {
-        shows = record {
-          wf = subst WF (sym e) (f .shows .wf);
-          fill = ap (λ (y : Index). y .fill) e ∙ f .shows .fill ∙ sym (b .fill);
-          newest = ap (λ (y : Index). y .maxBucket) e ∙ f .shows .newest ∙ ap suc (sym (b .begins));
-          phase = phase-same R sim s x r ∙ f .shows .phase ∙ ap (λ (y : Index). standing y .phase) (sym e);
-          holds = λ p.
-              ap (λ (bk : Book). has bk p) (b .book) ∙ f .shows .holds p ∙ ap (λ (y : Index). held y p) (sym e);
-        };
-        inserts = λ p fits ok h. rw (sim .reply (inserting p) fits s x r, e) (f .inserts p fits ok (rw (b .book) at h));
-        steps = rw e (λ h. f .steps .0 (a .0 h), λ h. a .1 (f .steps .1 h));
-      }
-    where
-      s : L .State
-      s = t .state
+  module _ (t : Moment L) (u : Moment M) (b : Beside R t u) where
+    abbrev s : L .State
+    s = t .state
 
-      x : M .State
-      x = u .state
+    abbrev x : M .State
+    x = u .state
 
-      r : R s x
-      r = b .state
+    r : R s x
+    r = b .state
 
-      e : j s ≡ i x
-      e = same s x r
+    e : j s ≡ i x
+    e = same s x r
 
-      a : (L .step ofSplits s ≡ stopped Stop.NoRoom) ↔ (M .step ofSplits x ≡ stopped Stop.NoRoom)
-      a = alike-stopped R (L .step ofSplits s) (M .step ofSplits x) Stop.NoRoom (sim .step ofSplits s x r)
+    room-beside : RoomIs M i u → RoomIs L j t
+    room-beside f =
+        record {
+          shows = record {
+            wf = subst WF (sym e) (f .shows .wf);
+            fill = ap (λ (y : Index). y .fill) e ∙ f .shows .fill ∙ sym (b .fill);
+            newest = ap (λ (y : Index). y .maxBucket) e ∙ f .shows .newest ∙ ap suc (sym (b .begins));
+            phase = phase-same R sim s x r ∙ f .shows .phase ∙ ap (λ (y : Index). standing y .phase) (sym e);
+            holds = λ p.
+                ap (λ (bk : Book). has bk p) (b .book) ∙ f .shows .holds p ∙ ap (λ (y : Index). held y p) (sym e);
+          };
+          inserts = λ p fits ok h. rw (sim .reply (inserting p) fits s x r, e) (f .inserts p fits ok (rw (b .book) at h));
+          steps = rw e (λ h. f .steps .0 (a .0 h), λ h. a .1 (f .steps .1 h));
+        }
+      where
+        a : (L .step ofSplits s ≡ stopped Stop.NoRoom) ↔ (M .step ofSplits x ≡ stopped Stop.NoRoom)
+        a = alike-stopped R (L .step ofSplits s) (M .step ofSplits x) Stop.NoRoom (sim .step ofSplits s x r)
 
-  shift-beside : (t : Moment L) (u : Moment M) → Beside R t u → ShiftIs M i u → ShiftIs L j t
-  shift-beside t u b f =
-      record {
-        stops = λ c k.
-            let a = alike-stopped R (L .step (ofSqueeze c) s) (M .step (ofSqueeze c) x) k (sim .step (ofSqueeze c) s x r) in
-            rw e (λ h. f .stops c k .0 (a .0 h), λ h. a .1 (f .stops c k .1 h));
-        moves = λ c y h.
-            let g = alike-next R (L .step (ofSqueeze c) s) (M .step (ofSqueeze c) x) y (sim .step (ofSqueeze c) s x r) h in
-            rw (e, same y (g .state) (g .related)) (f .moves c (g .state) (g .goes));
-        others = λ c d y ne h.
-            let g = alike-next R (L .step (ofSqueeze c) s) (M .step (ofSqueeze c) x) y (sim .step (ofSqueeze c) s x r) h in
-            rw (e, same y (g .state) (g .related)) (f .others c d (g .state) ne (g .goes));
-      }
-    where
-      s : L .State
-      s = t .state
-
-      x : M .State
-      x = u .state
-
-      r : R s x
-      r = b .state
-
-      e : j s ≡ i x
-      e = same s x r
+    shift-beside : ShiftIs M i u → ShiftIs L j t
+    shift-beside f =
+        record {
+          stops = λ c k.
+              let a = alike-stopped R (L .step (ofSqueeze c) s) (M .step (ofSqueeze c) x) k (alike c) in
+              rw e (λ h. f .stops c k .0 (a .0 h), λ h. a .1 (f .stops c k .1 h));
+          moves = λ c y h.
+              let g = alike-next R (L .step (ofSqueeze c) s) (M .step (ofSqueeze c) x) y (alike c) h in
+              rw (e, same y (g .state) (g .related)) (f .moves c (g .state) (g .goes));
+          others = λ c d y ne h.
+              let g = alike-next R (L .step (ofSqueeze c) s) (M .step (ofSqueeze c) x) y (alike c) h in
+              rw (e, same y (g .state) (g .related)) (f .others c d (g .state) ne (g .goes));
+        }
+      where
+        alike : (c : ℕ) → Alike R (L .step (ofSqueeze c) s) (M .step (ofSqueeze c) x)
+        alike c = sim .step (ofSqueeze c) s x r
 
   -- what M does L does, and related states show the same index: so what is claimed of M's calls holds of L's
   pub transfer : Demand3 M i → Demand3 L j
