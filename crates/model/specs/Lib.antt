@@ -16,6 +16,7 @@ pub mod Spare
 pub mod Room
 pub mod Shift
 pub mod TallyLaws
+pub mod PairTallyLaws
 pub mod ChainLaws
 pub mod ChainOkLaws
 pub mod HeldIn

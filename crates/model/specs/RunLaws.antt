@@ -18,6 +18,11 @@ use Rattle.model.specs.Machine.{Call, formatting, inserting, removing, l
 use Rattle.model.specs.Machine.{CallFits, Kind, ofSplits, ofSqueeze, Reply, plain, accepted, Ran, settled}
 use Rattle.model.specs.Machine.{workedIn, squeezedIn, runIndex, stepIndex}
 use Rattle.model.specs.Book.{Effect, empties, puts, takes, leaves, hasSteps, effect}
+use Rattle.model.specs.WellFormed.{WF}
+use Rattle.model.specs.FormatLaws.{format-wf}
+use Rattle.model.specs.InsertLaws.{insert-wf}
+use Rattle.model.specs.RemoveLaws.{remove-wf}
+use Rattle.model.specs.KindLaws.{kind-wf}
 use Rattle.model.specs.WorkLaws.{iterate-keeps}
 
 pub refused-no : (r : Refusal) → eqb (refusalNo r) 0 ≡ false
@@ -99,3 +104,13 @@ run-keeps P k c fits x h = go (run-view c fits x)
     go (removes {p = p} {y = y} e) = k .removes x p y h e
     go reads = h
     go (works {kind = j} {budget = budget} d) = iterate-keeps (stepIndex j) P (k .steps j) budget x h
+
+pub run-wf : (c : Call) → CallFits c → (x : Index) → WF x → WF (runIndex c x .state)
+run-wf =
+    run-keeps WF
+    (record {
+      formats = λ x o g s f w. format-wf (x .size) o g s f;
+      inserts = insert-wf;
+      removes = remove-wf;
+      steps = kind-wf;
+    })

@@ -14,13 +14,12 @@ use Rattle.page.specs.declared.Pair.{Pair}
 use Rattle.page.specs.declared.Entry.{Entry}
 use Rattle.page.specs.Pair.{is}
 use Rattle.model.specs.declared.Stop.{Stop}
-use Rattle.model.specs.Index.{Job, idle, copying, clearing, Index, noChain, chain, entriesAt, bucket}
-use Rattle.model.specs.Index.{newBucket, oldBucket}
+use Rattle.model.specs.Index.{Index, noChain, chain, entriesAt, bucket, newBucket, oldBucket}
 use Rattle.model.specs.Held.{held, matches, count}
-use Rattle.model.specs.Steps.{Step, next, stopped, moves, toCopy, copiesLeft, Worked, iterate}
+use Rattle.model.specs.Steps.{Step, next, stopped, moves, toCopy, Worked, iterate}
 use Rattle.model.specs.Squeeze.{mover, squeezed, movedTo, squeezeIn, squeezeStep, squeeze, pagesFor, pagesOf}
 use Rattle.model.specs.WellFormed.{unmovedAt, movedAt, ChainOk, Laid, WF}
-use Rattle.model.specs.StepsLeft.{oldEntries, stepsIn, stepsLeft}
+use Rattle.model.specs.StepsLeft.{stepsLeft}
 use Rattle.model.specs.Spare.{spare}
 use Rattle.model.specs.HeldIn.{heldIn}
 use Rattle.model.specs.PlacedLaws.{turned-same}
@@ -31,7 +30,7 @@ use Rattle.model.specs.LaidLaws.{less-laid}
 use Rattle.model.specs.BecomesLaws.{unchanged, Becomes, becomes}
 use Rattle.model.specs.MatchesLaws.{matches-is}
 use Rattle.model.specs.CountLaws.{heldPairs, heldPairs-ascending, heldPairs-has, count-is}
-use Rattle.model.specs.StepsLeftLaws.{stands-once}
+use Rattle.model.specs.StepsLeftLaws.{stands-once, stepsLeft-same}
 use Rattle.model.specs.WorkLaws.{iterate-keeps}
 use Rattle.model.specs.SqueezeLaws.{Moving, mover-is, squeezed-tally, squeezed-ok, squeezed-bits}
 use Rattle.model.specs.PackedLaws.{packed}
@@ -104,22 +103,11 @@ module _ (x : Index) (w : WF x) (b : ℕ) (e : Entry) (k : mover (chain x b) ≡
   moved-any t d = any-more t (entriesAt x d) (entriesAt after d) false (moved-tally t d ∙ omega arith)
 
   moved-steps : stepsLeft after ≡ stepsLeft x
-  unfolding stepsLeft
-  moved-steps = go (x .job)
-    where
-      copies : copiesLeft after ≡ copiesLeft x
-      copies =
-          tally-cong (toCopy after) (toCopy x) (entriesAt after (oldBucket x))
-          (λ d. ap (λ (a : Bool). moves x d && not a) (moved-any (is (d .pair)) (newBucket x)))
-          ∙ moved-tally (toCopy x) (oldBucket x)
-
-      olds : oldEntries after ≡ oldEntries x
-      olds = moved-tally (moves x) (oldBucket x)
-
-      go : (j : Job) → stepsIn j after ≡ stepsIn j x
-      go idle = refl
-      go copying = omega (arith, copies, olds)
-      go clearing = omega (arith, olds)
+  moved-steps =
+      stepsLeft-same x after refl (moved-tally (moves x) (oldBucket x))
+      (λ _. tally-cong (toCopy after) (toCopy x) (entriesAt after (oldBucket x))
+      (λ d. ap (λ (a : Bool). moves x d && not a) (moved-any (is (d .pair)) (newBucket x)))
+      ∙ moved-tally (toCopy x) (oldBucket x))
 
   moved-spare : spare (chain after b) < spare (chain x b)
   moved-spare =

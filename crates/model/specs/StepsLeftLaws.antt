@@ -12,13 +12,14 @@ use Rattle.lists.specs.ListsLaws.{tally-cong, find-no, find-yes}
 use Rattle.page.specs.declared.Pair.{Pair}
 use Rattle.page.specs.declared.Entry.{Entry}
 use Rattle.page.specs.Pair.{same, is}
-use Rattle.page.specs.PairLaws.{same-refl, same-eq, same-sym}
+use Rattle.page.specs.PairLaws.{same-refl, same-sym}
 use Rattle.model.specs.Index.{Job, idle, copying, clearing, Index, entriesIn, chain, entriesAt, bucket}
 use Rattle.model.specs.Index.{newBucket, oldBucket, setChain, setJob}
 use Rattle.model.specs.Pages.{without, cut}
 use Rattle.model.specs.Steps.{next, moves, toCopy, step}
 use Rattle.model.specs.WellFormed.{WF}
-use Rattle.model.specs.TallyLaws.{tally-parts, any-more}
+use Rattle.model.specs.TallyLaws.{any-more}
+use Rattle.model.specs.PairTallyLaws.{tally-with}
 use Rattle.model.specs.ChainLaws.{tally-without}
 use Rattle.model.specs.StandLaws.{number-here, chain-there}
 use Rattle.model.specs.HeldLaws.{old-new, old-range, new-range, is-parts}
@@ -34,17 +35,8 @@ tally-less : (g : Pair → Bool) (es : List Entry) (e : Entry) → find (λ d. g
     → tally (is (e .pair)) es ≤ 1
     → suc (tally (λ d. not (is (e .pair) d) && g (d .pair)) es) ≡ tally (λ d. g (d .pair)) es
 tally-less g es e k once =
-    omega (
-      arith,
-      tally-parts (is (e .pair)) (λ d. g (d .pair)) es,
-      tally-cong _ (is (e .pair)) es (λ d. only d (is (e .pair) d) refl),
-      find-yes (λ d. g (d .pair)) es e k .1 (is (e .pair)),
-      ap b2n (same-refl (e .pair)),
-    )
-  where
-    only : (d : Entry) (b : Bool) → is (e .pair) d ≡ b → b && g (d .pair) ≡ b
-    only d true i = ap g (sym (same-eq (e .pair) (d .pair) i)) ∙ find-yes (λ d. g (d .pair)) es e k .0
-    only d false i = refl
+    let f = find-yes (λ d. g (d .pair)) es e k in
+    omega (arith, tally-with g (e .pair) es (f .0), f .1 (is (e .pair)), ap b2n (same-refl (e .pair)))
 
 module _ (x : Index) (w : WF x) where
   -- no pair stands twice in a chain
@@ -114,6 +106,16 @@ module _ (x : Index) (w : WF x) where
 pub stepsLeft-at : (x : Index) (j : Job) → x .job ≡ j → stepsLeft x ≡ stepsIn j x
 unfolding stepsLeft
 stepsLeft-at x j e = ap (λ (k : Job). stepsIn k x) e
+
+-- the steps stay where what they are counted by does
+pub stepsLeft-same : (x y : Index) → y .job ≡ x .job → oldEntries y ≡ oldEntries x
+    → (x .job ≡ copying → copiesLeft y ≡ copiesLeft x) → stepsLeft y ≡ stepsLeft x
+stepsLeft-same x y e o c = go (x .job) refl
+  where
+    go : (j : Job) → x .job ≡ j → stepsLeft y ≡ stepsLeft x
+    go idle k = stepsLeft-at y idle (e ∙ k) ∙ sym (stepsLeft-at x idle k)
+    go copying k = omega (arith, stepsLeft-at y copying (e ∙ k), stepsLeft-at x copying k, o, c k)
+    go clearing k = omega (arith, stepsLeft-at y clearing (e ∙ k), stepsLeft-at x clearing k, o)
 
 pub step-stepsLeft : (x y : Index) → WF x → x .job ≢ idle → step x ≡ next y → stepsLeft y + 1 ≡ stepsLeft x
 unfolding cut

@@ -18,7 +18,8 @@ use Rattle.image.specs.EncodeLaws.{number-encode}
 use Rattle.outcomes.specs.Outcomes.{passed, tested, runStore}
 use Rattle.outcomes.specs.Refusals.{callNumbersOk}
 use Rattle.outcomes.specs.OutcomeLaws.{StoreRun, refuses, formats, reads, accepts, store-view}
-use Rattle.outcomes.specs.OutcomeIndexLaws.{run-encode, run-wf}
+use Rattle.model.specs.RunLaws.{run-wf}
+use Rattle.outcomes.specs.OutcomeIndexLaws.{run-encode}
 use Rattle.outcomes.specs.OutcomeSoundLaws.{legal-size, passed-encodes}
 
 module _ (s : List ℕ) (b : Bytes s) (c : Call) (f : CallFits c) where

@@ -19,15 +19,11 @@ use Rattle.model.specs.Steps.{Step, next, stopped, Worked, step, iterate}
 use Rattle.model.specs.Squeeze.{squeezeStep, squeeze, bucketTest}
 use Rattle.model.specs.Calls.{Result, done, refused, sizeOk, formatOk, inUse, overwrites, pairOk, budgetOk, format}
 use Rattle.model.specs.Calls.{formatIn, formatted, insertIn, insert, removeIn, remove, Looked, lookup, standing, work}
-use Rattle.model.specs.Machine.{Call, formatting, inserting, removing, looking, working, squeezing, asking, CallFits}
-use Rattle.model.specs.Machine.{Kind, ofSplits, ofSqueeze, plain, looked, worked, stands, Ran, settled, workedIn}
+use Rattle.model.specs.Machine.{Call, formatting, inserting, removing, looking, working, squeezing, asking, Kind}
+use Rattle.model.specs.Machine.{ofSplits, ofSqueeze, plain, looked, worked, stands, Ran, settled, workedIn}
 use Rattle.model.specs.Machine.{squeezedIn, runIndex, stepIndex}
 use Rattle.model.specs.WellFormed.{WF}
-use Rattle.model.specs.InsertLaws.{insert-wf}
-use Rattle.model.specs.RemoveLaws.{remove-wf}
 use Rattle.model.specs.KindLaws.{kind-wf}
-use Rattle.model.specs.FormatLaws.{format-wf}
-use Rattle.model.specs.RunLaws.{run-keeps}
 use Rattle.model.specs.SimulationLaws.{Alike, iterate-alike}
 use Rattle.image.specs.Layout.{encode}
 use Rattle.image.specs.Rules.{sound}
@@ -200,14 +196,3 @@ run-encode (squeezing b budget) x w = go (budgetOk budget) refl (bucketTest x b)
         ∙ ap (λ (q : Option Refusal). ran (workOn (unlessRefused q x) (encode x) steps)) f
     go false e q f = tests (ap (λ (a : Bool). tested a (encode x)) e ∙ tested-wrong x w)
 run-encode asking x w = ap (λ (a : StandingAnswer). record { reply = stands a; state = encode x }) (standing-encode x w)
-
--- and its index is well-formed
-pub run-wf : (c : Call) → CallFits c → (x : Index) → WF x → WF (runIndex c x .state)
-run-wf =
-    run-keeps WF
-    (record {
-      formats = λ x o g s f w. format-wf (x .size) o g s f;
-      inserts = insert-wf;
-      removes = remove-wf;
-      steps = kind-wf;
-    })

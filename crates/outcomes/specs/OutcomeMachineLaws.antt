@@ -16,7 +16,7 @@ use Rattle.model.specs.Machine.{formatting, CallFits, Kind, ofSplits, ofSqueeze
 use Rattle.model.specs.Machine.{workedIn, squeezedIn, runIndex, onIndex}
 use Rattle.model.specs.MachineLaws.{never}
 use Rattle.model.specs.Demand.{WorkIs}
-use Rattle.model.specs.RunLaws.{refused-no}
+use Rattle.model.specs.RunLaws.{refused-no, run-wf}
 use Rattle.model.specs.WellFormed.{WF}
 use Rattle.model.specs.FormatLaws.{format-free}
 use Rattle.model.specs.SimulationLaws.{Formats, Simulates}
@@ -26,7 +26,7 @@ use Rattle.image.specs.BridgeTheorem.{count-encode}
 use Rattle.outcomes.specs.OutcomeLaws.{work-steps, squeeze-steps}
 use Rattle.outcomes.specs.OutcomeSoundLaws.{legal-size, Formatted, format-done}
 use Rattle.image.specs.SoundStore.{Encodes}
-use Rattle.outcomes.specs.OutcomeIndexLaws.{tested-encode, step-alike, run-encode, run-wf}
+use Rattle.outcomes.specs.OutcomeIndexLaws.{tested-encode, step-alike, run-encode}
 
 -- a store that format accepts becomes the bytes of what the model's format gives
 formats : (s : List ℕ) (o : Order) → CallFits (formatting o) → accepted (runStore (formatting o) s .reply) ≡ true

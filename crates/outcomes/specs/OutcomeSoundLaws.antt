@@ -20,7 +20,7 @@ use Rattle.model.specs.Book.{effect}
 use Rattle.model.specs.WellFormed.{WF}
 use Rattle.model.specs.FrameLaws.{insert-frame, remove-frame}
 use Rattle.model.specs.KindLaws.{kind-wf, kind-store}
-use Rattle.model.specs.RunLaws.{run-keeps}
+use Rattle.model.specs.RunLaws.{run-keeps, run-wf}
 use Rattle.model.specs.FormatLaws.{format-wf}
 use Rattle.model.specs.MachineLaws.{never}
 use Rattle.image.specs.Layout.{encode}
@@ -32,7 +32,7 @@ use Rattle.image.specs.BridgeTheorem.{sound-is-encoding, encoding-is-sound}
 use Rattle.outcomes.specs.Refusals.{callNumbersOk}
 use Rattle.outcomes.specs.OutcomeLaws.{passed-sound, StoreRun, refuses, formats, reads, accepts, store-view}
 use Rattle.image.specs.SoundStore.{Encodes, StaysSound}
-use Rattle.outcomes.specs.OutcomeIndexLaws.{step-encode, run-encode, run-wf}
+use Rattle.outcomes.specs.OutcomeIndexLaws.{step-encode, run-encode}
 
 -- ---- the size stays
 
