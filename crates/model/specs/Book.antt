@@ -1,6 +1,6 @@
 -- The book of demand 3 (docs/RULES.md 7): "The book is a set of pairs. It is fed each call's arguments and whether the
 -- call was accepted (gave 0), and nothing from the store." With it, what else the calls tell of a split.
-use mathlib.Core.Bool.{Bool, false, cond, not}
+use mathlib.Core.Bool.{Bool, cond, not}
 use mathlib.Core.List.{List, []}
 use Prim.Native.Nat.{ℕ, suc}
 use lib.Dec.{eqb}
@@ -53,26 +53,25 @@ under h bk = keep (hasHash h) bk
 abbrev pub movers : (new : ℕ) → Book → ℕ
 movers n bk = length (keep (λ p. eqb (bucketOf n (p .hash)) n) bk)
 
--- The split that began last since the last accepted format, if any did, with its m and its steps so far, the begin
--- included. It is calm as long as no insert or removal was accepted since its begin.
+-- The split that began last since the last accepted format, if any did: the removals accepted since its begin, its m,
+-- and its steps so far, the begin included.
 pub data Split : Type 0 where
   noSplit : Split
-  since : (calm : Bool) → (m steps : ℕ) → Split
+  since : (removals m steps : ℕ) → Split
 
 abbrev pub oneStep : Split → Split
 oneStep noSplit = noSplit
-oneStep (since c m k) = since c m (suc k)
+oneStep (since r m k) = since r m (suc k)
 
--- calm no longer
-abbrev pub stirred : Split → Split
-stirred noSplit = noSplit
-stirred (since c m k) = since false m k
+abbrev pub oneRemoval : Split → Split
+oneRemoval noSplit = noSplit
+oneRemoval (since r m k) = since (suc r) m k
 
--- an accepted format forgets the splits, an insert or removal stirs the last one, and other calls leave it alone
+-- an accepted format forgets the splits, a removal is counted of the last one, and other calls leave it alone
 abbrev pub counted : Effect → Split → Split
 counted (empties o) k = noSplit
-counted (puts p) k = stirred k
-counted (takes p) k = stirred k
+counted (puts p) k = k
+counted (takes p) k = oneRemoval k
 counted leaves k = k
 counted (hasSteps kind budget) k = k
 

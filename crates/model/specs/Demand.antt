@@ -88,13 +88,12 @@ module _ (M : Machine) where
         → M .run (squeezing b budget) s .reply ≡ worked (WorkAnswer.Refused Refusal.Busy)
     pub free : b < n → ofJob (phaseAt M s) b ≡ false → WorkIs (ofSqueeze b) s budget
 
-  -- Before the first begin there is no job. A split that stays calm is over after step 2m + 3 and not before, "and
-  -- until then work never stops with 9".
+  -- Before the first begin there is no job. Whatever calls come between, a split "is over within 2m + 3 of its own
+  -- steps". Each removal may save it two; without one it takes them all, "and until then work never stops with 9".
   abbrev pub SplitIs : Split → M .State → Type 0
   SplitIs noSplit s = phaseAt M s ≡ Phase.None
-  SplitIs (since false m k) s = Unit {0}
-  SplitIs (since true m k) s =
-      (k < 2 * m + 3 → (phaseAt M s ≢ Phase.None) × (M .step ofSplits s ≢ stopped Stop.Idle))
+  SplitIs (since r m k) s =
+      (k + 2 * r < 2 * m + 3 → (phaseAt M s ≢ Phase.None) × (M .step ofSplits s ≢ stopped Stop.Idle))
       × (k ≡ 2 * m + 3 → phaseAt M s ≡ Phase.None)
       × (k ≤ 2 * m + 3)
 

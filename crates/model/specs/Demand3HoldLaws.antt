@@ -1,7 +1,6 @@
 -- What the invariant says of the calls' answers: all that demand 3 claims of a moment, and when there is no room.
 use mathlib.Core.Path.{_≡_, refl, sym, _∙_}
 use mathlib.Core.Logic.{_≢_}
-use mathlib.Core.Bool.{true, false}
 use Prim.Native.Nat.{_+_}
 use native.Mathlib.Omega.{arith}
 use lib.ListN.{length}
@@ -26,11 +25,12 @@ use Rattle.model.specs.Demand3InvLaws.{Track, Inv}
 -- a split has steps left exactly while there is a job
 split-is : (x : Index) (k : Split) → Track k x → SplitIs onIndex k x
 split-is x noSplit u = phase-none x .1 u
-split-is x (since false m k) u = tt
-split-is x (since true m k) u = (
-  λ l. (let ne : x .job ≢ idle = λ e. omega (arith, stepsLeft-at x idle e) in (λ e. ne (phase-none x .0 e), busy x ne)),
-  λ e. phase-none x .1 (stepsLeft-idle x (omega arith)),
-  omega arith,
+split-is x (since r m k) u = (
+  λ l.
+      let ne : x .job ≢ idle = λ e. omega (arith, u .1, stepsLeft-at x idle e) in
+      (λ e. ne (phase-none x .0 e), busy x ne),
+  λ e. phase-none x .1 (stepsLeft-idle x (omega (arith, u .0))),
+  omega (arith, u .0),
 )
 
 pub faithful : (t : Moment onIndex) → Inv t → Faithful onIndex t

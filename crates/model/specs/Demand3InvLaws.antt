@@ -2,7 +2,7 @@
 use mathlib.Core.Path.{_≡_, refl, sym, ap, _∙_}
 use mathlib.Core.Logic.{_≢_}
 use mathlib.Core.Bool.{Bool, true, false, not, _&&_, _||_}
-use Prim.Native.Nat.{ℕ, suc, _+_, _*_}
+use Prim.Native.Nat.{ℕ, suc, _+_, _*_, _≤_}
 use native.Mathlib.Omega.{arith}
 use Rattle.page.specs.declared.Pair.{Pair}
 use Rattle.page.specs.Pair.{same, ascending}
@@ -16,7 +16,7 @@ use Rattle.model.specs.Calls.{remove, phaseIn}
 use Rattle.model.specs.Machine.{formatting, inserting, CallFits, Kind, ofSplits, ofSqueeze, accepted, settled}
 use Rattle.model.specs.Machine.{runIndex, stepIndex, onIndex}
 use Rattle.model.specs.MachineLaws.{never}
-use Rattle.model.specs.Book.{has, puts, takes, movers, Split, noSplit, since, oneStep, stirred}
+use Rattle.model.specs.Book.{has, puts, takes, movers, Split, noSplit, since, oneStep, oneRemoval}
 use Rattle.model.specs.BookLaws.{noted-ascending, has-puts, has-takes}
 use Rattle.model.specs.History.{Moment, stepAt, stepped, marked, start}
 use Rattle.model.specs.WellFormed.{WF}
@@ -25,17 +25,19 @@ use Rattle.model.specs.FrameLaws.{insert-frame, remove-frame, begin-fram
 use Rattle.model.specs.InsertLaws.{insert-wf, insert-held}
 use Rattle.model.specs.RemoveLaws.{remove-wf, remove-held}
 use Rattle.model.specs.StepLaws.{step-wf, step-held}
-use Rattle.model.specs.StepsLeft.{stepsLeft}
+use Rattle.model.specs.StepsLeft.{saved, stepsLeft}
 use Rattle.model.specs.StepsLeftLaws.{step-stepsLeft}
 use Rattle.model.specs.BeginLaws.{begin-stepsLeft, begin-movers}
+use Rattle.model.specs.BusyInsertLaws.{insert-stepsLeft}
+use Rattle.model.specs.BusyRemoveLaws.{saved-le, remove-stepsLeft}
 use Rattle.model.specs.SqueezeStepLaws.{squeeze-wf, squeeze-held, squeeze-stepsLeft}
 use Rattle.model.specs.Demand3AnswerLaws.{phase-job}
 
--- Before the first begin there is no job; a calm split still has to make the steps that its count lacks.
+-- Before the first begin there is no job. A split still has to make the steps that its count lacks, but for two at most
+-- for each removal.
 abbrev pub Track : Split → Index → Type 0
 Track noSplit x = x .job ≡ idle
-Track (since false m k) x = Unit {0}
-Track (since true m k) x = stepsLeft x + k ≡ 2 * m + 3
+Track (since r m k) x = (stepsLeft x + k ≤ 2 * m + 3) × (2 * m + 3 ≤ stepsLeft x + k + 2 * r)
 
 pub record Inv (t : Moment onIndex) : Type 0 where
   pub wf : WF (t .state)
@@ -45,10 +47,16 @@ pub record Inv (t : Moment onIndex) : Type 0 where
   pub fill : t .state .fill ≡ t .fill
   pub track : Track (t .split) (t .state)
 
--- an insert or removal leaves the job as it was
-stir : (x y : Index) (k : Split) → y .job ≡ x .job → Track k x → Track (stirred k) y
-stir x y noSplit e u = e ∙ u
-stir x y (since c m k) e u = tt
+-- where the job and its steps stay
+tracks : (x y : Index) (k : Split) → y .job ≡ x .job → stepsLeft y ≡ stepsLeft x → Track k x → Track k y
+tracks x y noSplit e l u = e ∙ u
+tracks x y (since r m k) e l u = (omega (arith, u .0), omega (arith, u .1))
+
+-- a removal
+tracks-removal : (x y : Index) (n : ℕ) (k : Split) → y .job ≡ x .job → stepsLeft y + n ≡ stepsLeft x → n ≤ 2
+    → Track k x → Track (oneRemoval k) y
+tracks-removal x y n noSplit e l h u = e ∙ u
+tracks-removal x y n (since r m k) e l h u = (omega (arith, u .0), omega (arith, u .1))
 
 -- ---- a format, an insert, a removal
 
@@ -92,7 +100,7 @@ insert-inv q y fits t i e =
           ∙ sym (insert-held x q y (i .wf) fits e p);
       newest = f .maxBucket ∙ i .newest;
       fill = f .fill ∙ i .fill;
-      track = stir x y (t .split) (g .job) (i .track);
+      track = tracks x y (t .split) (g .job) (insert-stepsLeft x q y (i .wf) e) (i .track);
     }
 
 pub remove-inv : (q : Pair) (y : Index) (t : Moment onIndex) → Inv t → remove (t .state) q ≡ done y
@@ -108,7 +116,9 @@ remove-inv q y t i e =
           ∙ sym (remove-held x q y (i .wf) e p);
       newest = f .maxBucket ∙ i .newest;
       fill = f .fill ∙ i .fill;
-      track = stir x y (t .split) (g .job) (i .track);
+      track =
+          let l = remove-stepsLeft x q y (i .wf) e in
+          tracks-removal x y (saved x q) (t .split) (g .job) l (saved-le x q) (i .track);
     }
 
 -- ---- a step
@@ -124,8 +134,9 @@ split-inv t y i h = rw (phase-job x) (go (x .job) refl)
 
     more : x .job ≢ idle → (k : Split) → Track k x → Track (oneStep k) y
     more ne noSplit u = absurd (ne u)
-    more ne (since false m k) u = tt
-    more ne (since true m k) u = omega (arith, step-stepsLeft x y (i .wf) ne h)
+    more ne (since r m k) u =
+        let l = step-stepsLeft x y (i .wf) ne h in
+        (omega (arith, l, u .0), omega (arith, l, u .1))
 
     inJob : x .job ≢ idle
         → Inv (record { state = y; book = t .book; fill = t .fill; begins = t .begins; split = oneStep (t .split) })
@@ -143,23 +154,28 @@ split-inv t y i h = rw (phase-job x) (go (x .job) refl)
     newer : suc (x .maxBucket) ≡ 2 + t .begins
     newer = omega (arith, i .newest)
 
+    begun : x .job ≡ idle → stepsLeft y ≡ 2 * movers (2 + t .begins) (t .book) + 2
+    begun e =
+        omega (
+          arith,
+          begin-stepsLeft x y (i .wf) e h,
+          begin-movers x y (i .wf) e h (t .book) (i .set) (i .agree),
+          ap (λ (n : ℕ). movers n (t .book)) newer,
+        )
+
     go : (j : Job) → x .job ≡ j → Inv (stepAt onIndex (phaseIn j (oldBucket x) (newBucket x)) t y)
     go copying e = inJob (λ k. never (cc))
     go clearing e = inJob (λ k. never (cc))
     go idle e =
         let f = begin-frame x y e h in
+        let left = begun e in
         record {
           wf = step-wf x y (i .wf) h;
           set = i .set;
           agree = agrees;
           newest = f .maxBucket ∙ ap suc (i .newest);
           fill = f .fill ∙ i .fill;
-          track = omega (
-            arith,
-            begin-stepsLeft x y (i .wf) e h,
-            begin-movers x y (i .wf) e h (t .book) (i .set) (i .agree),
-            ap (λ (n : ℕ). movers n (t .book)) newer,
-          );
+          track = (omega (arith, left), omega (arith, left));
         }
 
 -- nothing but the state changes, and a split has as many steps left as it had
@@ -172,7 +188,7 @@ squeeze-inv b t y i h =
       agree = λ p. i .agree p ∙ sym (squeeze-held b x y (i .wf) h p);
       newest = f .frame .maxBucket ∙ i .newest;
       fill = f .frame .fill ∙ i .fill;
-      track = tracks (t .split) (i .track);
+      track = tracks x y (t .split) (f .job) (squeeze-stepsLeft b x y (i .wf) h) (i .track);
     }
   where
     x : Index
@@ -180,11 +196,6 @@ squeeze-inv b t y i h =
 
     f : SameJob (t .state) y
     f = squeeze-frame b x y h
-
-    tracks : (k : Split) → Track k x → Track k y
-    tracks noSplit u = f .job ∙ u
-    tracks (since false m k) u = tt
-    tracks (since true m k) u = omega (arith, squeeze-stepsLeft b x y (i .wf) h)
 
 pub step-inv : (k : Kind) (t : Moment onIndex) (y : Index) → Inv t → stepIndex k (t .state) ≡ next y
     → Inv (stepped onIndex k t y)

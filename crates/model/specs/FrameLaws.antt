@@ -140,12 +140,3 @@ step-idle x = (λ h. to (rw h at (step-view x)), λ k. from (k .0) (k .1) (step-
     from j w (copiedAll i k) = let z : _≡_ {A = ℕ} 0 1 = cc in absurd (omega arith)
     from j w (cleared i e k) = let z : _≡_ {A = ℕ} 0 1 = cc in absurd (omega arith)
     from j w (clearedAll i k) = let z : _≡_ {A = ℕ} 0 1 = cc in absurd (omega arith)
-
--- a clearing step is always made
-pub clearing-steps : (x : Index) → x .job ≡ clearing → (s : Stop) → step x ≢ stopped s
-clearing-steps x j s h = go (rw h at (step-view x))
-  where
-    go : {s : Stop} → Stepping x (stopped s) → ⊥
-    go (resting i w) = let z : _≡_ {A = ℕ} 0 1 = cc in omega arith
-    go (unbegun i w v) = let z : _≡_ {A = ℕ} 0 1 = cc in omega arith
-    go (uncopied i e k v) = let z : _≡_ {A = ℕ} 0 1 = cc in omega arith

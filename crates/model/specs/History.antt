@@ -44,7 +44,7 @@ module _ (M : Machine) where
         book = t .book;
         fill = t .fill;
         begins = suc (t .begins);
-        split = since true (movers (2 + t .begins) (t .book)) 1;
+        split = since 0 (movers (2 + t .begins) (t .book)) 1;
       }
   stepAt (Phase.Copying o n) t s =
       record { state = s; book = t .book; fill = t .fill; begins = t .begins; split = oneStep (t .split) }

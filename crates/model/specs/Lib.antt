@@ -13,6 +13,7 @@ pub mod Demand
 pub mod WellFormed
 pub mod StepsLeft
 pub mod Spare
+pub mod Busy
 pub mod Room
 pub mod Shift
 pub mod TallyLaws
@@ -39,6 +40,9 @@ pub mod MatchesLaws
 pub mod CountLaws
 pub mod RoomLaws
 pub mod StepsLeftLaws
+pub mod BusyChainLaws
+pub mod BusyInsertLaws
+pub mod BusyRemoveLaws
 pub mod BeginLaws
 pub mod FrameLaws
 pub mod SqueezeStepLaws
@@ -49,6 +53,8 @@ pub mod BookLaws
 pub mod MachineLaws
 pub mod CounterexampleLaws
 pub mod RunLaws
+pub mod BusyLaws
+pub mod BusyTheorem
 pub mod NumberLaws
 pub mod HistoryLaws
 pub mod EventLaws
@@ -61,3 +67,4 @@ pub mod Demand3HoldLaws
 pub mod Demand3Theorem
 pub mod SimulationLaws
 pub mod TransferLaws
+pub mod BusyTransferLaws

@@ -10,13 +10,14 @@ use Rattle.model.specs.declared.Refusal.{Refusal}
 use Rattle.model.specs.declared.Stop.{Stop}
 use Rattle.model.specs.declared.WorkAnswer.{WorkAnswer}
 use Rattle.page.specs.declared.Entry.{Entry}
-use Rattle.model.specs.Index.{Index, chain}
+use Rattle.model.specs.Index.{idle, Index, chain}
 use Rattle.model.specs.Steps.{Step, next, stopped, Worked, step, iterate}
 use Rattle.model.specs.Squeeze.{mover, squeezeIn, squeezeStep, squeeze, bucketTest}
 use Rattle.model.specs.Calls.{work}
 use Rattle.model.specs.Machine.{Kind, ofSplits, ofSqueeze, stepping, worked, Ran, Machine, workedIn, squeezedIn}
 use Rattle.model.specs.Machine.{runIndex, stepIndex, onIndex}
 use Rattle.model.specs.Demand.{afterSteps, WorkIs}
+use Rattle.model.specs.FrameLaws.{step-idle}
 use Rattle.model.specs.ViewLaws.{Stepping, resting, unbegun, began, uncopied, copied, copiedAll, cleared}
 use Rattle.model.specs.ViewLaws.{clearedAll, step-view}
 
@@ -41,6 +42,12 @@ step-unspent x e = go (step-view x) e
     go (copiedAll j k) e = never (cc)
     go (cleared j d k) e = never (cc)
     go (clearedAll j k) e = never (cc)
+
+-- and a step of a job stops for room alone
+pub job-stops : (x : Index) → x .job ≢ idle → (r : Stop) → step x ≡ stopped r → r ≡ Stop.NoRoom
+job-stops x j Stop.Spent e = absurd (step-unspent x e)
+job-stops x j Stop.Idle e = absurd (j (step-idle x .0 e .0))
+job-stops x j Stop.NoRoom e = refl
 
 pub kind-unspent : (k : Kind) (x : Index) → stepIndex k x ≢ stopped Stop.Spent
 kind-unspent ofSplits x e = step-unspent x e

@@ -49,13 +49,13 @@ module _ (x : Index) (w : WF x) (q : Pair) where
       fits = home-range x (w .laid) q
 
   -- a pair of the new bucket while copying: from the old chain, then from the new
-  abbrev cutOld : Index
+  abbrev pub cutOld : Index
   cutOld = cut q (oldBucket x) x
 
-  abbrev cutBoth : Index
+  abbrev pub cutBoth : Index
   cutBoth = cut q (newBucket x) cutOld
 
-  new-fits : newBucket x < length (cutOld .chains)
+  pub new-fits : newBucket x < length (cutOld .chains)
   unfolding cut
   new-fits =
       omega (arith, length-set (x .chains) (oldBucket x) (without q (chain x (oldBucket x))), new-range x (w .laid))

@@ -12,6 +12,7 @@ use Rattle.model.specs.declared.Refusal.{Refusal}
 use Rattle.model.specs.declared.Answer.{Answer}
 use Rattle.model.specs.declared.Stop.{Stop}
 use Rattle.model.specs.Index.{Page, Job, idle, copying, clearing, Index, chain, bucket, newBucket, topBit}
+use Rattle.model.specs.Pages.{chainRoom}
 use Rattle.model.specs.Held.{held, count}
 use Rattle.model.specs.Steps.{stopped, copiesLeft}
 use Rattle.model.specs.Calls.{pairOk, standing}
@@ -29,6 +30,13 @@ pub record NoPage (x : Index) (b : ℕ) : Type 0 where
   pub bits : (n : ℕ) → 1 ≤ n → n < topBit x → 1 ≤ uses n x
   -- "the next block past the made ones" is not "below N"
   pub blocks : x .size ≤ made (x .spares) (point (x .maxBucket))
+
+-- room for one: "a page of the .. bucket's chain has room", "a page is free again", or there is a block past the made
+-- ones
+pub data Room (x : Index) (b : ℕ) : Type 0 where
+  onPage : chainRoom (chain x b) ≡ true → Room x b
+  freed : (n : ℕ) → 1 ≤ n → n < topBit x → uses n x ≡ 0 → Room x b
+  unmade : made (x .spares) (point (x .maxBucket)) < x .size → Room x b
 
 -- Begin: the new bucket "needs a new point", and "(buckets in all at point s+1) + spares[s] + 1" is above N
 pub record NoPoint (x : Index) : Type 0 where

@@ -1,6 +1,7 @@
--- No room (docs/RULES.md 6.3): exactly when neither the chain nor the overflow bits nor the blocks past the made ones have any.
+-- No room (docs/RULES.md 6.3): exactly when neither the chain nor the overflow bits nor the blocks past the made ones
+-- have any; when a step finds none.
 use mathlib.Core.Path.{_≡_, refl, sym, ap, subst}
-use mathlib.Core.Logic.{_↔_}
+use mathlib.Core.Logic.{_↔_, _⊎_, inl, inr}
 use mathlib.Core.Bool.{Bool, true, false}
 use mathlib.Core.Option.{Option, none, some}
 use Prim.Native.Nat.{ℕ, suc, _*_, _≤_, _<_}
@@ -10,7 +11,7 @@ use lib.Dec.{eqb}
 use lib.ListN.{length}
 use Rattle.lists.specs.Lists.{b2n, any, find, upFrom}
 use Rattle.lists.specs.ListsLaws.{any-yes, find-no, find-yes}
-use Rattle.address.specs.Address.{point, made}
+use Rattle.address.specs.Address.{point}
 use Rattle.page.specs.declared.Pair.{Pair}
 use Rattle.page.specs.declared.Entry.{Entry}
 use Rattle.page.specs.PairLaws.{no-way}
@@ -18,13 +19,13 @@ use Rattle.model.specs.declared.Refusal.{Refusal}
 use Rattle.model.specs.declared.Stop.{Stop}
 use Rattle.model.specs.Index.{Job, idle, copying, clearing, Index, chain, entriesAt, bucket, oldBucket}
 use Rattle.model.specs.Index.{topBit}
-use Rattle.model.specs.Pages.{hasRoom, bitsUsed, isFree, freeBit, Taken, put}
+use Rattle.model.specs.Pages.{hasRoom, chainRoom, bitsUsed, isFree, freeBit, Taken, put}
 use Rattle.model.specs.Held.{held, count, wanted}
 use Rattle.model.specs.Steps.{Step, stopped, toCopy, step}
 use Rattle.model.specs.Calls.{pairOk, Result, refused, insert}
 use Rattle.model.specs.Steps.{copiesLeft}
 use Rattle.model.specs.WellFormed.{uses}
-use Rattle.model.specs.Room.{NoPage, NoPoint, NoStep}
+use Rattle.model.specs.Room.{NoPage, Room, onPage, freed, unmade, NoPoint, NoStep}
 use Rattle.model.specs.TallyLaws.{or-left, or-right, tally-upFrom}
 use Rattle.model.specs.PackedLaws.{pages-full, full-pages}
 use Rattle.model.specs.LaidLaws.{TakenAs, nothing, again, fresh, take-view}
@@ -54,29 +55,44 @@ bits-used x h n l g = go (any (eqb n) (bitsUsed x)) refl
 
 -- ---- put and insert
 
-module _ {x : Index} {b : ℕ} {e : Entry} where
-  pub putting-none : Putting x b e none → NoPage x b
-  putting-none (full r t) =
-      let k = taken (rw t at (take-view x)) in
+module _ {x : Index} {b : ℕ} where
+  noPage : chainRoom (chain x b) ≡ false → TakenAs x none → NoPage x b
+  noPage r (nothing f s) =
       record {
         first = ltb-false (length (chain x b .first)) 40 (or-left (hasRoom (chain x b .first)) _ r);
         more = pages-full (chain x b .more) (or-right (hasRoom (chain x b .first)) _ r);
-        bits = λ n l g. omega (arith, bits-used x (k .0) n l g);
-        blocks = k .1;
+        bits = λ n l g. omega (arith, bits-used x f n l g);
+        blocks = s;
       }
-    where
-      taken : TakenAs x none → (freeBit x ≡ none) × (x .size ≤ made (x .spares) (point (x .maxBucket)))
-      taken (nothing f s) = (f, s)
 
-  pub noPage-none : NoPage x b → {r : Option Index} → Putting x b e r → r ≡ none
-  noPage-none f (full r t) = refl
-  noPage-none f (inPage r) =
+  -- where there is room there is not none
+  pub room-not : Room x b → NoPage x b → ⊥
+  room-not (onPage r) f =
       no-way r (rw (le-ltb (length (chain x b .first)) 40 (f .first)) (full-pages (chain x b .more) (f .more)))
+  room-not (freed n l g u) f = omega (arith, f .bits n l g)
+  room-not (unmade l) f = omega (arith, f .blocks)
+
+  pub putting-none : {e : Entry} → Putting x b e none → NoPage x b
+  putting-none (full r t) = noPage r (rw t at (take-view x))
+
+  pub noPage-none : {e : Entry} → NoPage x b → {r : Option Index} → Putting x b e r → r ≡ none
+  noPage-none f (full r t) = refl
+  noPage-none f (inPage r) = absurd (room-not (onPage r) f)
   noPage-none f (inNew t r k) = absurd (taken (rw k at (take-view x)))
     where
       taken : {t : Taken} → TakenAs x (some t) → ⊥
-      taken (again n u l g) = omega (arith, f .bits n l g)
-      taken (fresh e l) = omega (arith, f .blocks)
+      taken (again n u l g) = room-not (freed n l g u) f
+      taken (fresh e l) = room-not (unmade l) f
+
+-- there is room or there is none
+pub room-or-none : (x : Index) (b : ℕ) → Room x b ⊎ NoPage x b
+room-or-none x b = go (chainRoom (chain x b)) refl (take-view x)
+  where
+    go : (r : Bool) → chainRoom (chain x b) ≡ r → {t : Option Taken} → TakenAs x t → Room x b ⊎ NoPage x b
+    go true k t = inl (onPage k)
+    go false k (nothing f s) = inr (noPage k (nothing f s))
+    go false k (again n u l g) = inl (freed n l g u)
+    go false k (fresh e l) = inl (unmade l)
 
 pub put-none : (x : Index) (b : ℕ) (e : Entry) → (put x b e ≡ none) ↔ NoPage x b
 put-none x b e = (λ h. putting-none (rw h at (put-view x b e)), λ f. noPage-none f (put-view x b e))

@@ -124,7 +124,7 @@ module _ {M L : Machine} (R : L .State → M .State → Type 0) where
         book = b .book;
         fill = b .fill;
         begins = ap suc (b .begins);
-        split = ap₂ (λ (n : ℕ) bk. since true (movers (2 + n) bk) 1) (b .begins) (b .book);
+        split = ap₂ (λ (n : ℕ) bk. since 0 (movers (2 + n) bk) 1) (b .begins) (b .book);
       }
   stepIn-beside (Phase.Copying o n) t u s x b r =
       record { state = r; book = b .book; fill = b .fill; begins = b .begins; split = ap oneStep (b .split) }
