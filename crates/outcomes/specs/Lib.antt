@@ -12,6 +12,9 @@ pub mod Demand3Theorem
 pub mod InUseLaws
 pub mod SqueezeLaws
 pub mod SqueezeTheorem
+pub mod BusyTheorem
+pub mod RoomLaws
+pub mod RoomTheorem
 pub mod Cards
 pub mod CardsLaws
 pub mod StoreExamples
