@@ -1,6 +1,6 @@
 //! Work and squeezes in parts: whatever the budgets are, the steps and the bytes are those of one call.
 
-use compare::build::{found, sound};
+use compare::build::sound;
 use compare::chains::squeeze_steps;
 use compare::random::Random;
 use compare::side::Reply;
@@ -140,45 +140,4 @@ fn sealed_once() {
         }
         same(store, random.below(60), format!("built {seed}"));
     }
-}
-
-/// The pairs that stand, marked moved, in the last bucket.
-fn copies(twin: &Twin) -> Vec<(u32, u32, u32)> {
-    let new = twin.standing().1.new;
-    found(twin.bytes()).filter(|entry| entry.moved && entry.bucket == new).map(|entry| entry.pair).collect()
-}
-
-/// Work stops for want of room after `steps` steps, with copies made and `wanting` to make. Removals of pairs that
-/// have copies make room for as many others; with enough of them work goes on, to the end of the job.
-fn goes_on(mut twin: Twin, steps: u32, wanting: u32, rest: Reply) {
-    let mut random = Random::new(12_000);
-    let before = copies(&twin).len();
-    assert_eq!(twin.work(MOST), Reply::worked(steps, 7), "{}", twin.label);
-    let copied = copies(&twin).len();
-    assert!(copied > before && twin.standing().1.phase == 1, "{}: {before} and {copied} copies", twin.label);
-    assert_eq!(twin.work(MOST), Reply::worked(0, 7), "{}", twin.label);
-    for (removals, reply) in [(1, Reply::worked(1, 7)), (3, Reply::worked(3, 7)), (wanting - 4, rest)] {
-        let mut pairs = copies(&twin);
-        random.shuffle(&mut pairs);
-        for &(hash, block, offset) in &pairs[..removals as usize] {
-            assert!(twin.remove(hash, block, offset).done(), "{}", twin.label);
-        }
-        assert_eq!(twin.work(MOST), reply, "{}, {removals} removals", twin.label);
-        assert!(twin.verify().done(), "{}", twin.label);
-    }
-    assert_eq!(twin.standing().1.phase, 0, "{}", twin.label);
-}
-
-#[test]
-fn no_room_in_the_midst_of_copying() {
-    let mut twin = Twin::new(vec![0; 8 * 512], "three pages");
-    assert!(twin.format(40, 8, 0).done());
-    for i in 0..120 {
-        assert!(twin.insert(2 * i, 5, 1 + i).done());
-    }
-    // The split that is wanted takes the last blocks, so that 40 of 60 entries find room.
-    // Of those, 20 are removed with their copies, so that 40 are copied and 40 cleared in the end.
-    goes_on(twin, 41, 20, Reply::worked(16 + 1 + 40 + 1, 9));
-    // Here 480 more copies find room, and after the split there is none for the next one to begin.
-    goes_on(Twin::new(copying_one_code(108), "one code"), 480, 416, Reply::worked(412 + 1 + 1376 + 1, 7));
 }
