@@ -34,7 +34,8 @@ extern "C" {
 /* The version of this header, and of the archive made from the same sources. 1.0.0 is document 01, whole; 1.0.1 is
  * quicker (request 2026-02); 2.0.0 has a store number (request 2026-03); 3.0.0 formats no store in use unless told to
  * overwrite, and has amiqsovik_in_use (request 2026-04); 3.1.0 takes stores of 129 to 1,024 blocks (request 2026-09);
- * 3.1.1 finds pairs in long chains quicker (request 2026-10); 3.2.0 has amiqsovik_squeeze (request 2026-01).
+ * 3.1.1 finds pairs in long chains quicker (request 2026-10); 3.2.0 has amiqsovik_squeeze (request 2026-01); 3.2.1
+ * promises that splits finish in busy hours (request 2026-12), which they did before.
  * The first number goes up when a program that was right may have to change: a call's arguments, the answer to a call
  * that was accepted, the bytes of a store. The second goes up when calls are added, or take what they refused, the
  * third when neither is so.
@@ -45,9 +46,9 @@ extern "C" {
  * format takes it without a word. */
 #define AMIQSOVIK_VERSION_MAJOR 3
 #define AMIQSOVIK_VERSION_MINOR 2
-#define AMIQSOVIK_VERSION_PATCH 0
+#define AMIQSOVIK_VERSION_PATCH 1
 #define AMIQSOVIK_VERSION (AMIQSOVIK_VERSION_MAJOR * 10000 + AMIQSOVIK_VERSION_MINOR * 100 + AMIQSOVIK_VERSION_PATCH)
-#define AMIQSOVIK_VERSION_TEXT "3.2.0"
+#define AMIQSOVIK_VERSION_TEXT "3.2.1"
 
 /* A word that nobody looks at may be a refusal: compilers that can do so warn. */
 #if defined(__GNUC__)
@@ -147,11 +148,18 @@ AMIQSOVIK_MUST_USE uint64_t amiqsovik_lookup(const uint8_t *AMIQSOVIK_RESTRICT s
 
 /* Does steps of splits, at most `budget`, 0..65535, else NUMBER. After each step the store is sound and every lookup
  * finds what it found before. DONE, with the number of steps done and why they stopped, LENGTH, NUMBER, DAMAGED or
- * NOT_AN_INDEX. A stop with no room is no refusal: the steps done before it stay. */
+ * NOT_AN_INDEX. A stop with no room is no refusal: the steps done before it stay.
+ *
+ * A split that finds m pairs to move, as standing's phase shows it from its begin to its end, is over within 2m + 3 of
+ * its own steps, the begin included, whatever is inserted, removed, looked up and squeezed in between. A removal while
+ * copying may save one or two of them; without removals it takes them all. A step that finds no room is not made, and
+ * not counted: a begin needs the blocks of the new buckets; a copying step needs, while there is a pair to copy, room
+ * on a page of the new bucket's chain, a free page or a new one, and is made once there is. Removals may make room, and
+ * a squeeze of another bucket may free a page. The end of the copying and the clearing need none. Request 2026-12. */
 AMIQSOVIK_MUST_USE uint64_t amiqsovik_work(uint8_t *store, size_t store_length, uint32_t budget);
 
 #define AMIQSOVIK_STOP_SPENT 0   /* the budget is spent */
-#define AMIQSOVIK_STOP_NO_ROOM 7 /* the next step finds no room; it changed nothing. Never of a squeeze */
+#define AMIQSOVIK_STOP_NO_ROOM 7 /* the next step finds no room; it changed nothing. Never of clearing or a squeeze */
 #define AMIQSOVIK_STOP_IDLE 9    /* work: there is no job, and no split is wanted; squeeze: no earlier page has room */
 
 /* Gathers the pairs of a bucket on the first pages of its chain, which removals may have left long and thin: does

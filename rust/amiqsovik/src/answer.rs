@@ -186,7 +186,11 @@ pub struct Standing {
 pub enum Stop {
     /// 0: the budget is spent.
     Spent,
-    /// 7: the next step has no room. Never of a squeeze.
+    /// 7: the next step has no room. Never of a squeeze, nor of a split's clearing.
+    ///
+    /// A begin needs the blocks of the new buckets. A copying step needs, while there is a pair to copy, room on a page
+    /// of the new bucket's chain, a free page or a new one, and is made once there is: removals may make room, and a
+    /// squeeze of another bucket may free a page.
     NoRoom,
     /// 9: there is no step left: of work no job, and no split is wanted; of a squeeze no earlier page has room.
     Idle,

@@ -188,6 +188,10 @@ pub fn lookup<'o>(store: &[u8], hash: u32, output: &'o mut [u8]) -> Result<Match
 /// Makes up to `budget` steps, at most 65535, of the splits that are wanted. The store is a sound index after each
 /// step.
 ///
+/// A split that finds m pairs to move is over within 2m + 3 of its own steps, the begin included, whatever is inserted,
+/// removed, looked up and squeezed in between. A removal while copying may save one or two of them; without removals it
+/// takes them all. A step that finds no room is not made, and not counted; see [`Stop::NoRoom`](crate::Stop::NoRoom).
+///
 /// # Errors
 ///
 /// [`Length`](Refusal::Length), [`Number`](Refusal::Number), [`Damaged`](Refusal::Damaged) or
@@ -205,6 +209,28 @@ pub fn lookup<'o>(store: &[u8], hash: u32, output: &'o mut [u8]) -> Result<Match
 /// }
 /// assert_eq!(work(&mut store, 2)?, Worked { steps: 2, stop: Stop::Spent });
 /// assert_eq!(work(&mut store, 9)?, Worked { steps: 3, stop: Stop::Idle });
+/// # Ok::<(), amiqsovik::Refusal>(())
+/// ```
+///
+/// In busy hours a step at a time, between inserts and removals: of six pairs three move, so the split would take 9
+/// steps. The removal of one that has no copy yet saves two of them; that of one which stays, and the insert, none.
+///
+/// ```
+/// # let mut store = [0; 8 * 512];
+/// use amiqsovik::{format, insert, remove, standing, work, Phase};
+/// format(&mut store, 2, 7)?;
+/// for hash in [0, 2, 4, 6, 8, 10] {
+///     insert(&mut store, hash, 9, 1)?;
+/// }
+/// let mut steps = work(&mut store, 2)?.steps;
+/// remove(&mut store, 10, 9, 1)?;
+/// steps += work(&mut store, 1)?.steps;
+/// remove(&mut store, 0, 9, 1)?;
+/// insert(&mut store, 14, 9, 1)?;
+/// while standing(&store)?.phase != Phase::None {
+///     steps += work(&mut store, 1)?.steps;
+/// }
+/// assert_eq!(steps, 7);
 /// # Ok::<(), amiqsovik::Refusal>(())
 /// ```
 pub fn work(store: &mut [u8], budget: u32) -> Result<Worked, Refusal> {
