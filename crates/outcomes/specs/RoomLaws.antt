@@ -4,12 +4,13 @@ use mathlib.Core.Logic.{_≢_, _↔_}
 use mathlib.Core.Bool.{true}
 use mathlib.Core.List.{List}
 use Prim.Native.Nat.{ℕ, suc, _≤_}
+use native.Mathlib.Omega.{arith}
 use borrow.Author.Tests.{le-leb}
 use Rattle.lists.specs.Bytes.{Bytes}
 use Rattle.model.specs.declared.Stop.{Stop}
 use Rattle.model.specs.declared.Phase.{Phase}
 use Rattle.model.specs.declared.WorkAnswer.{WorkAnswer}
-use Rattle.model.specs.Answers.{standingOf}
+use Rattle.model.specs.Answers.{workSteps, phaseNew, standingOf}
 use Rattle.model.specs.Index.{Job, idle, copying, clearing, Index, newBucket, oldBucket}
 use Rattle.model.specs.Steps.{Step, next, stopped, step, iterate}
 use Rattle.model.specs.Calls.{phaseIn, standing}
@@ -23,6 +24,12 @@ use Rattle.outcomes.specs.Outcomes.{Tested, passed, failed, tested, stan
 use Rattle.outcomes.specs.Outcomes.{stepOutcome, workOn, workOutcome, runStore, onStore}
 use Rattle.outcomes.specs.OutcomeSoundLaws.{passed-encodes}
 
+-- the job of a phase
+abbrev pub jobIn : Phase → Job
+jobIn Phase.None = idle
+jobIn (Phase.Copying old new) = copying
+jobIn (Phase.Clearing old new) = clearing
+
 -- a store's step stops exactly as its index's
 pub step-stops : (s : List ℕ) (r : Stop) → (stepOutcome s ≡ stopped r) ↔ (step (decode s) ≡ stopped r)
 unfolding stepOutcome
@@ -35,62 +42,44 @@ step-stops s r = go (step (decode s))
 module _ (s : List ℕ) (bytes : Bytes s) where
   -- ---- the phase that standing gives
 
-  -- a job with its new bucket, of a store that passes the tests
+  -- a store that passes the tests, in the midst of a job with this new bucket
   pub record InJob (j : Job) (new : ℕ) : Type 0 where
     pub passes : tested true s ≡ passed (decode s)
     pub job : decode s .job ≡ j
     pub newest : newBucket (decode s) ≡ new
 
   -- a phase other than none is that of the index
-  phase-read : (ph : Phase) → phaseAt onStore s ≡ ph → ph ≢ Phase.None
-      → (tested true s ≡ passed (decode s))
-      × (phaseIn (decode s .job) (oldBucket (decode s)) (newBucket (decode s)) ≡ ph)
+  pub phase-read : (ph : Phase) → phaseAt onStore s ≡ ph → ph ≢ Phase.None → InJob (jobIn ph) (phaseNew ph)
   unfolding runStore standingOutcome standing
   phase-read ph e ne = go (tested true s) refl e
     where
-      go : (t : Tested) → tested true s ≡ t → standingOf (standingOn t) .phase ≡ ph
-          → (tested true s ≡ passed (decode s))
-          × (phaseIn (decode s .job) (oldBucket (decode s)) (newBucket (decode s)) ≡ ph)
+      of : (j : Job) (o n : ℕ) → phaseIn j o n ≡ ph → (j ≡ jobIn ph) × (n ≡ phaseNew ph)
+      of idle o n h = absurd (ne (sym h))
+      of copying o n h = (ap jobIn h, ap phaseNew h)
+      of clearing o n h = (ap jobIn h, ap phaseNew h)
+
+      go : (t : Tested) → tested true s ≡ t → standingOf (standingOn t) .phase ≡ ph → InJob (jobIn ph) (phaseNew ph)
       go (failed r) k h = absurd (ne (sym h))
       go (passed x) k h =
           let r = passed-encodes s bytes true x k in
           let d : decode s ≡ x = ap decode (r .1) ∙ encoding-is-sound x (r .0) .read in
-          (k ∙ ap passed (sym d), ap (λ (y : Index). phaseIn (y .job) (oldBucket y) (newBucket y)) d ∙ h)
-
-  pub copying-job : {old new : ℕ} → phaseAt onStore s ≡ Phase.Copying old new → InJob copying new
-  copying-job {old} {new} e =
-      let p = phase-read (Phase.Copying old new) e (λ h. never (cc)) in go (decode s .job) refl (p .0) (p .1)
-    where
-      go : (j : Job) → decode s .job ≡ j → tested true s ≡ passed (decode s)
-          → phaseIn j (oldBucket (decode s)) (newBucket (decode s)) ≡ Phase.Copying old new → InJob copying new
-      go idle k t h = never (cc)
-      go clearing k t h = never (cc)
-      go copying k t h = record { passes = t; job = k; newest = cc }
-
-  pub clearing-job : {old new : ℕ} → phaseAt onStore s ≡ Phase.Clearing old new → InJob clearing new
-  clearing-job {old} {new} e =
-      let p = phase-read (Phase.Clearing old new) e (λ h. never (cc)) in go (decode s .job) refl (p .0) (p .1)
-    where
-      go : (j : Job) → decode s .job ≡ j → tested true s ≡ passed (decode s)
-          → phaseIn j (oldBucket (decode s)) (newBucket (decode s)) ≡ Phase.Clearing old new → InJob clearing new
-      go idle k t h = never (cc)
-      go copying k t h = never (cc)
-      go clearing k t h = record { passes = t; job = k; newest = cc }
+          let q = of (x .job) (oldBucket x) (newBucket x) h in
+          record {
+            passes = k ∙ ap passed (sym d);
+            job = ap (λ (y : Index). y .job) d ∙ q .0;
+            newest = ap newBucket d ∙ q .1;
+          }
 
   -- ---- the first step of a work call
 
   module _ (n : ℕ) (ok : suc n ≤ 65535) where
-    abbrev pub answer : WorkAnswer
+    abbrev answer : WorkAnswer
     answer = workOutcome s (suc n) .answer
 
-    -- one step at least is made
-    abbrev pub GoesOn : Type 0
-    GoesOn = (k : ℕ) × (r : Stop) × (answer ≡ WorkAnswer.Worked (suc k) r)
-
-    -- by the first step: none is made, and the call stops for what that step says, or one at least
+    -- it is not made, and the call stops for what it says, or one step at least is
     abbrev First : Step (List ℕ) → Type 0
     First (stopped r) = answer ≡ WorkAnswer.Worked 0 r
-    First (next t) = GoesOn
+    First (next t) = 1 ≤ workSteps answer
 
     work-first : tested true s ≡ passed (decode s) → First (stepOutcome s)
     work-first p = go (stepOutcome s) refl
@@ -100,9 +89,12 @@ module _ (s : List ℕ) (bytes : Bytes s) where
             ap (λ (t : Tested). workOn t s (iterate stepOutcome (suc n) s) .answer)
             (subst (λ b. tested b s ≡ passed (decode s)) (sym (le-leb (suc n) 65535 ok)) p)
 
+        made : (t : List ℕ) → stepOutcome s ≡ next t → workSteps answer ≡ suc (iterate stepOutcome n t .steps)
+        made t e = ap workSteps told ∙ rw (e, iterate) refl
+
         go : (r : Step (List ℕ)) → stepOutcome s ≡ r → First r
         go (stopped r) e = told ∙ rw (e, iterate) refl
-        go (next t) e = (iterate stepOutcome n t .steps, iterate stepOutcome n t .stop, told ∙ rw (e, iterate) refl)
+        go (next t) e = omega (arith, made t e)
 
     -- in a job, it stops exactly where there is no room for its step, and else goes on
     module _ {j : Job} {new : ℕ} (i : InJob j new) (ne : j ≢ idle) where
@@ -119,19 +111,19 @@ module _ (s : List ℕ) (bytes : Bytes s) where
       )
         where
           to : answer ≡ WorkAnswer.Worked 0 Stop.NoRoom → (r : Step (List ℕ)) → stepOutcome s ≡ r → First r → NoStep j x
-          to e (next t) k f = let g = f .2 in never (cc)
+          to e (next t) k f = absurd (omega (arith, ap workSteps e))
           to e (stopped r) k f =
               let q : r ≡ Stop.NoRoom = cc in
               subst (λ (p : Job). NoStep p x) (i .job)
               (step-noRoom x .0 (step-stops s Stop.NoRoom .0 (k ∙ ap stopped q)))
 
-      pub first-goes : GoesOn ↔ (NoStep j x → ⊥)
+      pub first-goes : (1 ≤ workSteps answer) ↔ (NoStep j x → ⊥)
       first-goes = (
-        λ g h. (let e = first-stops .1 h in let q = g .2 in never (cc)),
+        λ g h. omega (arith, ap workSteps (first-stops .1 h)),
         λ h. go h (stepOutcome s) refl (work-first (i .passes)),
       )
         where
-          go : (NoStep j x → ⊥) → (r : Step (List ℕ)) → stepOutcome s ≡ r → First r → GoesOn
+          go : (NoStep j x → ⊥) → (r : Step (List ℕ)) → stepOutcome s ≡ r → First r → 1 ≤ workSteps answer
           go h (next t) k f = f
           go h (stopped r) k f =
               let e = step-stops s r .0 k in

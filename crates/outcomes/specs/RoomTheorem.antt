@@ -9,6 +9,7 @@ use Rattle.lists.specs.Bytes.{Bytes}
 use Rattle.model.specs.declared.Stop.{Stop}
 use Rattle.model.specs.declared.Phase.{Phase}
 use Rattle.model.specs.declared.WorkAnswer.{WorkAnswer}
+use Rattle.model.specs.Answers.{workSteps}
 use Rattle.model.specs.Index.{copying, Index}
 use Rattle.model.specs.Steps.{stopped, copiesLeft}
 use Rattle.model.specs.History.{phaseAt}
@@ -18,8 +19,7 @@ use Rattle.model.specs.MachineLaws.{never}
 use Rattle.image.specs.Decode.{decode}
 use Rattle.outcomes.specs.Outcomes.{workOutcome, onStore}
 use Rattle.outcomes.specs.OutcomeLaws.{WorkEnds, work-ends}
-use Rattle.outcomes.specs.RoomLaws.{step-stops, InJob, copying-job, clearing-job, answer, GoesOn, first-stops}
-use Rattle.outcomes.specs.RoomLaws.{first-goes}
+use Rattle.outcomes.specs.RoomLaws.{step-stops, InJob, phase-read, first-stops, first-goes}
 
 -- an accepted work call stops for room exactly when its budget is not spent and there is no room for the step that
 -- would come next (`NoStep`): a begin, or a copy; while clearing there always is
@@ -42,23 +42,24 @@ work-stops-for-room s budget k r e = (
     d : WorkEnds s budget k r
     d = work-ends s budget k r e
 
--- a call that may make a step, of a store in the midst of a job
+-- a work call with a budget of n + 1, on a store in the midst of a job
 module _ (s : List ℕ) (bytes : Bytes s) (n : ℕ) (ok : suc n ≤ 65535) {old new : ℕ} where
   -- a copying step stops for room, and the call with it, exactly when an entry is left to copy, every page of the new
   -- bucket's chain is full, no bit is 0 and no block past the made ones is left
   pub copying-stops : phaseAt onStore s ≡ Phase.Copying old new
-      → (answer s bytes n ok ≡ WorkAnswer.Worked 0 Stop.NoRoom) ↔ ((1 ≤ copiesLeft (decode s)) × NoPage (decode s) new)
+      → (workOutcome s (suc n) .answer ≡ WorkAnswer.Worked 0 Stop.NoRoom)
+      ↔ ((1 ≤ copiesLeft (decode s)) × NoPage (decode s) new)
   copying-stops p =
-      let i = copying-job s bytes p in
+      let i = phase-read s bytes (Phase.Copying old new) p (λ e. never (cc)) in
       let f = first-stops s bytes n ok i (λ e. never (cc)) in (
         λ e. (f .0 e .0, subst (NoPage (decode s)) (i .newest) (f .0 e .1)),
         λ h. f .1 (h .0, subst (NoPage (decode s)) (sym (i .newest)) (h .1)),
       )
 
-  -- and else it is made: it "succeeds once a page is free again or a page of the new bucket's chain has room", or there
-  -- is a block left, and where no entry is left to copy
+  -- and else it is made: it "succeeds once a page is free again or a page of the new bucket's chain has room" (or there
+  -- is a block left), and where no entry is left to copy
   pub copying-goes-on : phaseAt onStore s ≡ Phase.Copying old new
-      → GoesOn s bytes n ok ↔ ((copiesLeft (decode s) ≡ 0) ⊎ Room (decode s) new)
+      → (1 ≤ workSteps (workOutcome s (suc n) .answer)) ↔ ((copiesLeft (decode s) ≡ 0) ⊎ Room (decode s) new)
   copying-goes-on p = (
     λ g. to (first-goes s bytes n ok i (λ e. never (cc)) .0 g) (copiesLeft x) refl (room-or-none x new),
     λ h. first-goes s bytes n ok i (λ e. never (cc)) .1 (from h),
@@ -68,7 +69,7 @@ module _ (s : List ℕ) (bytes : Bytes s) (n : ℕ) (ok : suc n ≤ 65535) {old 
       x = decode s
 
       i : InJob s bytes copying new
-      i = copying-job s bytes p
+      i = phase-read s bytes (Phase.Copying old new) p (λ e. never (cc))
 
       to : (NoStep copying x → ⊥) → (c : ℕ) → copiesLeft x ≡ c → Room x new ⊎ NoPage x new
           → (copiesLeft x ≡ 0) ⊎ Room x new
@@ -80,5 +81,7 @@ module _ (s : List ℕ) (bytes : Bytes s) (n : ℕ) (ok : suc n ≤ 65535) {old 
       from h f = ⊎-elim (λ e. omega (arith, e, f .0)) (λ r. room-not r (subst (NoPage x) (i .newest) (f .1))) h
 
   -- "A clearing step never stops for room", nor for anything else
-  pub clearing-goes-on : phaseAt onStore s ≡ Phase.Clearing old new → GoesOn s bytes n ok
-  clearing-goes-on p = first-goes s bytes n ok (clearing-job s bytes p) (λ e. never (cc)) .1 (λ h. h)
+  pub clearing-goes-on : phaseAt onStore s ≡ Phase.Clearing old new → 1 ≤ workSteps (workOutcome s (suc n) .answer)
+  clearing-goes-on p =
+      let i = phase-read s bytes (Phase.Clearing old new) p (λ e. never (cc)) in
+      first-goes s bytes n ok i (λ e. never (cc)) .1 (λ h. h)
