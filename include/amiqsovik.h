@@ -153,9 +153,10 @@ AMIQSOVIK_MUST_USE uint64_t amiqsovik_lookup(const uint8_t *AMIQSOVIK_RESTRICT s
  * A split that finds m pairs to move, as standing's phase shows it from its begin to its end, is over within 2m + 3 of
  * its own steps, the begin included, whatever is inserted, removed, looked up and squeezed in between. A removal while
  * copying may save one or two of them; without removals it takes them all. A step that finds no room is not made, and
- * not counted: a begin needs the blocks of the new buckets; a copying step needs, while there is a pair to copy, room
- * on a page of the new bucket's chain, a free page or a new one, and is made once there is. Removals may make room, and
- * a squeeze of another bucket may free a page. The end of the copying and the clearing need none. Request 2026-12. */
+ * not counted. A begin may need new blocks, for its bucket and others to come. A copying step needs, while there is a
+ * pair to copy, room on a page of the new bucket's chain, a free page or a new one, and is made once there is: removals
+ * may make room, and a squeeze of another bucket may free a page. The end of the copying and the clearing need none.
+ * Request 2026-12. */
 AMIQSOVIK_MUST_USE uint64_t amiqsovik_work(uint8_t *store, size_t store_length, uint32_t budget);
 
 #define AMIQSOVIK_STOP_SPENT 0   /* the budget is spent */

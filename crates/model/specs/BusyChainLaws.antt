@@ -3,10 +3,9 @@ use mathlib.Core.Path.{_≡_, sym, ap, _∙_}
 use mathlib.Core.Logic.{_≢_}
 use mathlib.Core.Bool.{Bool, false, not, _&&_}
 use mathlib.Core.List.{List}
-use Prim.Native.Nat.{ℕ, _<_}
+use Prim.Native.Nat.{ℕ}
 use native.Mathlib.Decide.{ℕ-discrete}
 use lib.Dec.{eqb}
-use lib.ListN.{length}
 use Rattle.lists.specs.Lists.{any, tally}
 use Rattle.lists.specs.ListsLaws.{eqb-no}
 use Rattle.page.specs.declared.Pair.{Pair}
@@ -27,13 +26,10 @@ module _ (x : Index) (l : Laid x) (q : Pair) (sp : List ℕ) (c : Chain) where
   abbrev pub reset : Index
   reset = setChain x sp (bucket x q) c
 
-  pub home-fits : bucket x q < length (x .chains)
-  home-fits = home-range x l q
-
   -- the new bucket's: the old one's entries stay
   pub new-there : bucket x q ≡ newBucket x → entriesAt reset (oldBucket x) ≡ entriesAt x (oldBucket x)
   new-there e =
-      ap entriesIn (chain-there x sp (bucket x q) c home-fits (oldBucket x) (λ k. old-new x l (k ∙ e)))
+      ap entriesIn (chain-there x sp (bucket x q) c (home-range x l q) (oldBucket x) (λ k. old-new x l (k ∙ e)))
 
   -- a chain with as many entries that pass a test, whichever test on pairs the pair fails
   module _ (others : (g : Pair → Bool) → g q ≡ false
@@ -44,12 +40,12 @@ module _ (x : Index) (l : Laid x) (q : Pair) (sp : List ℕ) (c : Chain) where
         go : Dec (bucket x q ≡ newBucket x) → oldEntries reset ≡ oldEntries x
         go (yes k) = ap (tally (moves x)) (new-there k)
         go (no k) =
-            number-same x sp (bucket x q) c home-fits (moves x)
+            number-same x sp (bucket x q) c (home-range x l q) (moves x)
             (others (λ p. eqb (bucket x p) (newBucket x)) (eqb-no (bucket x q) (newBucket x) k)) (oldBucket x)
 
     pub home-copies : bucket x q ≢ newBucket x → copiesLeft reset ≡ copiesLeft x
     home-copies ne =
         ap (λ (es : List Entry). tally (λ e. lacks x es (e .pair)) (entriesAt reset (oldBucket x)))
-        (ap entriesIn (chain-there x sp (bucket x q) c home-fits (newBucket x) (λ k. ne (sym k))))
-        ∙ number-same x sp (bucket x q) c home-fits (toCopy x)
+        (ap entriesIn (chain-there x sp (bucket x q) c (home-range x l q) (newBucket x) (λ k. ne (sym k))))
+        ∙ number-same x sp (bucket x q) c (home-range x l q) (toCopy x)
         (others (lacks x (entriesAt x (newBucket x))) (rw (eqb-no (bucket x q) (newBucket x) ne))) (oldBucket x)

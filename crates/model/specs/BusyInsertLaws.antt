@@ -20,12 +20,12 @@ use Rattle.model.specs.TallyLaws.{any-more}
 use Rattle.model.specs.PairTallyLaws.{all-agree}
 use Rattle.model.specs.PlacedLaws.{held-new}
 use Rattle.model.specs.StandLaws.{number-here}
-use Rattle.model.specs.HeldLaws.{is-parts, held-no}
+use Rattle.model.specs.HeldLaws.{home-range, is-parts, held-no}
 use Rattle.model.specs.BecomesLaws.{heldIn-at}
 use Rattle.model.specs.ViewLaws.{unmovedEntry, put-as, Inserting, inserted, insert-view}
 use Rattle.model.specs.StepsLeft.{stepsLeft}
 use Rattle.model.specs.StepsLeftLaws.{stepsLeft-same}
-use Rattle.model.specs.BusyChainLaws.{lacks, reset, home-fits, new-there, home-old, home-copies}
+use Rattle.model.specs.BusyChainLaws.{lacks, reset, new-there, home-old, home-copies}
 
 module _ (x : Index) (w : WF x) (q : Pair) (sp : List ℕ) (c : Chain)
     (add : (t : Entry → Bool) → tally t (entriesIn c) ≡ b2n (t (unmovedEntry q)) + tally t (entriesAt x (bucket x q)))
@@ -54,7 +54,7 @@ module _ (x : Index) (w : WF x) (q : Pair) (sp : List ℕ) (c : Chain)
       has p k =
           any-more (is p) (entriesAt x n) (entriesAt after n) false
           (subst (λ (b : ℕ). tally (is p) (entriesAt after b) ≡ 0 + tally (is p) (entriesAt x b)) e
-          (number-here x sp (bucket x q) c (home-fits x (w .laid) q sp c) (is p) ∙ add (is p)
+          (number-here x sp (bucket x q) c (home-range x (w .laid) q) (is p) ∙ add (is p)
           ∙ rw (same-sym p q, k) refl))
 
       none : tally (is q) (entriesAt x o) ≡ 0

@@ -26,7 +26,8 @@ use Rattle.model.specs.StandLaws.{number-here, number-there}
 use Rattle.model.specs.HeldLaws.{old-new, old-range}
 use Rattle.model.specs.RemoveLaws.{cutOld, cutBoth, new-fits}
 use Rattle.model.specs.ViewLaws.{Removing, removed, remove-view}
-use Rattle.model.specs.StepsLeft.{oldEntries, savedIn, saved, stepsLeft}
+use Rattle.model.specs.StepsLeft.{oldEntries, stepsLeft}
+use Rattle.model.specs.Busy.{savedIn, saved}
 use Rattle.model.specs.StepsLeftLaws.{stands-once, stepsLeft-at, stepsLeft-same}
 use Rattle.model.specs.BusyChainLaws.{lacks, home-old, home-copies}
 

@@ -31,18 +31,18 @@ module _ (x : Index) (w : WF x) where
   busy-wf (steps {t = y} {u = z} b j h) = step-wf y z (busy-wf b) h
   busy-wf (calls {t = y} c fits i b) = run-wf c fits y (busy-wf b)
 
-  busy-stepsLeft : {k l : ℕ} {y : Index} → BusyIndex x k l y → stepsLeft y + (k + l) ≡ stepsLeft x
+  busy-stepsLeft : {k l : ℕ} {y : Index} → BusyIndex x k l y → stepsLeft y + (k + l) ≡ stepsLeft x + 1
   busy-stepsLeft begun = omega arith
   busy-stepsLeft (steps {t = y} {u = z} b j h) = omega (arith, busy-stepsLeft b, step-stepsLeft y z (busy-wf b) j h)
   busy-stepsLeft (calls {t = y} c fits i b) = omega (arith, busy-stepsLeft b, call-stepsLeft c fits y (busy-wf b) i)
 
--- a begin from x to y, the pairs that x holds as a book, and k own steps more
+-- a begin from x to y, and the pairs that x holds as a book
 pub busy-over : (x y : Index) → WF x → x .job ≡ idle → step x ≡ next y
     → (bk : Book) → ascending self bk ≡ true → ((p : Pair) → has bk p ≡ held x p)
     → {k l : ℕ} {z : Index} → BusyIndex y k l z
-    → OverIs onIndex (λ x. x) (movers (suc (x .maxBucket)) bk) (suc k) l z
+    → OverIs onIndex (λ x. x) (movers (suc (x .maxBucket)) bk) k l z
 busy-over x y w j h bk a e {k} {l} {z} b =
-    let left : stepsLeft z + (k + l) ≡ 2 * movers (suc (x .maxBucket)) bk + 2 =
+    let left : stepsLeft z + (k + l) ≡ 2 * movers (suc (x .maxBucket)) bk + 3 =
     omega (
       arith,
       busy-stepsLeft y (step-wf x y w h) b,

@@ -207,7 +207,3 @@ rests-is x n m fill c b f = (
 
     rests : n ≤ fill * m → wanted x ≡ false
     rests l = at ∙ le-ltb (fill * m) n l
-
--- and never in a job
-pub busy : (x : Index) → x .job ≢ idle → step x ≢ stopped Stop.Idle
-busy x ne e = ne (step-idle x .0 e .0)

@@ -15,10 +15,11 @@ use Rattle.model.specs.Room.{RoomIs}
 use Rattle.model.specs.RoomLaws.{step-noRoom}
 use Rattle.model.specs.MatchesLaws.{matches-is}
 use Rattle.model.specs.CountLaws.{count-is}
+use Rattle.model.specs.FrameLaws.{job-not-idle}
 use Rattle.model.specs.StepsLeftLaws.{stepsLeft-at, stepsLeft-idle}
 use Rattle.model.specs.Demand3AnswerLaws.{heldAlready-is, notHeld-is, inserted-is, removed-is, noRoom-is}
 use Rattle.model.specs.Demand3AnswerLaws.{inUse-is, formatted-is, lookup-is}
-use Rattle.model.specs.Demand3AnswerLaws.{standing-is, job-is, phase-none, rests-is, busy}
+use Rattle.model.specs.Demand3AnswerLaws.{standing-is, job-is, phase-none, rests-is}
 use Rattle.model.specs.Demand3SqueezeLaws.{squeeze-is}
 use Rattle.model.specs.Demand3InvLaws.{Track, Inv}
 
@@ -28,7 +29,7 @@ split-is x noSplit u = phase-none x .1 u
 split-is x (since r m k) u = (
   λ l.
       let ne : x .job ≢ idle = λ e. omega (arith, u .1, stepsLeft-at x idle e) in
-      (λ e. ne (phase-none x .0 e), busy x ne),
+      (λ e. ne (phase-none x .0 e), job-not-idle x ne),
   λ e. phase-none x .1 (stepsLeft-idle x (omega (arith, u .0))),
   omega (arith, u .0),
 )

@@ -25,9 +25,10 @@ use Rattle.model.specs.FrameLaws.{insert-frame, remove-frame, begin-fram
 use Rattle.model.specs.InsertLaws.{insert-wf, insert-held}
 use Rattle.model.specs.RemoveLaws.{remove-wf, remove-held}
 use Rattle.model.specs.StepLaws.{step-wf, step-held}
-use Rattle.model.specs.StepsLeft.{saved, stepsLeft}
+use Rattle.model.specs.StepsLeft.{stepsLeft}
 use Rattle.model.specs.StepsLeftLaws.{step-stepsLeft}
 use Rattle.model.specs.BeginLaws.{begin-stepsLeft, begin-movers}
+use Rattle.model.specs.Busy.{saved}
 use Rattle.model.specs.BusyInsertLaws.{insert-stepsLeft}
 use Rattle.model.specs.BusyRemoveLaws.{saved-le, remove-stepsLeft}
 use Rattle.model.specs.SqueezeStepLaws.{squeeze-wf, squeeze-held, squeeze-stepsLeft}

@@ -140,3 +140,7 @@ step-idle x = (λ h. to (rw h at (step-view x)), λ k. from (k .0) (k .1) (step-
     from j w (copiedAll i k) = let z : _≡_ {A = ℕ} 0 1 = cc in absurd (omega arith)
     from j w (cleared i e k) = let z : _≡_ {A = ℕ} 0 1 = cc in absurd (omega arith)
     from j w (clearedAll i k) = let z : _≡_ {A = ℕ} 0 1 = cc in absurd (omega arith)
+
+-- and never in a job
+pub job-not-idle : (x : Index) → x .job ≢ idle → step x ≢ stopped Stop.Idle
+job-not-idle x ne e = ne (step-idle x .0 e .0)

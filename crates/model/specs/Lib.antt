@@ -44,6 +44,7 @@ pub mod BusyChainLaws
 pub mod BusyInsertLaws
 pub mod BusyRemoveLaws
 pub mod BeginLaws
+pub mod PhaseLaws
 pub mod FrameLaws
 pub mod SqueezeStepLaws
 pub mod SqueezeExamples

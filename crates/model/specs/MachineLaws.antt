@@ -17,7 +17,7 @@ use Rattle.model.specs.Calls.{work}
 use Rattle.model.specs.Machine.{Kind, ofSplits, ofSqueeze, stepping, worked, Ran, Machine, workedIn, squeezedIn}
 use Rattle.model.specs.Machine.{runIndex, stepIndex, onIndex}
 use Rattle.model.specs.Demand.{afterSteps, WorkIs}
-use Rattle.model.specs.FrameLaws.{step-idle}
+use Rattle.model.specs.FrameLaws.{job-not-idle}
 use Rattle.model.specs.ViewLaws.{Stepping, resting, unbegun, began, uncopied, copied, copiedAll, cleared}
 use Rattle.model.specs.ViewLaws.{clearedAll, step-view}
 
@@ -46,7 +46,7 @@ step-unspent x e = go (step-view x) e
 -- and a step of a job stops for room alone
 pub job-stops : (x : Index) → x .job ≢ idle → (r : Stop) → step x ≡ stopped r → r ≡ Stop.NoRoom
 job-stops x j Stop.Spent e = absurd (step-unspent x e)
-job-stops x j Stop.Idle e = absurd (j (step-idle x .0 e .0))
+job-stops x j Stop.Idle e = absurd (job-not-idle x j e)
 job-stops x j Stop.NoRoom e = refl
 
 pub kind-unspent : (k : Kind) (x : Index) → stepIndex k x ≢ stopped Stop.Spent

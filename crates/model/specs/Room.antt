@@ -1,5 +1,5 @@
--- When there is no room (docs/RULES.md 6.3 and 6.8), said of an index and apart from how an insert or a step goes about
--- it: "an insert that makes up a 7, doesn't meet it".
+-- When there is no room and when there is (docs/RULES.md 6.3, 6.8 and 6.14), said of an index. That there is none is
+-- said apart from how an insert or a step goes about it: "an insert that makes up a 7, doesn't meet it".
 use mathlib.Core.Path.{_≡_}
 use mathlib.Core.Logic.{_↔_}
 use mathlib.Core.Bool.{true, false}

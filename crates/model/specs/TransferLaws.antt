@@ -93,7 +93,7 @@ module _ {M L : Machine} (R : L .State → M .State → Type 0) (sim : Simulates
 
       splits : (k : Split) → SplitIs M k x → SplitIs L k s
       splits noSplit h = phase ∙ h
-      splits (since c m k) h =
+      splits (since r m k) h =
           rw phase (λ l. (h .0 l .0, λ e. h .0 l .1 (stops .0 e)), h .1, h .2)
 
 module _ {M L : Machine} (R : L .State → M .State → Type 0) (sim : Simulates M L R)

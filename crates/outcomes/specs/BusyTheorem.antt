@@ -19,27 +19,24 @@ use Rattle.model.specs.BusyTheorem.{busy-over}
 use Rattle.model.specs.BusyTransferLaws.{busy-beside}
 use Rattle.image.specs.Decode.{decode}
 use Rattle.image.specs.Rules.{lengthOk, sound, verdict}
-use Rattle.image.specs.BridgeTheorem.{sound-is-encoding, encoding-is-sound}
+use Rattle.image.specs.BridgeTheorem.{sound-is-encoding}
 use Rattle.image.specs.SoundStore.{Encodes}
 use Rattle.outcomes.specs.Outcomes.{stepOutcome, onStore}
-use Rattle.outcomes.specs.OutcomeIndexLaws.{step-alike}
+use Rattle.outcomes.specs.OutcomeIndexLaws.{encodes-read, step-alike}
 use Rattle.outcomes.specs.OutcomeMachineLaws.{simulates}
 
-reads : (s : List ℕ) (x : Index) → Encodes s x → decode s ≡ x
-reads s x r = ap decode (r .1) ∙ encoding-is-sound x (r .0) .read
-
--- a sound store s without a job, its pairs as a book, a begin from s to t, and k own steps more
+-- a sound store s without a job, a begin from s to t, and the pairs that s holds as a book
 pub store-over : (s t : List ℕ) (x : Index) → Bytes s → lengthOk s ≡ true → verdict s ≡ sound x
     → x .job ≡ idle → stepOutcome s ≡ next t
     → (bk : Book) → ascending self bk ≡ true → ((p : Pair) → has bk p ≡ held x p)
     → {k l : ℕ} {u : List ℕ} → Busy onStore decode t k l u
-    → OverIs onStore decode (movers (suc (x .maxBucket)) bk) (suc k) l u
+    → OverIs onStore decode (movers (suc (x .maxBucket)) bk) k l u
 store-over s t x bytes legal sounds j h bk a e {u = u} b =
     let r = sound-is-encoding s x bytes legal sounds in
     let g = alike-next Encodes (stepOutcome s) (step x) t (step-alike ofSplits s x (r .wf, r .bytes)) h in
-    let p = busy-beside Encodes simulates (λ y. y) decode reads (g .related) b in
+    let p = busy-beside Encodes simulates (λ y. y) decode encodes-read (g .related) b in
     let o = busy-over x (g .state) (r .wf) j (g .goes) bk a e (p .busy) in
-    let d : decode u ≡ p .state = reads u (p .state) (p .related) in
+    let d : decode u ≡ p .state = encodes-read u (p .state) (p .related) in
     record {
       most = o .most;
       over = (

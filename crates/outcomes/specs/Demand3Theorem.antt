@@ -1,7 +1,7 @@
 -- DEMAND 3 holds of byte stores, over every list of calls; the index that a store shows is the one that it is read as.
 -- The claim is in Demand.antt of crate `model`, its proof for the index as a value in Demand3Theorem.antt there; a
 -- store does as its index does (OutcomeMachineLaws.antt).
-use mathlib.Core.Path.{_≡_, ap, _∙_}
+use mathlib.Core.Path.{_≡_}
 use mathlib.Core.Bool.{true}
 use mathlib.Core.List.{List, _∷_}
 use Prim.Native.Nat.{ℕ}
@@ -15,15 +15,14 @@ use Rattle.model.specs.Demand3Theorem.{demand3}
 use Rattle.model.specs.TransferLaws.{transfer}
 use Rattle.image.specs.Decode.{decode}
 use Rattle.outcomes.specs.Outcomes.{runStore, onStore}
-use Rattle.image.specs.BridgeTheorem.{encoding-is-sound}
 use Rattle.image.specs.SoundStore.{Encodes, StaysSound}
+use Rattle.outcomes.specs.OutcomeIndexLaws.{encodes-read}
 use Rattle.outcomes.specs.OutcomeSoundLaws.{format-sound}
 use Rattle.outcomes.specs.OutcomeMachineLaws.{simulates}
 use Rattle.outcomes.specs.OutcomeHistoryLaws.{keeps-call, keeps-step}
 
 pub demand3-stores : Demand3 onStore decode
-demand3-stores =
-    transfer Encodes simulates (λ x. x) decode (λ s x r. ap decode (r .1) ∙ encoding-is-sound x (r .0) .read) demand3
+demand3-stores = transfer Encodes simulates (λ x. x) decode encodes-read demand3
 
 -- the store that format leaves, and every store of the list, is sound and as long as the first
 pub history-length : (s : List ℕ) (o : Order) → CallFits (formatting o)

@@ -26,6 +26,7 @@ use Rattle.model.specs.WellFormed.{WF}
 use Rattle.model.specs.KindLaws.{kind-wf}
 use Rattle.model.specs.SimulationLaws.{Alike, iterate-alike}
 use Rattle.image.specs.Layout.{encode}
+use Rattle.image.specs.Decode.{decode}
 use Rattle.image.specs.Rules.{sound}
 use Rattle.outcomes.specs.Outcomes.{Tested, passed, failed, tested, Changed, inUseOn, storeInUse, changed}
 use Rattle.image.specs.Rules.{lengthOk}
@@ -37,6 +38,10 @@ use Rattle.outcomes.specs.Outcomes.{squeezeOutcome, runStore, stepStore}
 use Rattle.image.specs.SoundStore.{Encodes}
 use Rattle.image.specs.BridgeTheorem.{encoding-is-sound}
 use Rattle.outcomes.specs.OutcomeLaws.{tested-number, tested-verdict, step-read, bucket-passes}
+
+-- a store is read as the index whose bytes it is
+pub encodes-read : (s : List ℕ) (x : Index) → Encodes s x → decode s ≡ x
+encodes-read s x r = ap decode (r .1) ∙ encoding-is-sound x (r .0) .read
 
 module _ (x : Index) (w : WF x) where
   pub tested-encode : tested true (encode x) ≡ passed x

@@ -16,19 +16,14 @@ use Rattle.model.specs.Steps.{Step, next, stopped, step, iterate}
 use Rattle.model.specs.Calls.{phaseIn, standing}
 use Rattle.model.specs.History.{phaseAt}
 use Rattle.model.specs.Room.{NoStep}
+use Rattle.model.specs.PhaseLaws.{jobIn}
 use Rattle.model.specs.RoomLaws.{step-noRoom}
 use Rattle.model.specs.MachineLaws.{never, job-stops}
 use Rattle.image.specs.Decode.{decode}
-use Rattle.image.specs.BridgeTheorem.{encoding-is-sound}
 use Rattle.outcomes.specs.Outcomes.{Tested, passed, failed, tested, standingOn, standingOutcome, stepOn}
 use Rattle.outcomes.specs.Outcomes.{stepOutcome, workOn, workOutcome, runStore, onStore}
+use Rattle.outcomes.specs.OutcomeIndexLaws.{encodes-read}
 use Rattle.outcomes.specs.OutcomeSoundLaws.{passed-encodes}
-
--- the job of a phase
-abbrev pub jobIn : Phase → Job
-jobIn Phase.None = idle
-jobIn (Phase.Copying old new) = copying
-jobIn (Phase.Clearing old new) = clearing
 
 -- a store's step stops exactly as its index's
 pub step-stops : (s : List ℕ) (r : Stop) → (stepOutcome s ≡ stopped r) ↔ (step (decode s) ≡ stopped r)
@@ -61,8 +56,7 @@ module _ (s : List ℕ) (bytes : Bytes s) where
       go : (t : Tested) → tested true s ≡ t → standingOf (standingOn t) .phase ≡ ph → InJob (jobIn ph) (phaseNew ph)
       go (failed r) k h = absurd (ne (sym h))
       go (passed x) k h =
-          let r = passed-encodes s bytes true x k in
-          let d : decode s ≡ x = ap decode (r .1) ∙ encoding-is-sound x (r .0) .read in
+          let d : decode s ≡ x = encodes-read s x (passed-encodes s bytes true x k) in
           let q = of (x .job) (oldBucket x) (newBucket x) h in
           record {
             passes = k ∙ ap passed (sym d);

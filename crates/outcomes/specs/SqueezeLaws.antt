@@ -31,7 +31,7 @@ use Rattle.image.specs.BridgeTheorem.{encoding-is-sound}
 use Rattle.outcomes.specs.Outcomes.{Tested, passed, failed, tested, lookupOutcome, standingOutcome, WorkDone}
 use Rattle.outcomes.specs.Outcomes.{workOn, unlessRefused, bucketTested, squeezeStepOutcome, squeezeOutcome}
 use Rattle.outcomes.specs.OutcomeLaws.{passed-numbers}
-use Rattle.outcomes.specs.OutcomeIndexLaws.{lookup-encode, standing-encode, squeeze-encode}
+use Rattle.outcomes.specs.OutcomeIndexLaws.{encodes-read, lookup-encode, standing-encode, squeeze-encode}
 use Rattle.outcomes.specs.OutcomeSoundLaws.{passed-encodes}
 
 -- ---- the index
@@ -114,7 +114,7 @@ module _ (s : List ℕ) (bytes : Bytes s) (b budget : ℕ) where
             store = encode (squeeze b budget x .state);
           } =
           ap (λ (t : List ℕ). squeezeOutcome t b budget) h ∙ squeeze-encode x w b budget n f in
-          let d : decode s ≡ x = ap decode h ∙ encoding-is-sound x w .read in
+          let d : decode s ≡ x = encodes-read s x (w, h) in
           let all = squeeze-all b budget x w in
           let y : Index = squeeze b budget x .state in
           let t = ap (λ (c : WorkDone). c .store) q in

@@ -1,5 +1,5 @@
 -- What a step is, by the job and by what its tests find; and what a planned put comes to as a step.
-use mathlib.Core.Path.{_≡_, refl, sym, ap, _∙_, subst}
+use mathlib.Core.Path.{_≡_, sym, ap, _∙_, subst}
 use mathlib.Core.Bool.{Bool, true, false}
 use mathlib.Core.List.{List}
 use mathlib.Core.Option.{Option}
@@ -12,11 +12,11 @@ use Rattle.model.specs.declared.Phase.{Phase}
 use Rattle.model.specs.Index.{Job, idle, copying, clearing, Index, entriesAt, newBucket, oldBucket}
 use Rattle.model.specs.Held.{wanted}
 use Rattle.model.specs.Steps.{Step, stopped, orFull, begin, moves, toCopy, copyIn, clearIn, stepIn, step}
-use Rattle.model.specs.Calls.{phaseIn}
+use Rattle.model.specs.PhaseLaws.{jobIn, job-phase}
 use Rattle.reader.specs.Job.{phaseOf}
 use Rattle.plan.specs.declared.Advance.{Advance}
 use Rattle.plan.specs.Plan.{Advances, advanced, halted, Places, placed, full}
-use Rattle.split.specs.Step.{jobIn, advanceOf}
+use Rattle.split.specs.Step.{advanceOf}
 
 -- ---- the step of an index
 
@@ -41,12 +41,7 @@ module _ (x : Index) where
 
 -- the job, by the phase that is read
 pub job-at : (x : Index) (p : Phase) → p ≡ phaseOf x → x .job ≡ jobIn p
-job-at x p e = sym (ap jobIn e ∙ go (x .job))
-  where
-    go : (j : Job) → jobIn (phaseIn j (oldBucket x) (newBucket x)) ≡ j
-    go idle = refl
-    go copying = refl
-    go clearing = refl
+job-at x p e = sym (ap jobIn e ∙ job-phase (x .job) (oldBucket x) (newBucket x))
 
 -- ---- its plan
 

@@ -188,9 +188,9 @@ pub enum Stop {
     Spent,
     /// 7: the next step has no room. Never of a squeeze, nor of a split's clearing.
     ///
-    /// A begin needs the blocks of the new buckets. A copying step needs, while there is a pair to copy, room on a page
-    /// of the new bucket's chain, a free page or a new one, and is made once there is: removals may make room, and a
-    /// squeeze of another bucket may free a page.
+    /// A begin may need new blocks, for its bucket and others to come. A copying step needs, while there is a pair to
+    /// copy, room on a page of the new bucket's chain, a free page or a new one, and is made once there is: removals
+    /// may make room, and a squeeze of another bucket may free a page.
     NoRoom,
     /// 9: there is no step left: of work no job, and no split is wanted; of a squeeze no earlier page has room.
     Idle,

@@ -1,16 +1,13 @@
 //! Busy hours (request 2026-12): a split's own steps with inserts, removals, lookups and squeezes of other buckets
-//! between them; copying that stops for room, and what mends that; clearing, which never does.
+//! between them, counted against 2m + 3 and what removals saved.
 
 use compare::book::{bucket, saving, Book, Tally};
 use compare::build::found;
-use compare::chains::{free_pages, overflow};
 use compare::lists::{Call, Pair};
 use compare::random::Random;
 use compare::side::Reply;
-use compare::stores::{copying_one_code, wanting};
+use compare::stores::wanting;
 use compare::twin::Twin;
-
-const MOST: u32 = 65_535;
 
 /// Makes up the calls that come between two steps of a split from a store in which it is under way.
 struct Between {
@@ -21,10 +18,19 @@ struct Between {
 }
 
 impl Between {
-    fn call(&mut self, store: &[u8], buckets: u32) -> Call {
-        let random = &mut self.random;
+    /// A pair that stands in a store.
+    fn pair(&mut self, store: &[u8]) -> Pair {
         let pairs: Vec<Pair> = found(store).map(|entry| entry.pair).collect();
-        let pair = if pairs.is_empty() { (7, 7, 7) } else { random.pick(&pairs) };
+        if pairs.is_empty() {
+            (7, 7, 7)
+        } else {
+            self.random.pick(&pairs)
+        }
+    }
+
+    fn call(&mut self, store: &[u8], buckets: u32) -> Call {
+        let pair = self.pair(store);
+        let random = &mut self.random;
         match random.below(20) {
             n if n < self.inserts => {
                 // Under a code in use or one beside it, so that both buckets of the split get some.
@@ -45,8 +51,9 @@ struct Seen {
     mended: u32,
 }
 
-/// Works on until no split is wanted, or so many are over, each step with up to `most` calls before it. A step that
-/// stops for room is tried again after a removal. The book counts own steps against 2m + 3, and what removals saved.
+/// Works on until so many splits are over, none is wanted or a begin finds no room, each step with up to `most` calls
+/// before it. A copying step that stops for room is tried again after a removal. The book counts own steps against
+/// 2m + 3, and what removals saved.
 fn busy(mut twin: Twin, mut book: Book, between: &mut Between, most: u32, splits: u32, seen: &mut Seen) {
     book.tally = seen.tally;
     let mut random = Random::new(28_000);
@@ -66,8 +73,7 @@ fn busy(mut twin: Twin, mut book: Book, between: &mut Between, most: u32, splits
             (0, 7) if twin.standing().1.phase == 0 => break,
             (0, 7) => {
                 assert_eq!(twin.standing().1.phase, 1, "{}: a clearing step stopped for room", twin.label);
-                let pairs: Vec<Pair> = found(twin.bytes()).map(|entry| entry.pair).collect();
-                let pair = between.random.pick(&pairs);
+                let pair = between.pair(twin.bytes());
                 book.call(&mut twin, Call::Remove(pair), &mut random);
                 stopped = true;
             }
@@ -119,7 +125,7 @@ fn busy_lists_without_room() {
     assert!(tally.disturbed > 5 && tally.between > 20 && seen.mended > 10, "{seen:?}");
 }
 
-/// Nothing but inserts and lookups between the steps: the split takes all its 2m + 3 steps.
+/// Inserts, lookups and squeezes between the steps, and no removal: the split takes all its 2m + 3 steps.
 #[test]
 fn inserts_alone() {
     let mut seen = Seen::default();
@@ -163,127 +169,4 @@ fn long_busy_splits() {
         let saved = long_split(blocks, &mut Between { random, inserts, removals }, most);
         assert_eq!(saved > 0, removals > 0, "N {blocks}: {saved} steps saved");
     }
-}
-
-/// The pairs that stand, marked moved, in the last bucket.
-fn copies(twin: &Twin) -> Vec<Pair> {
-    let new = twin.standing().1.new;
-    found(twin.bytes()).filter(|entry| entry.moved && entry.bucket == new).map(|entry| entry.pair).collect()
-}
-
-/// A store in whose last blocks the split that it wants begins: bucket 0 has `movers` pairs, which all go to bucket 2,
-/// and bucket 1 has `others`.
-fn full(movers: u32, others: u32) -> Twin {
-    let pages: u32 = [movers, others].iter().map(|pairs| pairs.div_ceil(40) - 1).sum();
-    let label = format!("{movers} pairs move, {others} do not");
-    let mut twin = Twin::new(vec![0; 512 * (6 + pages as usize)], label);
-    assert!(twin.format(40, 12, 0).done());
-    let pairs = (0..movers).map(|i| (4 * i + 2, i)).chain((0..others).map(|i| (4 * i + 1, i)));
-    for (hash, block) in pairs {
-        assert!(twin.insert(hash, block, 1).done(), "{}", twin.label);
-    }
-    twin
-}
-
-/// The same, worked on until it stops for room: 40 of 60 pairs are copied.
-fn stopped(others: u32) -> Twin {
-    let mut twin = full(60, others);
-    assert_eq!(twin.work(MOST), Reply::worked(1 + 40, 7), "{}", twin.label);
-    assert_eq!((twin.work(MOST), twin.work(1)), (Reply::worked(0, 7), Reply::worked(0, 7)), "{}", twin.label);
-    assert_eq!(twin.insert(1002, 1, 1), Reply::refused(7, 0), "{}", twin.label);
-    twin
-}
-
-/// What a split with 60 pairs to move takes in all.
-const ALL: u32 = 2 * 60 + 3;
-
-/// "A page is free again": the removal of the only pair on another bucket's overflow page.
-#[test]
-fn a_page_freed_by_a_removal() {
-    let mut twin = stopped(41);
-    assert!(twin.remove(4 * 40 + 1, 40, 1).done());
-    assert_eq!((free_pages(twin.bytes()), overflow(twin.bytes(), 2)), (1, 0));
-    assert_eq!(twin.work(1), Reply::worked(1, 0));
-    assert_eq!((free_pages(twin.bytes()), overflow(twin.bytes(), 2)), (0, 1));
-    assert_eq!(twin.work(MOST), Reply::worked(ALL - 41 - 1, 9));
-}
-
-/// The same by a squeeze of another bucket, which is none of the split's steps.
-#[test]
-fn a_page_freed_by_a_squeeze() {
-    let mut twin = full(60, 41);
-    assert!(twin.remove(1, 0, 1).done());
-    assert_eq!(twin.work(MOST), Reply::worked(41, 7));
-    assert_eq!([0, 2].map(|bucket| twin.squeeze(bucket, 9)), [Reply::refused(11, 0); 2]);
-    assert_eq!(twin.squeeze(1, 9), Reply::worked(1, 9));
-    assert_eq!(twin.work(MOST), Reply::worked(ALL - 41, 9));
-}
-
-/// "A page of the new bucket's chain has room": after the removal of a pair that has a copy, which saves a step.
-#[test]
-fn room_on_a_page_of_the_new_chain() {
-    let mut twin = stopped(41);
-    let mut steps = 41;
-    for _ in 0..20 {
-        let (hash, block, offset) = copies(&twin)[0];
-        assert!(twin.remove(hash, block, offset).done());
-        assert_eq!(twin.work(1), Reply::worked(1, 0));
-        steps += 1;
-    }
-    assert_eq!(twin.work(MOST), Reply::worked(ALL - 20 - steps, 9));
-}
-
-/// The removal of a pair that has no copy yet makes no room, but saves two steps. With none left to copy the copying
-/// ends without room.
-#[test]
-fn nothing_left_to_copy() {
-    let mut twin = stopped(41);
-    let copied = copies(&twin);
-    let movers = found(twin.bytes()).filter(|entry| entry.bucket == 0).map(|entry| entry.pair);
-    let uncopied: Vec<Pair> = movers.filter(|pair| !copied.contains(pair)).collect();
-    assert_eq!(uncopied.len(), 20);
-    for (hash, block, offset) in uncopied {
-        assert_eq!(twin.work(1), Reply::worked(0, 7));
-        assert!(twin.remove(hash, block, offset).done());
-    }
-    assert_eq!(twin.work(MOST), Reply::worked(ALL - 2 * 20 - 41, 9));
-}
-
-/// The end of the copying, and the clearing, on a store that has room for no pair of either bucket.
-#[test]
-fn clearing_needs_no_room() {
-    let mut twin = full(40, 41);
-    assert_eq!(twin.work(1 + 40), Reply::worked(1 + 40, 0));
-    let none = Reply::refused(7, 0);
-    assert_eq!([1004, 1002].map(|hash| twin.insert(hash, 1, 1)), [none; 2]);
-    assert_eq!((twin.work(1), twin.standing().1.phase), (Reply::worked(1, 0), 2));
-    assert_eq!([1004, 1002].map(|hash| twin.insert(hash, 1, 1)), [none; 2]);
-    for _ in 0..40 {
-        assert_eq!((twin.work(1), twin.standing().1.phase), (Reply::worked(1, 0), 2));
-    }
-    assert_eq!(twin.work(MOST), Reply::worked(1, 9));
-}
-
-/// A long copying job that finds room for 480 more copies and then stops, with 416 to make. Removals of pairs that have
-/// copies make room for as many others; with enough of them work goes on, to the end of the job, after which there is no
-/// room for the next one to begin.
-#[test]
-fn room_in_a_long_chain() {
-    let mut twin = Twin::new(copying_one_code(108), "one code");
-    let mut random = Random::new(12_000);
-    let before = copies(&twin).len();
-    assert_eq!(twin.work(MOST), Reply::worked(480, 7));
-    assert_eq!((copies(&twin).len(), twin.standing().1.phase), (before + 480, 1));
-    assert_eq!(twin.work(MOST), Reply::worked(0, 7));
-    let rest = Reply::worked(412 + 1 + 1376 + 1, 7);
-    for (removals, reply) in [(1, Reply::worked(1, 7)), (3, Reply::worked(3, 7)), (412, rest)] {
-        let mut pairs = copies(&twin);
-        random.shuffle(&mut pairs);
-        for &(hash, block, offset) in &pairs[..removals] {
-            assert!(twin.remove(hash, block, offset).done());
-        }
-        assert_eq!(twin.work(MOST), reply, "{removals} removals");
-        assert!(twin.verify().done());
-    }
-    assert_eq!(twin.standing().1.phase, 0);
 }
