@@ -49,6 +49,9 @@ pub data Running (x : Index) : Effect → Ran Index → Type 0 where
   works : {kind : Kind} {budget : ℕ} {r : Reply} → accepted r ≡ true
       → Running x (hasSteps kind budget) (record { reply = r; state = iterate (stepIndex kind) budget x .state })
 
+refused-running : {e : Effect} (x : Index) (q : Refusal) → Running x e (settled x (refused q))
+refused-running x q = refuses (refused-no q)
+
 pub run-view : (c : Call) → CallFits c → (x : Index) → Running x (effect c) (runIndex c x)
 unfolding runIndex formatted work squeeze bucketTest
 run-view (formatting o) fits x = go (sizeOk (x .size)) (formatOk o) (not (overwrites o) && inUse x) refl refl
@@ -56,19 +59,19 @@ run-view (formatting o) fits x = go (sizeOk (x .size)) (formatOk o) (not (overwr
     go : (s f p : Bool) → sizeOk (x .size) ≡ s → formatOk o ≡ f
         → Running x (empties o) (settled x (formatIn s f p (format (x .size) o)))
     go true true false e k = formats fits e k
-    go true true true e k = refuses refl
-    go true false p e k = refuses refl
-    go false f p e k = refuses refl
+    go true true true e k = refused-running x Refusal.InUse
+    go true false p e k = refused-running x Refusal.Number
+    go false f p e k = refused-running x Refusal.Length
 run-view (inserting p) fits x = go (insert x p) refl
   where
     go : (r : Result) → insert x p ≡ r → Running x (puts p) (settled x r)
     go (done y) e = inserts fits e
-    go (refused q) e = refuses (refused-no q)
+    go (refused q) e = refused-running x q
 run-view (removing p) fits x = go (remove x p) refl
   where
     go : (r : Result) → remove x p ≡ r → Running x (takes p) (settled x r)
     go (done y) e = removes e
-    go (refused q) e = refuses (refused-no q)
+    go (refused q) e = refused-running x q
 run-view (looking h out) fits x = reads
 run-view (working budget) fits x = go (budgetOk budget)
   where
