@@ -21,7 +21,7 @@ use Rattle.model.specs.RunLaws.{run-wf}
 use Rattle.model.specs.Busy.{Busy, begun, steps, calls, OverIs}
 use Rattle.model.specs.BusyLaws.{call-stepsLeft}
 
--- an index as its own
+-- of the index as a machine, whose states are the indexes that they show
 abbrev pub BusyIndex : Index → (own savings : ℕ) → Index → Type 0
 BusyIndex = Busy onIndex (λ x. x)
 

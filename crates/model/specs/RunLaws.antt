@@ -49,6 +49,7 @@ pub data Running (x : Index) : Effect → Ran Index → Type 0 where
   works : {kind : Kind} {budget : ℕ} {r : Reply} → accepted r ≡ true
       → Running x (hasSteps kind budget) (record { reply = r; state = iterate (stepIndex kind) budget x .state })
 
+-- a refused format, insert or removal
 refused-running : {e : Effect} (x : Index) (q : Refusal) → Running x e (settled x (refused q))
 refused-running x q = refuses (refused-no q)
 

@@ -14,11 +14,11 @@ use Rattle.model.specs.Book.{effect, numberAfter}
 use Rattle.model.specs.FormatLaws.{format-wf}
 use Rattle.model.specs.NumberLaws.{number-run}
 use Rattle.model.specs.MachineLaws.{never}
+use Rattle.model.specs.RunLaws.{run-wf}
 use Rattle.image.specs.EncodeLaws.{number-encode}
 use Rattle.outcomes.specs.Outcomes.{passed, tested, runStore}
 use Rattle.outcomes.specs.Refusals.{callNumbersOk}
 use Rattle.outcomes.specs.OutcomeLaws.{StoreRun, refuses, formats, reads, accepts, store-view}
-use Rattle.model.specs.RunLaws.{run-wf}
 use Rattle.outcomes.specs.OutcomeIndexLaws.{run-encode}
 use Rattle.outcomes.specs.OutcomeSoundLaws.{legal-size, passed-encodes}
 

@@ -16,7 +16,7 @@ use Rattle.model.specs.Steps.{Step, next, stopped, step, iterate}
 use Rattle.model.specs.Calls.{phaseIn, standing}
 use Rattle.model.specs.History.{phaseAt}
 use Rattle.model.specs.Room.{NoStep}
-use Rattle.model.specs.PhaseLaws.{jobIn}
+use Rattle.model.specs.PhaseLaws.{jobIn, job-phase}
 use Rattle.model.specs.RoomLaws.{step-noRoom}
 use Rattle.model.specs.MachineLaws.{never, job-stops}
 use Rattle.image.specs.Decode.{decode}
@@ -48,20 +48,19 @@ module _ (s : List ℕ) (bytes : Bytes s) where
   unfolding runStore standingOutcome standing
   phase-read ph e ne = go (tested true s) refl e
     where
-      of : (j : Job) (o n : ℕ) → phaseIn j o n ≡ ph → (j ≡ jobIn ph) × (n ≡ phaseNew ph)
-      of idle o n h = absurd (ne (sym h))
-      of copying o n h = (ap jobIn h, ap phaseNew h)
-      of clearing o n h = (ap jobIn h, ap phaseNew h)
+      new-in : (j : Job) (o n : ℕ) → phaseIn j o n ≡ ph → n ≡ phaseNew ph
+      new-in idle o n h = absurd (ne (sym h))
+      new-in copying o n h = ap phaseNew h
+      new-in clearing o n h = ap phaseNew h
 
       go : (t : Tested) → tested true s ≡ t → standingOf (standingOn t) .phase ≡ ph → InJob (jobIn ph) (phaseNew ph)
       go (failed r) k h = absurd (ne (sym h))
       go (passed x) k h =
           let d : decode s ≡ x = encodes-read s x (passed-encodes s bytes true x k) in
-          let q = of (x .job) (oldBucket x) (newBucket x) h in
           record {
             passes = k ∙ ap passed (sym d);
-            job = ap (λ (y : Index). y .job) d ∙ q .0;
-            newest = ap newBucket d ∙ q .1;
+            job = ap (λ (y : Index). y .job) d ∙ sym (job-phase (x .job) (oldBucket x) (newBucket x)) ∙ ap jobIn h;
+            newest = ap newBucket d ∙ new-in (x .job) (oldBucket x) (newBucket x) h;
           }
 
   -- ---- the first step of a work call
