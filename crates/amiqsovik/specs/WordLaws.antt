@@ -10,6 +10,7 @@ use lib.ListN.{length}
 use Rattle.model.specs.declared.Refusal.{Refusal}
 use Rattle.model.specs.declared.Refusal.the-variants.{Length, Number, Damaged, NotIndex}
 use Rattle.model.specs.declared.Refusal.the-variants.{HeldAlready, NotHeld, NoRoom, OutputShort, Busy, InUse}
+use Rattle.model.specs.declared.Refusal.the-variants.{JournalLength, Pending}
 use Rattle.model.specs.declared.Answer.{Answer}
 use Rattle.model.specs.declared.LookupAnswer.{LookupAnswer}
 use Rattle.model.specs.declared.Stop.{Stop}
@@ -47,6 +48,8 @@ refusal-small NoRoom = omega arith
 refusal-small (OutputShort matches) = omega arith
 refusal-small Busy = omega arith
 refusal-small InUse = omega arith
+refusal-small JournalLength = omega arith
+refusal-small Pending = omega arith
 
 pub stop-small : (s : Stop) → stopNo s ≤ 255
 stop-small Stop.Spent = omega arith

@@ -3,7 +3,8 @@ use Prim.Native.Nat.{ℕ}
 use lib.IntN.{pos}
 use Rattle.model.specs.declared.Refusal.{Refusal}
 use Rattle.model.specs.declared.Refusal.the-variants.{Length, Number, Damaged, NotIndex, HeldAlready, NotHeld}
-use Rattle.model.specs.declared.Refusal.the-variants.{NoRoom, OutputShort, Busy, InUse}
+use Rattle.model.specs.declared.Refusal.the-variants.{NoRoom, OutputShort, Busy, InUse, JournalLength}
+use Rattle.model.specs.declared.Refusal.the-variants.{Pending}
 use Rattle.model.specs.declared.Answer.{Answer}
 use Rattle.model.specs.declared.LookupAnswer.{LookupAnswer}
 use Rattle.model.specs.declared.Stop.{Stop}
@@ -24,6 +25,8 @@ refusalNo NoRoom = 7
 refusalNo (OutputShort matches) = 8
 refusalNo Busy = 11
 refusalNo InUse = 12
+refusalNo JournalLength = 13
+refusalNo Pending = 14
 
 -- its column "Gives besides"
 abbrev pub refusalGives : Refusal → ℕ
@@ -37,6 +40,8 @@ refusalGives NoRoom = 0
 refusalGives (OutputShort matches) = matches
 refusalGives Busy = 0
 refusalGives InUse = 0
+refusalGives JournalLength = 0
+refusalGives Pending = 0
 
 abbrev pub answerNo : Answer → ℕ
 answerNo Answer.Done = 0

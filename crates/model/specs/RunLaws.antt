@@ -36,6 +36,8 @@ refused-no Refusal.NoRoom = refl
 refused-no (Refusal.OutputShort n) = refl
 refused-no Refusal.Busy = refl
 refused-no Refusal.InUse = refl
+refused-no Refusal.JournalLength = refl
+refused-no Refusal.Pending = refl
 
 pub data Running (x : Index) : Effect → Ran Index → Type 0 where
   refuses : {e : Effect} {r : Reply} → accepted r ≡ false → Running x e (record { reply = r; state = x })

@@ -21,6 +21,8 @@ pub enum Refusal {
     OutputShort { matches: u32 },
     Busy,
     InUse,
+    JournalLength,
+    Pending,
 }
 
 // The answer of format, insert and remove, and of the call that says whether a store is in use.
@@ -63,5 +65,21 @@ pub struct Standing {
 
 pub enum StandingAnswer {
     Stands(Standing),
+    Refused(Refusal),
+}
+
+// Where a block lies: in the journal or in the store, and its number there. `Short` is the answer to a plan that is
+// lent too few bytes.
+pub enum PlaceAnswer {
+    At { journal: bool, block: u32 },
+    Short,
+    Refused(Refusal),
+}
+
+// The plan of a change: the number of its block stores; or, of a step, why there is none.
+pub enum PlanAnswer {
+    Planned { stores: u32 },
+    Stopped(Stop),
+    Short,
     Refused(Refusal),
 }

@@ -19,6 +19,8 @@ pub fn refusal_number(refusal: Refusal) -> u32
         Refusal::OutputShort { matches: _ } => 8,
         Refusal::Busy => 11,
         Refusal::InUse => 12,
+        Refusal::JournalLength => 13,
+        Refusal::Pending => 14,
     }
 }
 
@@ -37,6 +39,8 @@ pub fn refusal_gives(refusal: Refusal) -> u32
         Refusal::NoRoom => 0,
         Refusal::Busy => 0,
         Refusal::InUse => 0,
+        Refusal::JournalLength => 0,
+        Refusal::Pending => 0,
     }
 }
 

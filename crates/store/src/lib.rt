@@ -111,7 +111,7 @@ pub fn check_block(part: &[u8], number: u32, k: u32) -> bool
 }
 
 // Writes a block's check.
-fn seal_block(image: &mut [u8], number: u32, k: u32)
+pub fn seal_block(image: &mut [u8], number: u32, k: u32)
     requires { ⌜ length (now image) ≡ 512 ⌝ }
     ensures { λ _. ⌜ now (image .exit) ≡ sealed number k (now (image .entry)) ⌝ }
 {
@@ -137,7 +137,7 @@ fn seal_one(images: &mut [u8], n: usize, number: u32, k: u32)
 }
 
 // Writes the checks of a change's images.
-fn seal_change(change: Change, images: &mut [u8], number: u32)
+pub fn seal_change(change: Change, images: &mut [u8], number: u32)
     requires { ⌜ (change .count ≤ 8) × (length (now images) ≡ 4096) ⌝ }
     ensures { λ _. ⌜ now (images .exit) ≡ seals number (change .numbers) (now (images .entry)) (change .count) ⌝ }
 {
