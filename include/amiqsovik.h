@@ -3,23 +3,23 @@
  *
  * An index is a store: one byte array of N blocks of 512 bytes, N from 4 to 1,024, that the caller owns. It holds
  * pairs of a 32-bit hash code and a reading's place: a block number (32 bits) and an offset (16 bits). A pair is
- * held once or not at all.
+ * held once or not at all. Beside it is a journal: an array of 16 blocks, for power cuts (below).
  *
  * What holds of every call:
  *
  * - Any bytes and any numbers may be handed in. Each call ends, and answers one 64-bit word (below).
  * - Only the bytes of the arrays that are handed in are read, and only those of arrays that are not const are
- *   written. Nothing is allocated, and no state is kept from call to call: the store's bytes are all there is. The
+ *   written. Nothing is allocated, and no state is kept from call to call: the arrays' bytes are all there is. The
  *   library needs memcpy, memmove and memset of the host, and nothing else.
  * - A call takes at most 64 KiB of stack. That is not proved: rust/compare/tests/stack.rs measures it.
  * - An array is a pointer and its length in bytes. It needs no alignment. With length 0 the pointer may be NULL and
  *   is not followed. With any other length it points to that many bytes, all of them initialised.
  * - Two arrays of one call must not overlap. While a call runs, nobody else writes to its arrays, and nobody else
  *   reads those that are not const. Calls on different arrays may run at the same time.
- * - A refused call writes nothing: the store, the output and the result stay as they were.
+ * - A refused call writes nothing: store, journal, output, result and plan stay as they were.
  *
  * Each call's answer and the bytes afterwards are proved equal to what a definition gives, for all inputs:
- * crates/amiqsovik/src/lib.rt. That this header fits those functions is not proved.
+ * crates/amiqsovik/src. That this header fits those functions is not proved.
  */
 #ifndef AMIQSOVIK_H
 #define AMIQSOVIK_H
@@ -35,20 +35,22 @@ extern "C" {
  * quicker (request 2026-02); 2.0.0 has a store number (request 2026-03); 3.0.0 formats no store in use unless told to
  * overwrite, and has amiqsovik_in_use (request 2026-04); 3.1.0 takes stores of 129 to 1,024 blocks (request 2026-09);
  * 3.1.1 finds pairs in long chains quicker (request 2026-10); 3.2.0 has amiqsovik_squeeze (request 2026-01); 3.2.1
- * promises that splits finish in busy hours (request 2026-12), which they did before.
+ * promises that splits finish in busy hours (request 2026-12), which they did before; 4.0.0 has a journal, which
+ * insert, remove, work and squeeze take (request 2026-05).
  * The first number goes up when a program that was right may have to change: a call's arguments, the answer to a call
  * that was accepted, the bytes of a store. The second goes up when calls are added, or take what they refused, the
  * third when neither is so.
  *
- * The bytes of stores are the same since 2.0.0; before 3.1.0 more than 128 blocks are LENGTH. A store that was sound
- * for 1.0.0 or 1.0.1 is DAMAGED since then, with block 0: the old check of that block is never the new one. No call
- * converts it: a host formats a new store and inserts the pairs again, from its own records. It is not IN_USE either:
- * format takes it without a word. */
-#define AMIQSOVIK_VERSION_MAJOR 3
-#define AMIQSOVIK_VERSION_MINOR 2
-#define AMIQSOVIK_VERSION_PATCH 1
+ * The bytes of stores are the same since 2.0.0; before 3.1.0 more than 128 blocks are LENGTH. A store made before 4.0.0
+ * is taken with a new, wiped journal, but what is promised of cuts starts at a format. A store that was sound for 1.0.0
+ * or 1.0.1 is DAMAGED since then, with block 0: the old check of that block is never the new one. No call converts it:
+ * a host formats a new store and inserts the pairs again, from its own records. It is not IN_USE either: format takes
+ * it without a word. */
+#define AMIQSOVIK_VERSION_MAJOR 4
+#define AMIQSOVIK_VERSION_MINOR 0
+#define AMIQSOVIK_VERSION_PATCH 0
 #define AMIQSOVIK_VERSION (AMIQSOVIK_VERSION_MAJOR * 10000 + AMIQSOVIK_VERSION_MINOR * 100 + AMIQSOVIK_VERSION_PATCH)
-#define AMIQSOVIK_VERSION_TEXT "3.2.1"
+#define AMIQSOVIK_VERSION_TEXT "4.0.0"
 
 /* A word that nobody looks at may be a refusal: compilers that can do so warn. */
 #if defined(__GNUC__)
@@ -71,20 +73,23 @@ extern "C" {
 #define AMIQSOVIK_MAX_BLOCKS 1024
 #define AMIQSOVIK_MATCH_BYTES 6   /* a match in the output of a lookup */
 #define AMIQSOVIK_RESULT_BYTES 28 /* what amiqsovik_standing writes */
+#define AMIQSOVIK_JOURNAL_BYTES 8192
+#define AMIQSOVIK_PLAN_BYTES 5632
 
-/* ---- The word that a call answers: bits 0..7 the number of the answer, bits 8..15 work's or squeeze's stop, bits
- * 16..31 work's or squeeze's steps, bits 32..63 what the answer gives besides. Stop and steps are 0 in the word of any
- * other call. */
+/* ---- The word that a call answers: bits 0..7 the number of the answer, bits 8..15 the stop of work or squeeze, or the
+ * part of look or do_store, bits 16..31 the steps of work or squeeze, bits 32..63 what the answer gives besides. Stop,
+ * part and steps are 0 in the word of any other call, but for the stop of their plans. */
 
 static inline uint32_t amiqsovik_number(uint64_t word) { return (uint32_t)(word & 0xFF); }
 static inline uint32_t amiqsovik_stop(uint64_t word) { return (uint32_t)(word >> 8 & 0xFF); }
+static inline uint32_t amiqsovik_part(uint64_t word) { return (uint32_t)(word >> 8 & 0xFF); }
 static inline uint32_t amiqsovik_steps(uint64_t word) { return (uint32_t)(word >> 16 & 0xFFFF); }
 static inline uint32_t amiqsovik_gives(uint64_t word) { return (uint32_t)(word >> 32); }
 
 /* The numbers of the answers, 0 to 8 as in document 01's table. What a number gives besides is 0 where nothing is
- * said of it. Where several fit, the call answers the first of 255, 1, 2, 3, 4, 8, 5 or 6, 7; format answers the first
- * of 1, 2, 12, and squeeze the first of 1, 2 (the budget), 3, 4, 2 (the bucket), 11. Later versions may have further
- * numbers: whatever is not DONE is a refusal. */
+ * said of it. Where several fit, the call answers the first of 255, 1, 13, 2, 14, 3, 4, 8, 5 or 6, 7; format answers
+ * the first of 1, 2, 12, and squeeze, or its plan, the first of 255, 1, 13, 2 (the budget), 14, 3, 4, 2 (the bucket),
+ * 11. Later versions may have further numbers: whatever is not DONE is a refusal. */
 #define AMIQSOVIK_DONE 0
 #define AMIQSOVIK_LENGTH 1         /* the store is not a multiple of 512 bytes, or N is outside 4..1024 */
 #define AMIQSOVIK_NUMBER 2         /* an argument is outside its range: see the calls */
@@ -96,7 +101,28 @@ static inline uint32_t amiqsovik_gives(uint64_t word) { return (uint32_t)(word >
 #define AMIQSOVIK_OUTPUT_SHORT 8   /* lookup: output_length / 6 is below the number of matches; gives that number */
 #define AMIQSOVIK_BUSY 11          /* squeeze: the bucket is the old or new one of a pending job. Request 2026-01 */
 #define AMIQSOVIK_IN_USE 12        /* format, in_use: the store is sound and holds pairs. Request 2026-04 */
-#define AMIQSOVIK_RESULT_SHORT 255 /* standing: result_length is below 28; gives 28. Not in document 01's table */
+#define AMIQSOVIK_JOURNAL_LENGTH 13 /* the journal is not 8,192 bytes. Request 2026-05 */
+#define AMIQSOVIK_PENDING 14       /* the journal's head is not wiped: recover first. Request 2026-05 */
+#define AMIQSOVIK_RESULT_SHORT 255 /* the result is below 28 bytes or the plan below 5,632; gives 28 or 5,632 */
+
+/* ---- The journal
+ *
+ * A change is an accepted insert or removal, or one step of work or squeeze. It alters k blocks of the store, 1 to 8.
+ * It is worked out first and then made as 2k + 3 stores of whole blocks: images of those blocks, as they will stand, go
+ * to blocks 1 to k of the journal, then the head, which names them, to its block 0, then the end, a copy of the head,
+ * to its block 15, then the k blocks to the store, and last a wiped head to block 0. Power may fail after any of them,
+ * or in one, whose block then holds anything with a wrong check. After amiqsovik_recover the store is the one before
+ * the change or the one after it, and the one after it if the end was written.
+ *
+ * This promise starts at a format made with the journal's head wiped, for one journal to one store and one store to one
+ * journal, with nobody else writing to either. It ends where a format is cut or made with the head not wiped (formats
+ * are not journalled, and take no journal), or where amiqsovik_wipe meets such a head.
+ *
+ * So a host wipes a new journal's head, and then formats the store. At each start it recovers, cut or not, and verifies
+ * the store. Until then amiqsovik_look shows blocks as they will stand, and lookup, in_use and standing answer for the
+ * store's bytes as they lie, perhaps DAMAGED. Where the arrays are all there is, the changes are made by insert,
+ * remove, work and squeeze. Where they are copies of files, each block store must be on the medium before the next one:
+ * see the changes in two halves. */
 
 /* ---- The calls */
 
@@ -126,15 +152,17 @@ AMIQSOVIK_MUST_USE uint64_t amiqsovik_format(uint8_t *store, size_t store_length
  * store anew with another N asks with the old length first. */
 AMIQSOVIK_MUST_USE uint64_t amiqsovik_in_use(const uint8_t *store, size_t store_length);
 
-/* Puts a pair in. `offset` is 1..65535 and `block` is not 4294967295, else NUMBER. DONE, LENGTH, NUMBER, DAMAGED,
- * NOT_AN_INDEX, HELD_ALREADY or NO_ROOM. */
-AMIQSOVIK_MUST_USE uint64_t amiqsovik_insert(uint8_t *store, size_t store_length, uint32_t hash, uint32_t block,
-                                             uint32_t offset);
+/* Puts a pair in. `offset` is 1..65535 and `block` is not 4294967295, else NUMBER. DONE, LENGTH, JOURNAL_LENGTH,
+ * NUMBER, PENDING, DAMAGED, NOT_AN_INDEX, HELD_ALREADY or NO_ROOM. */
+AMIQSOVIK_MUST_USE uint64_t amiqsovik_insert(uint8_t *AMIQSOVIK_RESTRICT store, size_t store_length,
+                                             uint8_t *AMIQSOVIK_RESTRICT journal, size_t journal_length,
+                                             uint32_t hash, uint32_t block, uint32_t offset);
 
-/* Takes a pair out. The numbers are tested as insert tests them. DONE, LENGTH, NUMBER, DAMAGED, NOT_AN_INDEX or
- * NOT_HELD. */
-AMIQSOVIK_MUST_USE uint64_t amiqsovik_remove(uint8_t *store, size_t store_length, uint32_t hash, uint32_t block,
-                                             uint32_t offset);
+/* Takes a pair out. The numbers are tested as insert tests them. DONE, LENGTH, JOURNAL_LENGTH, NUMBER, PENDING,
+ * DAMAGED, NOT_AN_INDEX or NOT_HELD. */
+AMIQSOVIK_MUST_USE uint64_t amiqsovik_remove(uint8_t *AMIQSOVIK_RESTRICT store, size_t store_length,
+                                             uint8_t *AMIQSOVIK_RESTRICT journal, size_t journal_length,
+                                             uint32_t hash, uint32_t block, uint32_t offset);
 
 /* Lists the places of the pairs held under a hash code, ascending by block, then offset: six bytes each, the block
  * and then the offset, little-endian (amiqsovik_match_block and amiqsovik_match_offset read them). Later output
@@ -147,8 +175,8 @@ AMIQSOVIK_MUST_USE uint64_t amiqsovik_lookup(const uint8_t *AMIQSOVIK_RESTRICT s
                                              size_t output_length);
 
 /* Does steps of splits, at most `budget`, 0..65535, else NUMBER. After each step the store is sound and every lookup
- * finds what it found before. DONE, with the number of steps done and why they stopped, LENGTH, NUMBER, DAMAGED or
- * NOT_AN_INDEX. A stop with no room is no refusal: the steps done before it stay.
+ * finds what it found before. DONE, with the number of steps done and why they stopped, LENGTH, JOURNAL_LENGTH, NUMBER,
+ * PENDING, DAMAGED or NOT_AN_INDEX. A stop with no room is no refusal: the steps done before it stay.
  *
  * A split that finds m pairs to move, as standing's phase shows it from its begin to its end, is over within 2m + 3 of
  * its own steps, the begin included, whatever is inserted, removed, looked up and squeezed in between. A removal while
@@ -157,7 +185,9 @@ AMIQSOVIK_MUST_USE uint64_t amiqsovik_lookup(const uint8_t *AMIQSOVIK_RESTRICT s
  * pair to copy, room on a page of the new bucket's chain, a free page or a new one, and is made once there is: removals
  * may make room, and a squeeze of another bucket may free a page. The end of the copying and the clearing need none.
  * Request 2026-12. */
-AMIQSOVIK_MUST_USE uint64_t amiqsovik_work(uint8_t *store, size_t store_length, uint32_t budget);
+AMIQSOVIK_MUST_USE uint64_t amiqsovik_work(uint8_t *AMIQSOVIK_RESTRICT store, size_t store_length,
+                                           uint8_t *AMIQSOVIK_RESTRICT journal, size_t journal_length,
+                                           uint32_t budget);
 
 #define AMIQSOVIK_STOP_SPENT 0   /* the budget is spent */
 #define AMIQSOVIK_STOP_NO_ROOM 7 /* the next step finds no room; it changed nothing. Never of clearing or a squeeze */
@@ -167,12 +197,15 @@ AMIQSOVIK_MUST_USE uint64_t amiqsovik_work(uint8_t *store, size_t store_length, 
  * steps, at most `budget`, 0..65535, else NUMBER. A step moves the last entry of the chain's last page to the first
  * earlier page with room. A page that it leaves empty is freed, and later calls take it again. After each step the
  * store is sound and every lookup finds what it found before. DONE, with the number of steps done and why they stopped,
- * LENGTH, NUMBER, DAMAGED, NOT_AN_INDEX, NUMBER (where `bucket` is not below standing's number of buckets) or BUSY.
+ * LENGTH, JOURNAL_LENGTH, NUMBER, PENDING, DAMAGED, NOT_AN_INDEX, NUMBER (where `bucket` is not below standing's number
+ * of buckets) or BUSY.
  *
  * Stopped with IDLE, a chain of n entries has n / 40 pages, rounded up, or one if n is 0. That takes at most 40 steps
  * for each overflow page of the chain, and one more of the budget to say IDLE. Both buckets of a pending job are BUSY,
  * while copying and while clearing: amiqsovik_work ends the job. Steps of a squeeze are none of a split's. */
-AMIQSOVIK_MUST_USE uint64_t amiqsovik_squeeze(uint8_t *store, size_t store_length, uint32_t bucket, uint32_t budget);
+AMIQSOVIK_MUST_USE uint64_t amiqsovik_squeeze(uint8_t *AMIQSOVIK_RESTRICT store, size_t store_length,
+                                              uint8_t *AMIQSOVIK_RESTRICT journal, size_t journal_length,
+                                              uint32_t bucket, uint32_t budget);
 
 /* Writes 28 bytes to `result`, little-endian (amiqsovik_stands reads them): count of held pairs, buckets, phase, old
  * bucket, new bucket, 32 bits each, and then the slack, fill * buckets - count, in 64 bits, two's complement. A slack
@@ -185,70 +218,65 @@ AMIQSOVIK_MUST_USE uint64_t amiqsovik_standing(const uint8_t *AMIQSOVIK_RESTRICT
 #define AMIQSOVIK_PHASE_COPYING 1
 #define AMIQSOVIK_PHASE_CLEARING 2
 
-/* ---- Readers of what the calls answer and write */
+/* ---- The calls for the journal */
 
-/* The name of an answer by its number: as in document 01's table (9 is a stop of work and squeeze, 10 is for a
- * script's lines alone), "busy" for 11, "in use" for 12, "result short" for 255, and "unknown" for any other. */
-static inline const char *amiqsovik_name(uint32_t number)
-{
-    switch (number) {
-    case AMIQSOVIK_DONE: return "done";
-    case AMIQSOVIK_LENGTH: return "length";
-    case AMIQSOVIK_NUMBER: return "number";
-    case AMIQSOVIK_DAMAGED: return "damaged";
-    case AMIQSOVIK_NOT_AN_INDEX: return "not an index";
-    case AMIQSOVIK_HELD_ALREADY: return "held already";
-    case AMIQSOVIK_NOT_HELD: return "not held";
-    case AMIQSOVIK_NO_ROOM: return "no room";
-    case AMIQSOVIK_OUTPUT_SHORT: return "output short";
-    case AMIQSOVIK_STOP_IDLE: return "idle";
-    case 10: return "unreadable";
-    case AMIQSOVIK_BUSY: return "busy";
-    case AMIQSOVIK_IN_USE: return "in use";
-    case AMIQSOVIK_RESULT_SHORT: return "result short";
-    default: return "unknown";
-    }
-}
+/* Wipes the head of a new journal, whatever its bytes are. A head that is not wiped may be a change that was cut, and
+ * only recover finishes it. DONE or JOURNAL_LENGTH. */
+AMIQSOVIK_MUST_USE uint64_t amiqsovik_wipe(uint8_t *journal, size_t journal_length);
 
-static inline uint32_t amiqsovik_u32(const uint8_t *p)
-{
-    return (uint32_t)p[0] | (uint32_t)p[1] << 8 | (uint32_t)p[2] << 16 | (uint32_t)p[3] << 24;
-}
+/* Says whether a journal's head is wiped. DONE (it is), JOURNAL_LENGTH or PENDING. */
+AMIQSOVIK_MUST_USE uint64_t amiqsovik_wiped(const uint8_t *journal, size_t journal_length);
 
-/* The match `i` of a lookup that gave more than `i`. */
-static inline uint32_t amiqsovik_match_block(const uint8_t *output, size_t i)
-{
-    return amiqsovik_u32(output + AMIQSOVIK_MATCH_BYTES * i);
-}
+/* Mends a store after a cut: copies the images to the store if the whole of them is in the journal, with head and end,
+ * and leaves the store alone otherwise; then wipes the head. A cut inside it is mended by recovering again, and once it
+ * is through, recovering again changes nothing. It does not judge the store. DONE, LENGTH or JOURNAL_LENGTH. */
+AMIQSOVIK_MUST_USE uint64_t amiqsovik_recover(uint8_t *AMIQSOVIK_RESTRICT store, size_t store_length,
+                                              uint8_t *AMIQSOVIK_RESTRICT journal, size_t journal_length);
 
-static inline uint16_t amiqsovik_match_offset(const uint8_t *output, size_t i)
-{
-    const uint8_t *p = output + AMIQSOVIK_MATCH_BYTES * i + 4;
-    return (uint16_t)(p[0] | p[1] << 8);
-}
+/* Says where block `block` of the store is to be read as it will stand after recover. DONE, with the part (0 the store,
+ * 1 the journal), and gives the block there; LENGTH, JOURNAL_LENGTH or NUMBER, where `block` is not below N. */
+AMIQSOVIK_MUST_USE uint64_t amiqsovik_look(const uint8_t *store, size_t store_length, const uint8_t *journal,
+                                           size_t journal_length, uint32_t block);
 
-struct amiqsovik_standing_values {
-    uint32_t count;
-    uint32_t buckets;
-    uint32_t phase;
-    uint32_t old_bucket;
-    uint32_t new_bucket;
-    int64_t slack;
-};
+#define AMIQSOVIK_PART_STORE 0
+#define AMIQSOVIK_PART_JOURNAL 1
 
-/* The 28 bytes that amiqsovik_standing wrote. */
-static inline struct amiqsovik_standing_values amiqsovik_stands(const uint8_t *result)
-{
-    uint64_t bits = amiqsovik_u32(result + 20) | (uint64_t)amiqsovik_u32(result + 24) << 32;
-    struct amiqsovik_standing_values s;
-    s.count = amiqsovik_u32(result);
-    s.buckets = amiqsovik_u32(result + 4);
-    s.phase = amiqsovik_u32(result + 8);
-    s.old_bucket = amiqsovik_u32(result + 12);
-    s.new_bucket = amiqsovik_u32(result + 16);
-    s.slack = bits >> 63 ? -(int64_t)~bits - 1 : (int64_t)bits;
-    return s;
-}
+/* ---- A change in two halves, for a host that keeps store and journal in files
+ *
+ * First plan: the change, for work and squeeze one step, is worked out to `plan`, of at least 5,632 bytes, else
+ * RESULT_SHORT, tested first; store and journal stay. The answers are those of insert, remove, and work and squeeze
+ * with budget 1. DONE gives the number of block stores, 2k + 3; 0, with a stop, where work or squeeze finds no step.
+ * Then do the stores, from 0 on, with nothing else done to store or journal: all of them, in order, are the change.
+ *
+ *     word = amiqsovik_plan_insert(store, length, journal, 8192, hash, block, offset, plan, sizeof plan);
+ *     for (n = 0; n < amiqsovik_gives(word); n++) { (once word is known to be DONE)
+ *         did = amiqsovik_do_store(store, length, journal, 8192, plan, sizeof plan, n);
+ *         pwrite the 512 bytes of block amiqsovik_gives(did) to the file of amiqsovik_part(did), then fdatasync it
+ *     }
+ *
+ * At a start fdatasync both files before they are read: what a killed process wrote may not be on the disk yet. Then
+ * recover in memory, write the blocks of the store that differ, fdatasync, and only then the head. */
+AMIQSOVIK_MUST_USE uint64_t amiqsovik_plan_insert(const uint8_t *AMIQSOVIK_RESTRICT store, size_t store_length,
+                                                  const uint8_t *AMIQSOVIK_RESTRICT journal, size_t journal_length,
+                                                  uint32_t hash, uint32_t block, uint32_t offset,
+                                                  uint8_t *AMIQSOVIK_RESTRICT plan, size_t plan_length);
+AMIQSOVIK_MUST_USE uint64_t amiqsovik_plan_remove(const uint8_t *AMIQSOVIK_RESTRICT store, size_t store_length,
+                                                  const uint8_t *AMIQSOVIK_RESTRICT journal, size_t journal_length,
+                                                  uint32_t hash, uint32_t block, uint32_t offset,
+                                                  uint8_t *AMIQSOVIK_RESTRICT plan, size_t plan_length);
+AMIQSOVIK_MUST_USE uint64_t amiqsovik_plan_work(const uint8_t *AMIQSOVIK_RESTRICT store, size_t store_length,
+                                                const uint8_t *AMIQSOVIK_RESTRICT journal, size_t journal_length,
+                                                uint8_t *AMIQSOVIK_RESTRICT plan, size_t plan_length);
+AMIQSOVIK_MUST_USE uint64_t amiqsovik_plan_squeeze(const uint8_t *AMIQSOVIK_RESTRICT store, size_t store_length,
+                                                   const uint8_t *AMIQSOVIK_RESTRICT journal, size_t journal_length,
+                                                   uint32_t bucket,
+                                                   uint8_t *AMIQSOVIK_RESTRICT plan, size_t plan_length);
+
+/* Does block store `n` of a plan, and nothing else. DONE, with the part and the block written, as in look;
+ * RESULT_SHORT, LENGTH, JOURNAL_LENGTH or NUMBER: the plan has no store `n`, or the store no such block. */
+AMIQSOVIK_MUST_USE uint64_t amiqsovik_do_store(uint8_t *AMIQSOVIK_RESTRICT store, size_t store_length,
+                                               uint8_t *AMIQSOVIK_RESTRICT journal, size_t journal_length,
+                                               const uint8_t *AMIQSOVIK_RESTRICT plan, size_t plan_length, uint32_t n);
 
 #undef AMIQSOVIK_MUST_USE
 #undef AMIQSOVIK_RESTRICT
@@ -256,5 +284,7 @@ static inline struct amiqsovik_standing_values amiqsovik_stands(const uint8_t *r
 #ifdef __cplusplus
 }
 #endif
+
+#include "amiqsovik_read.h"
 
 #endif

@@ -13,6 +13,7 @@
 enum { BLOCKS = 32 };
 
 static uint8_t store[BLOCKS * AMIQSOVIK_BLOCK_BYTES];
+static uint8_t journal[AMIQSOVIK_JOURNAL_BYTES];
 
 /* Says what a call answered; 1 if it was done. */
 static int done(const char *call, uint64_t word)
@@ -22,6 +23,16 @@ static int done(const char *call, uint64_t word)
     printf("%s: refused with %" PRIu32 ", %s, which gives %" PRIu32 "\n", call, amiqsovik_number(word),
            amiqsovik_name(amiqsovik_number(word)), amiqsovik_gives(word));
     return 0;
+}
+
+static int insert(uint32_t cell, uint32_t block, uint32_t offset)
+{
+    return done("insert", amiqsovik_insert(store, sizeof store, journal, sizeof journal, cell, block, offset));
+}
+
+static int withdraw(uint32_t cell, uint32_t block, uint32_t offset)
+{
+    return done("remove", amiqsovik_remove(store, sizeof store, journal, sizeof journal, cell, block, offset));
 }
 
 static void show_standing(void)
@@ -55,10 +66,10 @@ static int storm(uint32_t cell)
     uint32_t reading;
 
     for (reading = 0; reading < 100; reading++)
-        if (!done("insert", amiqsovik_insert(store, sizeof store, cell, 200 + reading, 1)))
+        if (!insert(cell, 200 + reading, 1))
             return 0;
     for (reading = 0; reading < 100; reading++)
-        if (reading % 10 != 0 && !done("remove", amiqsovik_remove(store, sizeof store, cell, 200 + reading, 1)))
+        if (reading % 10 != 0 && !withdraw(cell, 200 + reading, 1))
             return 0;
     return 1;
 }
@@ -74,7 +85,7 @@ static int squeeze_all(void)
         return 0;
     buckets = amiqsovik_stands(result).buckets;
     for (bucket = 0; bucket < buckets; bucket++) {
-        word = amiqsovik_squeeze(store, sizeof store, bucket, 65535);
+        word = amiqsovik_squeeze(store, sizeof store, journal, sizeof journal, bucket, 65535);
         if (amiqsovik_number(word) != AMIQSOVIK_BUSY && !done("squeeze", word))
             return 0;
         steps += amiqsovik_steps(word);
@@ -88,27 +99,30 @@ int main(void)
     uint32_t cell, reading;
     uint64_t word;
 
-    /* The last number says not to overwrite: a store with readings in it would be refused. */
+    /* A new journal is wiped before its store is formatted. The last number of the format says not to overwrite: a
+     * store with readings in it would be refused. */
+    if (!done("wipe", amiqsovik_wipe(journal, sizeof journal)))
+        return 1;
     if (!done("format", amiqsovik_format(store, sizeof store, 2, 20260316, 0)))
         return 1;
     /* The cell's number serves as its hash code here; a host hashes its keys. */
     for (cell = 0; cell < 6; cell++)
         for (reading = 3; reading > 0; reading--)
-            if (!done("insert", amiqsovik_insert(store, sizeof store, cell, 100 + cell, reading)))
+            if (!insert(cell, 100 + cell, reading))
                 return 1;
     show_standing();
     show_readings(4);
 
     /* The same pair again is refused, and changes nothing. */
-    done("insert", amiqsovik_insert(store, sizeof store, 4, 104, 1));
+    insert(4, 104, 1);
 
     /* Splits go step by step, whenever the host has time. */
-    word = amiqsovik_work(store, sizeof store, 1000);
+    word = amiqsovik_work(store, sizeof store, journal, sizeof journal, 1000);
     if (!done("work", word))
         return 1;
     printf("%" PRIu32 " steps, stop %" PRIu32 ", %s\n", amiqsovik_steps(word), amiqsovik_stop(word),
            amiqsovik_name(amiqsovik_stop(word)));
-    if (!done("remove", amiqsovik_remove(store, sizeof store, 4, 104, 2)))
+    if (!withdraw(4, 104, 2))
         return 1;
     show_standing();
     show_readings(4);

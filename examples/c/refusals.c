@@ -1,35 +1,19 @@
 /* Tests what the header says of refusals, of sizes, of squeezes, of stores in use, of store numbers, of standing's
- * result, of names and of the version. It is C and C++; `try` builds and runs it. It exits with 0 if all of it holds.
- */
-#include <stdio.h>
-#include <string.h>
-
-#include "../../include/amiqsovik.h"
+ * result, of names and of the version; journal.c tests what it says of the journal. It is C and C++; `try` builds and
+ * runs it. It exits with 0 if all of it holds. */
+#include "tests.h"
 
 enum { BLOCKS = 5, BYTES = BLOCKS * AMIQSOVIK_BLOCK_BYTES, ROOM = 64, MARK = 0x5A };
 
-static int wrong = 0;
-
-/* Says so where a number is not the wanted one. */
-static void same(const char *what, uint64_t is, uint64_t wanted)
-{
-    if (is != wanted) {
-        printf("%s: %#llx, and not %#llx\n", what, (unsigned long long)is, (unsigned long long)wanted);
-        wrong = 1;
-    }
-}
-
-static uint64_t word(uint64_t number, uint64_t gives) { return number | gives << 32; }
-
 static void names(void)
 {
-    static const char *const table[] = {"done",         "length",   "number",  "damaged",      "not an index",
-                                        "held already", "not held", "no room", "output short", "idle",
-                                        "unreadable",   "busy",     "in use"};
+    static const char *const table[] = {"done",         "length",   "number",  "damaged",        "not an index",
+                                        "held already", "not held", "no room", "output short",   "idle",
+                                        "unreadable",   "busy",     "in use",  "journal length", "pending"};
     uint32_t number;
 
     for (number = 0; number < 300; number++) {
-        const char *name = number < 13 ? table[number] : number == 255 ? "result short" : "unknown";
+        const char *name = number < 15 ? table[number] : number == 255 ? "result short" : "unknown";
         same(name, strcmp(amiqsovik_name(number), name) == 0, 1);
     }
     same("the name of 4294967295", strcmp(amiqsovik_name(UINT32_MAX), "unknown") == 0, 1);
@@ -53,7 +37,7 @@ static void make(uint8_t *store, uint32_t number)
     memset(store, 0, BYTES);
     same("format", amiqsovik_format(store, BYTES, 1, number, 0), word(AMIQSOVIK_DONE, 0));
     for (hash = 0; hash < 3; hash++)
-        same("insert", amiqsovik_insert(store, BYTES, hash, 7, 1), word(AMIQSOVIK_DONE, 0));
+        same("insert", insert(store, BYTES, hash, 7, 1), word(AMIQSOVIK_DONE, 0));
 }
 
 /* What the bytes of a standing say of the store that `make` makes. */
@@ -116,10 +100,10 @@ static void refusals(const uint8_t *sound)
     memset(blank, MARK, ROOM);
     same("verify", amiqsovik_verify(store, 7), word(AMIQSOVIK_LENGTH, 0));
     same("format", amiqsovik_format(store, BYTES, 41, 1, 1), word(AMIQSOVIK_NUMBER, 0));
-    same("insert", amiqsovik_insert(store, BYTES, 0, 7, 65536), word(AMIQSOVIK_NUMBER, 0));
-    same("insert", amiqsovik_insert(store, BYTES, 0, 7, 1), word(AMIQSOVIK_HELD_ALREADY, 0));
-    same("remove", amiqsovik_remove(store, BYTES, 0, 7, 2), word(AMIQSOVIK_NOT_HELD, 0));
-    same("work", amiqsovik_work(store, BYTES, 65536), word(AMIQSOVIK_NUMBER, 0));
+    same("insert", insert(store, BYTES, 0, 7, 65536), word(AMIQSOVIK_NUMBER, 0));
+    same("insert", insert(store, BYTES, 0, 7, 1), word(AMIQSOVIK_HELD_ALREADY, 0));
+    same("remove", remove_pair(store, BYTES, 0, 7, 2), word(AMIQSOVIK_NOT_HELD, 0));
+    same("work", work(store, BYTES, 65536), word(AMIQSOVIK_NUMBER, 0));
     same("lookup", amiqsovik_lookup(store, BYTES, 0, output, 5), word(AMIQSOVIK_OUTPUT_SHORT, 1));
     same("lookup", amiqsovik_lookup(store, BYTES, 0, NULL, 0), word(AMIQSOVIK_OUTPUT_SHORT, 1));
     same("the output", memcmp(output, blank, ROOM) == 0, 1);
@@ -152,9 +136,9 @@ static void no_room(void)
 
     same("format", amiqsovik_format(store, sizeof store, 40, 0, 0), word(AMIQSOVIK_DONE, 0));
     for (reading = 0; reading < 40; reading++)
-        same("insert", amiqsovik_insert(store, sizeof store, 2, reading, 1), word(AMIQSOVIK_DONE, 0));
+        same("insert", insert(store, sizeof store, 2, reading, 1), word(AMIQSOVIK_DONE, 0));
     memcpy(before, store, sizeof store);
-    same("insert", amiqsovik_insert(store, sizeof store, 2, 40, 1), word(AMIQSOVIK_NO_ROOM, 0));
+    same("insert", insert(store, sizeof store, 2, 40, 1), word(AMIQSOVIK_NO_ROOM, 0));
     same("the full store", memcmp(store, before, sizeof store) == 0, 1);
 }
 
@@ -169,19 +153,19 @@ static void squeezes(void)
 
     same("format", amiqsovik_format(store, sizeof store, 40, 7, 0), word(AMIQSOVIK_DONE, 0));
     for (reading = 0; reading < 90; reading++)
-        same("insert", amiqsovik_insert(store, sizeof store, 2, reading, 1), word(AMIQSOVIK_DONE, 0));
+        same("insert", insert(store, sizeof store, 2, reading, 1), word(AMIQSOVIK_DONE, 0));
     for (reading = 50; reading < 80; reading++)
-        same("remove", amiqsovik_remove(store, sizeof store, 2, reading, 1), word(AMIQSOVIK_DONE, 0));
-    same("four steps", amiqsovik_squeeze(store, sizeof store, 0, 4), worked(4, AMIQSOVIK_STOP_SPENT));
-    same("the others", amiqsovik_squeeze(store, sizeof store, 0, 65535), worked(6, AMIQSOVIK_STOP_IDLE));
+        same("remove", remove_pair(store, sizeof store, 2, reading, 1), word(AMIQSOVIK_DONE, 0));
+    same("four steps", squeeze(store, sizeof store, 0, 4), worked(4, AMIQSOVIK_STOP_SPENT));
+    same("the others", squeeze(store, sizeof store, 0, 65535), worked(6, AMIQSOVIK_STOP_IDLE));
     same("verify", amiqsovik_verify(store, sizeof store), word(AMIQSOVIK_DONE, 0));
     memcpy(before, store, sizeof store);
-    same("no store", amiqsovik_squeeze(NULL, 0, 2, 65536), word(AMIQSOVIK_LENGTH, 0));
-    same("no bucket", amiqsovik_squeeze(store, sizeof store, 2, 0), word(AMIQSOVIK_NUMBER, 0));
+    same("no store", squeeze(NULL, 0, 2, 65536), word(AMIQSOVIK_LENGTH, 0));
+    same("no bucket", squeeze(store, sizeof store, 2, 0), word(AMIQSOVIK_NUMBER, 0));
     same("the store", memcmp(store, before, sizeof store) == 0, 1);
     store[2 * AMIQSOVIK_BLOCK_BYTES + 9] ^= 1;
-    same("a large budget", amiqsovik_squeeze(store, sizeof store, 0, 65536), word(AMIQSOVIK_NUMBER, 0));
-    same("damaged, no bucket", amiqsovik_squeeze(store, sizeof store, 2, 65535), word(AMIQSOVIK_DAMAGED, 2));
+    same("a large budget", squeeze(store, sizeof store, 0, 65536), word(AMIQSOVIK_NUMBER, 0));
+    same("damaged, no bucket", squeeze(store, sizeof store, 2, 65535), word(AMIQSOVIK_DAMAGED, 2));
 }
 
 /* Both buckets of a split of five steps are busy until it is over, and another one is not. */
@@ -192,14 +176,14 @@ static void busy(void)
 
     same("format", amiqsovik_format(store, sizeof store, 1, 7, 0), word(AMIQSOVIK_DONE, 0));
     for (i = 0; i < 3; i++)
-        same("insert", amiqsovik_insert(store, sizeof store, 2 * i, 7, 1), word(AMIQSOVIK_DONE, 0));
+        same("insert", insert(store, sizeof store, 2 * i, 7, 1), word(AMIQSOVIK_DONE, 0));
     for (i = 1; i <= 5; i++) {
         uint64_t wanted = i < 5 ? word(AMIQSOVIK_BUSY, 0) : worked(0, AMIQSOVIK_STOP_IDLE);
 
-        same("work", amiqsovik_work(store, sizeof store, 1), worked(1, AMIQSOVIK_STOP_SPENT));
-        same("the old bucket", amiqsovik_squeeze(store, sizeof store, 0, 9), wanted);
-        same("the new bucket", amiqsovik_squeeze(store, sizeof store, 2, 9), wanted);
-        same("another bucket", amiqsovik_squeeze(store, sizeof store, 1, 9), worked(0, AMIQSOVIK_STOP_IDLE));
+        same("work", work(store, sizeof store, 1), worked(1, AMIQSOVIK_STOP_SPENT));
+        same("the old bucket", squeeze(store, sizeof store, 0, 9), wanted);
+        same("the new bucket", squeeze(store, sizeof store, 2, 9), wanted);
+        same("another bucket", squeeze(store, sizeof store, 1, 9), worked(0, AMIQSOVIK_STOP_IDLE));
     }
 }
 
@@ -245,7 +229,7 @@ static void in_use(const uint8_t *sound)
     memcpy(store, sound, BYTES);
     for (hash = 0; hash < 3; hash++) {
         formats("pairs left", store, BYTES, AMIQSOVIK_IN_USE);
-        same("remove", amiqsovik_remove(store, BYTES, hash, 7, 1), word(AMIQSOVIK_DONE, 0));
+        same("remove", remove_pair(store, BYTES, hash, 7, 1), word(AMIQSOVIK_DONE, 0));
     }
     formats("no pairs left", store, BYTES, AMIQSOVIK_DONE);
 }
@@ -259,7 +243,7 @@ static void misplaced(const char *what, const uint8_t *sound, const uint8_t *sou
     memcpy(store, sound, BYTES);
     memcpy(store + to * AMIQSOVIK_BLOCK_BYTES, source + from * AMIQSOVIK_BLOCK_BYTES, AMIQSOVIK_BLOCK_BYTES);
     same(what, amiqsovik_verify(store, BYTES), word(AMIQSOVIK_DAMAGED, damaged));
-    same(what, amiqsovik_insert(store, BYTES, 3, 7, 1), word(AMIQSOVIK_DAMAGED, damaged));
+    same(what, insert(store, BYTES, 3, 7, 1), word(AMIQSOVIK_DAMAGED, damaged));
 }
 
 /* Blocks at the wrong place, and blocks of a store that differs in its number alone. */
@@ -284,6 +268,7 @@ int main(void)
 {
     uint8_t sound[BYTES];
 
+    wipe();
     make(sound, 7);
     names();
     version();

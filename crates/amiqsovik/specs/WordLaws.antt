@@ -7,6 +7,7 @@ use native.Mathlib.Omega.{arith}
 use borrow.Author.Tests.{lt-ltb, le-ltb, ltb-true, ltb-false}
 use lib.Dec.{ltb}
 use lib.ListN.{length}
+use Rattle.lists.specs.Lists.{b2n}
 use Rattle.model.specs.declared.Refusal.{Refusal}
 use Rattle.model.specs.declared.Refusal.the-variants.{Length, Number, Damaged, NotIndex}
 use Rattle.model.specs.declared.Refusal.the-variants.{HeldAlready, NotHeld, NoRoom, OutputShort, Busy, InUse}
@@ -16,11 +17,16 @@ use Rattle.model.specs.declared.LookupAnswer.{LookupAnswer}
 use Rattle.model.specs.declared.Stop.{Stop}
 use Rattle.model.specs.declared.WorkAnswer.{WorkAnswer}
 use Rattle.model.specs.declared.StandingAnswer.{StandingAnswer}
+use Rattle.model.specs.declared.PlaceAnswer.{PlaceAnswer}
+use Rattle.model.specs.declared.PlanAnswer.{PlanAnswer}
 use Rattle.model.specs.Answers.{refusalNo, refusalGives, answerNo, answerGives, lookupNo, lookupGives, stopNo}
 use Rattle.model.specs.Answers.{workNo, workGives, workSteps, workStop, standingNo, standingGives}
-use Rattle.outcomes.specs.Outcomes.{standingOutcome, workOutcome, squeezeOutcome}
+use Rattle.outcomes.specs.Outcomes.{standingOutcome}
+use Rattle.journal.specs.Journal.{Disk}
+use Rattle.journal.specs.Planned.{planSize}
+use Rattle.cuts.specs.Journalled.{workJournalled, squeezeJournalled}
 use Rattle.amiqsovik.specs.Words.{packed, refusalWord, answerWord, lookupWord, workWord, standingWord}
-use Rattle.amiqsovik.specs.Words.{resultShort}
+use Rattle.amiqsovik.specs.Words.{placeWord, planWord, resultShort}
 use Rattle.amiqsovik.specs.Result.{standingTold}
 use Rattle.amiqsovik.specs.StepsLaws.{work-steps, squeeze-steps}
 
@@ -86,15 +92,41 @@ work-answer-parts (WorkAnswer.Worked steps stop) h =
 work-answer-parts (WorkAnswer.Refused r) h = refusal-parts r
 
 -- the word of a work call
-pub work-parts : (s : List ℕ) (budget : ℕ)
-    → (let a = workOutcome s budget .answer in Parts (workWord a) (workNo a) (workStop a) (workSteps a) (workGives a))
-work-parts s budget = work-answer-parts (workOutcome s budget .answer) (work-steps s budget)
+pub work-parts : (d : Disk) (budget : ℕ)
+    → (let a = workJournalled d budget .answer in
+    Parts (workWord a) (workNo a) (workStop a) (workSteps a) (workGives a))
+work-parts d budget = work-answer-parts (workJournalled d budget .answer) (work-steps d budget)
 
 -- the word of a squeeze
-pub squeeze-parts : (s : List ℕ) (b budget : ℕ)
-    → (let a = squeezeOutcome s b budget .answer in
+pub squeeze-parts : (d : Disk) (b budget : ℕ)
+    → (let a = squeezeJournalled d b budget .answer in
     Parts (workWord a) (workNo a) (workStop a) (workSteps a) (workGives a))
-squeeze-parts s b budget = work-answer-parts (squeezeOutcome s b budget .answer) (squeeze-steps s b budget)
+squeeze-parts d b budget = work-answer-parts (squeezeJournalled d b budget .answer) (squeeze-steps d b budget)
+
+-- the word of a look and of a block store: a refusal, a short plan, or in which of the two and which block
+abbrev pub PlaceParts : PlaceAnswer → Type 0
+PlaceParts (PlaceAnswer.At journal block) = Parts (placeWord (PlaceAnswer.At journal block)) 0 (b2n journal) 0 block
+PlaceParts PlaceAnswer.Short = Parts (placeWord PlaceAnswer.Short) resultShort 0 0 planSize
+PlaceParts (PlaceAnswer.Refused r) = Parts (placeWord (PlaceAnswer.Refused r)) (refusalNo r) 0 0 (refusalGives r)
+
+pub place-parts : (a : PlaceAnswer) → PlaceParts a
+place-parts (PlaceAnswer.At true block) = packed-parts 0 1 0 block (omega arith) (omega arith) (omega arith)
+place-parts (PlaceAnswer.At false block) = plain 0 block (omega arith)
+place-parts PlaceAnswer.Short = plain resultShort planSize (omega arith)
+place-parts (PlaceAnswer.Refused r) = refusal-parts r
+
+-- the word of a plan: a refusal, a short plan, a stop, or the number of its block stores
+abbrev pub PlanParts : PlanAnswer → Type 0
+PlanParts (PlanAnswer.Planned stores) = Parts (planWord (PlanAnswer.Planned stores)) 0 0 0 stores
+PlanParts (PlanAnswer.Stopped s) = Parts (planWord (PlanAnswer.Stopped s)) 0 (stopNo s) 0 0
+PlanParts PlanAnswer.Short = Parts (planWord PlanAnswer.Short) resultShort 0 0 planSize
+PlanParts (PlanAnswer.Refused r) = Parts (planWord (PlanAnswer.Refused r)) (refusalNo r) 0 0 (refusalGives r)
+
+pub plan-parts : (a : PlanAnswer) → PlanParts a
+plan-parts (PlanAnswer.Planned stores) = plain 0 stores (omega arith)
+plan-parts (PlanAnswer.Stopped s) = packed-parts 0 (stopNo s) 0 0 (omega arith) (stop-small s) (omega arith)
+plan-parts PlanAnswer.Short = plain resultShort planSize (omega arith)
+plan-parts (PlanAnswer.Refused r) = refusal-parts r
 
 -- the word of a standing: 255 with 28 besides exactly when the result is short
 module _ (s out : List ℕ) where

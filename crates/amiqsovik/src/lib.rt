@@ -1,29 +1,27 @@
 // The calls for C and Rust. Each answers one word (specs/Words.antt). include/amiqsovik.h declares them for C.
 mod words; // words.rt: the word of each answer
 mod result; // result.rt: what standing writes
+pub mod changes; // changes.rt: the calls that change a store, with its journal
+pub mod recovery; // recovery.rt: the calls on a journal
+pub mod halves; // halves.rt: a change in two halves
 
-use index::change::insert;
-use index::change::remove;
 use index::format::format;
 use index::in_use::in_use;
 use index::read::lookup;
 use index::read::standing;
-use index::squeezing::squeeze;
-use index::work::work;
 use model::Order;
 use result::show;
 use verify::verify;
+use words::RESULT_SHORT;
 use words::answer_word;
 use words::lookup_word;
 use words::pack;
 use words::standing_word;
 use words::verdict_word;
-use words::work_word;
 ghost use mathlib.Core.Path.{_≡_};
 ghost use Rattle.model.specs.Calls.{orderOf};
-ghost use Rattle.outcomes.specs.Outcomes.{verifyOutcome, inUseOutcome, formatOutcome, insertOutcome};
-ghost use Rattle.outcomes.specs.Outcomes.{removeOutcome, lookupOutcome, workOutcome, squeezeOutcome};
-ghost use Rattle.amiqsovik.specs.Words.{answerWord, lookupWord, workWord, verdictWord};
+ghost use Rattle.outcomes.specs.Outcomes.{verifyOutcome, inUseOutcome, formatOutcome, lookupOutcome};
+ghost use Rattle.amiqsovik.specs.Words.{answerWord, lookupWord, verdictWord};
 ghost use Rattle.amiqsovik.specs.Result.{standingTold};
 
 // What a store is: 0 sound, 1, 3 with the block, 4 with the rule.
@@ -66,9 +64,6 @@ pub extern "C" fn amiqsovik_lookup(store: &[u8], hash: u32, output: &mut [u8]) -
     lookup_word(lookup(store, hash, output))
 }
 
-// The number of a `result` of standing that is too short, outside of every paper's table.
-const RESULT_SHORT: u32 = 255;
-
 // Writes what stands, 28 bytes, to `result`; a shorter `result` is tested first. A refusal writes nothing.
 #[no_mangle]
 pub extern "C" fn amiqsovik_standing(store: &[u8], result: &mut [u8]) -> u64
@@ -81,40 +76,4 @@ pub extern "C" fn amiqsovik_standing(store: &[u8], result: &mut [u8]) -> u64
     let answer = standing(store);
     show(result, answer);
     standing_word(answer)
-}
-
-#[no_mangle]
-pub extern "C" fn amiqsovik_insert(store: &mut [u8], hash: u32, block: u32, offset: u32) -> u64
-    ensures { λ r. ⌜ r ≡ answerWord (insertOutcome (now (store .entry))
-        (record { hash = hash; block = block; offset = offset }) .answer) ⌝ }
-    ensures { λ _. ⌜ now (store .exit) ≡ insertOutcome (now (store .entry))
-        (record { hash = hash; block = block; offset = offset }) .store ⌝ }
-{
-    answer_word(insert(store, hash, block, offset))
-}
-
-#[no_mangle]
-pub extern "C" fn amiqsovik_remove(store: &mut [u8], hash: u32, block: u32, offset: u32) -> u64
-    ensures { λ r. ⌜ r ≡ answerWord (removeOutcome (now (store .entry))
-        (record { hash = hash; block = block; offset = offset }) .answer) ⌝ }
-    ensures { λ _. ⌜ now (store .exit) ≡ removeOutcome (now (store .entry))
-        (record { hash = hash; block = block; offset = offset }) .store ⌝ }
-{
-    answer_word(remove(store, hash, block, offset))
-}
-
-#[no_mangle]
-pub extern "C" fn amiqsovik_work(store: &mut [u8], budget: u32) -> u64
-    ensures { λ r. ⌜ r ≡ workWord (workOutcome (now (store .entry)) budget .answer) ⌝ }
-    ensures { λ _. ⌜ now (store .exit) ≡ workOutcome (now (store .entry)) budget .store ⌝ }
-{
-    work_word(work(store, budget))
-}
-
-#[no_mangle]
-pub extern "C" fn amiqsovik_squeeze(store: &mut [u8], bucket: u32, budget: u32) -> u64
-    ensures { λ r. ⌜ r ≡ workWord (squeezeOutcome (now (store .entry)) bucket budget .answer) ⌝ }
-    ensures { λ _. ⌜ now (store .exit) ≡ squeezeOutcome (now (store .entry)) bucket budget .store ⌝ }
-{
-    work_word(squeeze(store, bucket, budget))
 }

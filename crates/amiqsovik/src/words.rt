@@ -2,6 +2,8 @@
 use image::Verdict;
 use model::Answer;
 use model::LookupAnswer;
+use model::PlaceAnswer;
+use model::PlanAnswer;
 use model::Refusal;
 use model::StandingAnswer;
 use model::WorkAnswer;
@@ -10,7 +12,7 @@ use model::numbers::refusal_number;
 use model::numbers::stop_number;
 ghost use mathlib.Core.Path.{_≡_};
 ghost use Rattle.amiqsovik.specs.Words.{packed, refusalWord, answerWord, lookupWord};
-ghost use Rattle.amiqsovik.specs.Words.{workWord, standingWord, verdictWord};
+ghost use Rattle.amiqsovik.specs.Words.{workWord, standingWord, placeWord, planWord, verdictWord};
 
 // The word of a call that gives no steps.
 pub fn pack(number: u32, gives: u32) -> u64
@@ -25,7 +27,7 @@ fn refusal_word(refusal: Refusal) -> u64
     pack(refusal_number(refusal), refusal_gives(refusal))
 }
 
-// The word of a format, an insert or a removal, or of whether a store is in use.
+// The word of a call that is done or refused.
 pub fn answer_word(answer: Answer) -> u64
     ensures { λ r. ⌜ r ≡ answerWord answer ⌝ }
 {
@@ -59,6 +61,38 @@ pub fn work_word(answer: WorkAnswer) -> u64
     match answer {
         WorkAnswer::Worked { steps, stop } => 256 * stop_number(stop) as u64 + 65536 * steps as u64,
         WorkAnswer::Refused(refusal) => refusal_word(refusal),
+    }
+}
+
+// The number of a `result` of standing, or of a plan, that is too short, outside of every paper's table.
+pub const RESULT_SHORT: u32 = 255;
+
+// The bytes of a plan.
+const PLAN_BYTES: u32 = 5632;
+
+pub fn place_word(answer: PlaceAnswer) -> u64
+    ensures { λ r. ⌜ r ≡ placeWord answer ⌝ }
+{
+    match answer {
+        PlaceAnswer::At { journal, block } => {
+            if journal {
+                return 256 + 4294967296 * block as u64;
+            }
+            pack(0, block)
+        }
+        PlaceAnswer::Short => pack(RESULT_SHORT, PLAN_BYTES),
+        PlaceAnswer::Refused(refusal) => refusal_word(refusal),
+    }
+}
+
+pub fn plan_word(answer: PlanAnswer) -> u64
+    ensures { λ r. ⌜ r ≡ planWord answer ⌝ }
+{
+    match answer {
+        PlanAnswer::Planned { stores } => pack(0, stores),
+        PlanAnswer::Stopped(stop) => 256 * stop_number(stop) as u64,
+        PlanAnswer::Short => pack(RESULT_SHORT, PLAN_BYTES),
+        PlanAnswer::Refused(refusal) => refusal_word(refusal),
     }
 }
 

@@ -8,9 +8,11 @@ use lib.Dec.{eqb, ltb}
 use lib.ListN.{length, getD, set, take, drop}
 use Rattle.model.specs.Calls.{orderOf}
 use Rattle.model.specs.Machine.{Call, formatting, inserting, removing, looking, working, squeezing, asking, Reply}
-use Rattle.model.specs.Machine.{plain, looked, worked, stands}
+use Rattle.model.specs.Machine.{plain, looked, worked, stands, Ran}
 use Rattle.model.specs.History.{Moment, history, lastOf}
-use Rattle.outcomes.specs.Outcomes.{runStore, onStore}
+use Rattle.outcomes.specs.Outcomes.{onStore}
+use Rattle.journal.specs.Journal.{Disk}
+use Rattle.cuts.specs.Journalled.{runDisk}
 use Rattle.amiqsovik.specs.Words.{answerWord, lookupWord, workWord, standingWord, shortWord}
 use Rattle.amiqsovik.specs.Result.{shown}
 
@@ -46,25 +48,28 @@ replyOutput (looked l) n out = l .output ++ drop n out
 replyOutput (worked a) n out = out
 replyOutput (stands a) n out = shown a (take n out) ++ drop n out
 
--- A call's word on a store, and the store and the output afterwards. Where there is none, the word is that of a
--- short result, and nothing changes.
-abbrev pub wordOf : Option Call → (store : List ℕ) → ℕ
-wordOf none s = shortWord
-wordOf (some c) s = replyWord (runStore c s .reply)
+-- A call's word, and the output afterwards, by what runs the call: a store with its journal (`runDisk`), or a store
+-- alone (`runStore`). Where there is no call, the word is that of a short result, and nothing changes.
+abbrev pub wordOf : {S : Type 0} → (run : Call → S → Ran S) → Option Call → S → ℕ
+wordOf run none s = shortWord
+wordOf run (some c) s = replyWord (run c s .reply)
 
-abbrev pub storeAfter : Option Call → (store : List ℕ) → List ℕ
-storeAfter none s = s
-storeAfter (some c) s = runStore c s .state
+abbrev pub outputAfter : {S : Type 0} → (run : Call → S → Ran S) → Option Call → S → (lent : ℕ) → (output : List ℕ)
+    → List ℕ
+outputAfter run none s n out = out
+outputAfter run (some c) s n out = replyOutput (run c s .reply) n out
 
-abbrev pub outputAfter : Option Call → (lent : ℕ) → (store output : List ℕ) → List ℕ
-outputAfter none n s out = out
-outputAfter (some c) n s out = replyOutput (runStore c s .reply) n out
+-- store and journal afterwards
+abbrev pub diskAfter : Option Call → Disk → Disk
+diskAfter none d = d
+diskAfter (some c) d = runDisk c d .state
 
--- a call was run: w is its word, s′ and out′ what it left
-pub record Batched (c : Option Call) (lent : ℕ) (s out : List ℕ) (w : ℕ) (s′ out′ : List ℕ) : Type 0 where
-  pub word : w ≡ wordOf c s
-  pub store : s′ ≡ storeAfter c s
-  pub output : out′ ≡ outputAfter c lent s out
+-- a call was run: w is its word, e and out′ what it left
+pub record Batched (c : Option Call) (lent : ℕ) (d : Disk) (out : List ℕ) (w : ℕ) (e : Disk) (out′ : List ℕ) : Type 0
+  where
+    pub word : w ≡ wordOf runDisk c d
+    pub disk : e ≡ diskAfter c d
+    pub output : out′ ≡ outputAfter runDisk c d lent out
 
 -- ---- a list of calls
 
@@ -80,9 +85,9 @@ callAt ws i out =
 abbrev pub lentAt : (calls : List ℕ) → (i : ℕ) → ℕ
 lentAt ws i = getD ws (4 * i + 2) 0
 
--- What a batch leaves: the store, the lent output, and a word for each call.
+-- What a batch leaves: store and journal, the lent output, and a word for each call.
 pub record Kept : Type 0 where
-  pub store : List ℕ
+  pub disk : Disk
   pub output : List ℕ
   pub words : List ℕ
 
@@ -91,9 +96,9 @@ unfoldable pub ranAt : (calls : List ℕ) → (i : ℕ) → Kept → Kept
 ranAt ws i k =
     let c = callAt ws i (k .output) in
     record {
-      store = storeAfter c (k .store);
-      output = outputAfter c (lentAt ws i) (k .store) (k .output);
-      words = set (k .words) i (wordOf c (k .store));
+      disk = diskAfter c (k .disk);
+      output = outputAfter runDisk c (k .disk) (lentAt ws i) (k .output);
+      words = set (k .words) i (wordOf runDisk c (k .disk));
     }
 
 -- n calls are run, from call i on

@@ -1,5 +1,5 @@
--- A list of calls splits anywhere: the rest goes on from what its first calls leave, and its moments likewise. The
--- store of a moment is the one that the calls before it leave, and each word stays as its call left it.
+-- A list of calls splits anywhere: the rest goes on from what its first calls leave, and its moments likewise. Each
+-- word stays as its call left it.
 use mathlib.Core.Path.{_≡_, refl, sym, ap, _∙_}
 use mathlib.Core.List.{List, [], _∷_, _++_, append-assoc}
 use mathlib.Core.Option.{Option, none, some}
@@ -11,9 +11,10 @@ use Rattle.lists.specs.Lists.{Each}
 use Rattle.model.specs.Machine.{Call, CallFits, accepted}
 use Rattle.model.specs.Book.{effect}
 use Rattle.model.specs.History.{Moment, within, after, history, lastOf}
-use Rattle.model.specs.HistoryLaws.{last-append, after-state}
+use Rattle.model.specs.HistoryLaws.{last-append}
 use Rattle.outcomes.specs.Outcomes.{runStore, onStore}
-use Rattle.batch.specs.Batch.{wordOf, storeAfter, Small, callAt, Kept, ranAt, runs, also, callsIn}
+use Rattle.cuts.specs.Journalled.{runDisk}
+use Rattle.batch.specs.Batch.{wordOf, Small, callAt, Kept, ranAt, runs, also, callsIn}
 use Rattle.batch.specs.Batch.{momentsIn, momentAfter}
 use Rattle.batch.specs.CallLaws.{MayFit, fits-call}
 
@@ -93,30 +94,6 @@ pub last-each : (P : Moment onStore → Type 0) (t : Moment onStore) (us : List 
 last-each P t [] h = h .0
 last-each P t (u ∷ us) h = last-each P u us (h .1)
 
--- ---- the stores of the moments
-
-ran-store : (ws : List ℕ) (i : ℕ) (k : Kept) → storeAfter (callAt ws i (k .output)) (k .store) ≡ ranAt ws i k .store
-unfolding ranAt
-ran-store ws i k = refl
-
-pub moment-store : (ws : List ℕ) (n i : ℕ) (k : Kept) (t : Moment onStore) → t .state ≡ k .store
-    → momentAfter ws n i k t .state ≡ runs ws n i k .store
-moment-store ws zero i k t e = e
-moment-store ws (suc n) i k t e =
-    go (callAt ws i (k .output)) (ran-store ws i k) (moment-store ws n (suc i) (ranAt ws i k))
-  where
-    go : (c : Option Call) → storeAfter c (k .store) ≡ ranAt ws i k .store
-        → ((u : Moment onStore) → u .state ≡ ranAt ws i k .store
-        → momentAfter ws n (suc i) (ranAt ws i k) u .state ≡ runs ws n (suc i) (ranAt ws i k) .store)
-        → lastOf onStore t (history onStore (also c (callsIn ws n (suc i) (ranAt ws i k))) t) .state
-        ≡ runs ws n (suc i) (ranAt ws i k) .store
-    go none f ih = ih t (e ∙ f)
-    go (some c) f ih =
-        ap (λ (u : Moment onStore). u .state)
-        (last-append onStore t (within onStore (accepted (runStore c (t .state) .reply)) (effect c) t)
-        (after onStore c t) _)
-        ∙ ih (after onStore c t) (after-state onStore c t ∙ ap (λ (s : List ℕ). runStore c s .state) e ∙ f)
-
 -- ---- the words
 
 module _ (ws : List ℕ) where
@@ -125,7 +102,7 @@ module _ (ws : List ℕ) where
   ran-length i k = length-set (k .words) i _
 
   ran-word : (i : ℕ) (k : Kept) → i < length (k .words)
-      → getD (ranAt ws i k .words) i 0 ≡ wordOf (callAt ws i (k .output)) (k .store)
+      → getD (ranAt ws i k .words) i 0 ≡ wordOf runDisk (callAt ws i (k .output)) (k .disk)
   unfolding ranAt
   ran-word i k h = getD-set-same (k .words) i _ 0 h
 
@@ -140,7 +117,7 @@ module _ (ws : List ℕ) where
 
   pub runs-word : (j n i : ℕ) (k : Kept) → j < n → i + n ≤ length (k .words)
       → getD (runs ws n i k .words) (i + j) 0
-      ≡ wordOf (callAt ws (i + j) (runs ws j i k .output)) (runs ws j i k .store)
+      ≡ wordOf runDisk (callAt ws (i + j) (runs ws j i k .output)) (runs ws j i k .disk)
   runs-word j zero i k h f = absurd (omega arith)
   runs-word zero (suc n) i k h f =
       let z : i + 0 ≡ i = omega arith in

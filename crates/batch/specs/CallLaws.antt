@@ -13,8 +13,9 @@ use lib.Seq.{length-take-le, take-all, take-length, drop-length}
 use Rattle.page.specs.declared.Pair.{Pair}
 use Rattle.model.specs.Calls.{orderOf}
 use Rattle.model.specs.Machine.{Call, formatting, inserting, removing, looking, working, squeezing, CallFits}
-use Rattle.outcomes.specs.Outcomes.{formatOutcome, insertOutcome, removeOutcome, lookupOutcome, standingOutcome}
-use Rattle.outcomes.specs.Outcomes.{workOutcome, squeezeOutcome, runStore}
+use Rattle.outcomes.specs.Outcomes.{formatOutcome, lookupOutcome, standingOutcome}
+use Rattle.journal.specs.Journal.{Disk}
+use Rattle.cuts.specs.Journalled.{insertJournalled, removeJournalled, workJournalled, squeezeJournalled, runDisk}
 use Rattle.amiqsovik.specs.Words.{answerWord, lookupWord, workWord}
 use Rattle.amiqsovik.specs.Result.{toldIn, standingTold}
 use Rattle.batch.specs.Batch.{askingIn, callOf, Batched}
@@ -66,68 +67,79 @@ module _ (n : ℕ) (out : List ℕ) {m : ℕ} (e : m ≡ min n (length out)) whe
 
 -- ---- what a call leaves, by its kind
 
-module _ (s : List ℕ) (kind a b c : ℕ) (out : List ℕ) where
+module _ (d : Disk) (kind a b c : ℕ) (out : List ℕ) where
   abbrev pair : Pair
   pair = record { hash = a; block = b; offset = c }
 
-  -- where the call is d
-  of : (d : Option Call) → callOf kind a b c out ≡ d → {w : ℕ} {s′ out′ : List ℕ} → Batched d b s out w s′ out′
-      → Batched (callOf kind a b c out) b s out w s′ out′
-  of d e {w} {s′} {out′} r = subst (λ (d : Option Call). Batched d b s out w s′ out′) (sym e) r
+  -- where the call is x
+  of : (x : Option Call) → callOf kind a b c out ≡ x → {w : ℕ} {e : Disk} {out′ : List ℕ} → Batched x b d out w e out′
+      → Batched (callOf kind a b c out) b d out w e out′
+  of x q {w} {e} {out′} r = subst (λ (x : Option Call). Batched x b d out w e out′) (sym q) r
 
-  pub ran-format : {w : ℕ} {s′ : List ℕ} → kind ≡ 0 → w ≡ answerWord (formatOutcome s (orderOf a b c) .answer)
-      → s′ ≡ formatOutcome s (orderOf a b c) .store → Batched (callOf kind a b c out) b s out w s′ out
-  unfolding callOf runStore
+  pub ran-format : {w : ℕ} {s : List ℕ} → kind ≡ 0
+      → w ≡ answerWord (formatOutcome (d .store) (orderOf a b c) .answer)
+      → s ≡ formatOutcome (d .store) (orderOf a b c) .store
+      → Batched (callOf kind a b c out) b d out w (record { store = s; journal = d .journal }) out
+  unfolding callOf runDisk
   ran-format k e f =
       of (some (formatting (orderOf a b c))) (ap (λ (n : ℕ). callOf n a b c out) k)
-      (record { word = e; store = f; output = refl })
+      (record { word = e; disk = (λ i. record { store = f i; journal = d .journal }); output = refl })
 
-  pub ran-insert : {w : ℕ} {s′ : List ℕ} → kind ≡ 1
-      → w ≡ answerWord (insertOutcome s (record { hash = a; block = b; offset = c }) .answer)
-      → s′ ≡ insertOutcome s (record { hash = a; block = b; offset = c }) .store
-      → Batched (callOf kind a b c out) b s out w s′ out
-  unfolding callOf runStore
-  ran-insert k e f =
-      of (some (inserting pair)) (ap (λ (n : ℕ). callOf n a b c out) k) (record { word = e; store = f; output = refl })
+  pub ran-insert : {w : ℕ} {d′ : Disk} → kind ≡ 1
+      → (w ≡ answerWord (insertJournalled d (record { hash = a; block = b; offset = c }) .answer))
+      × (insertJournalled d (record { hash = a; block = b; offset = c }) .disk ≡ d′)
+      → Batched (callOf kind a b c out) b d out w d′ out
+  unfolding callOf runDisk
+  ran-insert k e =
+      of (some (inserting pair)) (ap (λ (n : ℕ). callOf n a b c out) k)
+      (record { word = e .0; disk = sym (e .1); output = refl })
 
-  pub ran-remove : {w : ℕ} {s′ : List ℕ} → kind ≡ 2
-      → w ≡ answerWord (removeOutcome s (record { hash = a; block = b; offset = c }) .answer)
-      → s′ ≡ removeOutcome s (record { hash = a; block = b; offset = c }) .store
-      → Batched (callOf kind a b c out) b s out w s′ out
-  unfolding callOf runStore
-  ran-remove k e f =
-      of (some (removing pair)) (ap (λ (n : ℕ). callOf n a b c out) k) (record { word = e; store = f; output = refl })
+  pub ran-remove : {w : ℕ} {d′ : Disk} → kind ≡ 2
+      → (w ≡ answerWord (removeJournalled d (record { hash = a; block = b; offset = c }) .answer))
+      × (removeJournalled d (record { hash = a; block = b; offset = c }) .disk ≡ d′)
+      → Batched (callOf kind a b c out) b d out w d′ out
+  unfolding callOf runDisk
+  ran-remove k e =
+      of (some (removing pair)) (ap (λ (n : ℕ). callOf n a b c out) k)
+      (record { word = e .0; disk = sym (e .1); output = refl })
 
-  pub ran-lookup : {w : ℕ} {out′ : List ℕ} → kind ≡ 3 → w ≡ lookupWord (lookupOutcome s a (take b out) .answer)
-      → out′ ≡ lookupOutcome s a (take b out) .output ++ drop b out → Batched (callOf kind a b c out) b s out w s out′
-  unfolding callOf runStore
+  pub ran-lookup : {w : ℕ} {out′ : List ℕ} → kind ≡ 3
+      → w ≡ lookupWord (lookupOutcome (d .store) a (take b out) .answer)
+      → out′ ≡ lookupOutcome (d .store) a (take b out) .output ++ drop b out
+      → Batched (callOf kind a b c out) b d out w d out′
+  unfolding callOf runDisk
   ran-lookup k e f =
       of (some (looking a (take b out))) (ap (λ (n : ℕ). callOf n a b c out) k)
-      (record { word = e; store = refl; output = f })
+      (record { word = e; disk = refl; output = f })
 
-  pub ran-work : {w : ℕ} {s′ : List ℕ} → kind ≡ 4 → w ≡ workWord (workOutcome s a .answer)
-      → s′ ≡ workOutcome s a .store → Batched (callOf kind a b c out) b s out w s′ out
-  unfolding callOf runStore
-  ran-work k e f =
-      of (some (working a)) (ap (λ (n : ℕ). callOf n a b c out) k) (record { word = e; store = f; output = refl })
+  pub ran-work : {w : ℕ} {d′ : Disk} → kind ≡ 4
+      → (w ≡ workWord (workJournalled d a .answer)) × (workJournalled d a .disk ≡ d′)
+      → Batched (callOf kind a b c out) b d out w d′ out
+  unfolding callOf runDisk
+  ran-work k e =
+      of (some (working a)) (ap (λ (n : ℕ). callOf n a b c out) k)
+      (record { word = e .0; disk = sym (e .1); output = refl })
 
-  pub ran-squeeze : {w : ℕ} {s′ : List ℕ} → kind ≡ 5 → w ≡ workWord (squeezeOutcome s a b .answer)
-      → s′ ≡ squeezeOutcome s a b .store → Batched (callOf kind a b c out) b s out w s′ out
-  unfolding callOf runStore
-  ran-squeeze k e f =
-      of (some (squeezing a b)) (ap (λ (n : ℕ). callOf n a b c out) k) (record { word = e; store = f; output = refl })
+  pub ran-squeeze : {w : ℕ} {d′ : Disk} → kind ≡ 5
+      → (w ≡ workWord (squeezeJournalled d a b .answer)) × (squeezeJournalled d a b .disk ≡ d′)
+      → Batched (callOf kind a b c out) b d out w d′ out
+  unfolding callOf runDisk
+  ran-squeeze k e =
+      of (some (squeezing a b)) (ap (λ (n : ℕ). callOf n a b c out) k)
+      (record { word = e .0; disk = sym (e .1); output = refl })
 
   pub ran-standing : {w : ℕ} {out′ : List ℕ} → kind ≢ 0 → kind ≢ 1 → kind ≢ 2 → kind ≢ 3 → kind ≢ 4 → kind ≢ 5
-      → w ≡ standingTold s (take b out) .word → out′ ≡ standingTold s (take b out) .result ++ drop b out
-      → Batched (callOf kind a b c out) b s out w s out′
-  unfolding callOf runStore standingTold
+      → w ≡ standingTold (d .store) (take b out) .word
+      → out′ ≡ standingTold (d .store) (take b out) .result ++ drop b out
+      → Batched (callOf kind a b c out) b d out w d out′
+  unfolding callOf runDisk standingTold
   ran-standing {w} {out′} k0 k1 k2 k3 k4 k5 e f =
       of (askingIn (ltb (length (take b out)) 28))
       (rw (ne-eqb kind 0 k0, ne-eqb kind 1 k1, ne-eqb kind 2 k2, ne-eqb kind 3 k3, ne-eqb kind 4 k4, ne-eqb kind 5 k5))
       (go (ltb (length (take b out)) 28) e f)
     where
-      go : (short : Bool) → w ≡ toldIn short (standingOutcome s) (take b out) .word
-          → out′ ≡ toldIn short (standingOutcome s) (take b out) .result ++ drop b out
-          → Batched (askingIn short) b s out w s out′
-      go true e f = record { word = e; store = refl; output = f ∙ take-append-drop b out }
-      go false e f = record { word = e; store = refl; output = f }
+      go : (short : Bool) → w ≡ toldIn short (standingOutcome (d .store)) (take b out) .word
+          → out′ ≡ toldIn short (standingOutcome (d .store)) (take b out) .result ++ drop b out
+          → Batched (askingIn short) b d out w d out′
+      go true e f = record { word = e; disk = refl; output = f ∙ take-append-drop b out }
+      go false e f = record { word = e; disk = refl; output = f }

@@ -1,16 +1,17 @@
 // A list of calls, encoded as numbers, run one after the other through the public functions: what demand 3 says of
 // lists of calls after an accepted format, it says of this function (specs/Demand3Theorem.antt).
 use amiqsovik::amiqsovik_format;
-use amiqsovik::amiqsovik_insert;
 use amiqsovik::amiqsovik_lookup;
-use amiqsovik::amiqsovik_remove;
-use amiqsovik::amiqsovik_squeeze;
 use amiqsovik::amiqsovik_standing;
-use amiqsovik::amiqsovik_work;
+use amiqsovik::changes::amiqsovik_insert;
+use amiqsovik::changes::amiqsovik_remove;
+use amiqsovik::changes::amiqsovik_squeeze;
+use amiqsovik::changes::amiqsovik_work;
 ghost use mathlib.Core.Path.{_≡_};
 ghost use mathlib.Core.List.{_++_};
 ghost use Prim.Native.Nat.{_+_, _*_, _/_, _≤_, min};
 ghost use lib.ListN.{length, take, drop};
+ghost use Rattle.journal.specs.Journal.{disk};
 ghost use Rattle.outcomes.specs.Outcomes.{lookupOutcome};
 ghost use Rattle.amiqsovik.specs.Words.{lookupWord};
 ghost use Rattle.amiqsovik.specs.Result.{standingTold};
@@ -46,30 +47,41 @@ fn run_standing(store: &[u8], lent: u32, output: &mut [u8]) -> u64
 }
 
 // Runs one call, and gives its word.
-fn run_call(store: &mut [u8], kind: u32, a: u32, b: u32, c: u32, output: &mut [u8]) -> u64
-    ensures { λ r. ⌜ Batched (callOf kind a b c (now (output .entry))) b (now (store .entry)) (now (output .entry))
-        r (now (store .exit)) (now (output .exit)) ⌝ }
+fn run_call(
+    store: &mut [u8],
+    journal: &mut [u8],
+    kind: u32,
+    a: u32,
+    b: u32,
+    c: u32,
+    output: &mut [u8],
+) -> u64
+    ensures { λ r. ⌜ Batched (callOf kind a b c (now (output .entry))) b
+        (disk (now (store .entry)) (now (journal .entry))) (now (output .entry))
+        r (disk (now (store .exit)) (now (journal .exit))) (now (output .exit)) ⌝ }
 {
     match kind {
         0 => amiqsovik_format(store, a, b, c),
-        1 => amiqsovik_insert(store, a, b, c),
-        2 => amiqsovik_remove(store, a, b, c),
+        1 => amiqsovik_insert(store, journal, a, b, c),
+        2 => amiqsovik_remove(store, journal, a, b, c),
         3 => run_lookup(store, a, b, output),
-        4 => amiqsovik_work(store, a),
-        5 => amiqsovik_squeeze(store, a, b),
+        4 => amiqsovik_work(store, journal, a),
+        5 => amiqsovik_squeeze(store, journal, a, b),
         _ => run_standing(store, b, output),
     }
 }
 
 // Runs call `i`.
-fn run_at(store: &mut [u8], calls: &[u32], i: usize, output: &mut [u8]) -> u64
+fn run_at(store: &mut [u8], journal: &mut [u8], calls: &[u32], i: usize, output: &mut [u8]) -> u64
     requires { ⌜ 4 * i + 4 ≤ length (now calls) ⌝ }
     ensures { λ r. ⌜ Batched (callAt (now (calls .entry)) i (now (output .entry))) (lentAt (now (calls .entry)) i)
-        (now (store .entry)) (now (output .entry)) r (now (store .exit)) (now (output .exit)) ⌝ }
+        (disk (now (store .entry)) (now (journal .entry))) (now (output .entry))
+        r (disk (now (store .exit)) (now (journal .exit))) (now (output .exit)) ⌝ }
 {
     let at = 4 * i;
     run_call(
         store,
+        journal,
         calls[at],
         calls[at + 1],
         calls[at + 2],
@@ -79,16 +91,29 @@ fn run_at(store: &mut [u8], calls: &[u32], i: usize, output: &mut [u8]) -> u64
 }
 
 // Runs the calls, four numbers each, for which there is a word; gives their number.
-pub fn run_batch(store: &mut [u8], calls: &[u32], output: &mut [u8], words: &mut [u64]) -> usize
+pub fn run_batch(
+    store: &mut [u8],
+    journal: &mut [u8],
+    calls: &[u32],
+    output: &mut [u8],
+    words: &mut [u64],
+) -> usize
     ensures { λ r. ⌜ r ≡ min (length (now (calls .entry)) / 4) (length (now (words .entry))) ⌝ }
-    ensures { λ r. ⌜ record { store = now (store .exit); output = now (output .exit); words = now (words .exit) }
-        ≡ runs (now (calls .entry)) r 0
-        (record { store = now (store .entry); output = now (output .entry); words = now (words .entry) }) ⌝ }
+    ensures { λ r. ⌜ record {
+      disk = disk (now (store .exit)) (now (journal .exit));
+      output = now (output .exit);
+      words = now (words .exit);
+    }
+        ≡ runs (now (calls .entry)) r 0 (record {
+          disk = disk (now (store .entry)) (now (journal .entry));
+          output = now (output .entry);
+          words = now (words .entry);
+        }) ⌝ }
 {
     let n = smaller(calls.len() / 4, words.len());
     let mut i = 0;
     while i < n {
-        words[i] = run_at(store, calls, i, output);
+        words[i] = run_at(store, journal, calls, i, output);
         i += 1;
     }
     n

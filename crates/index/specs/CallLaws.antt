@@ -1,4 +1,4 @@
--- What the outcomes of insert, remove and work are, by what the tests find.
+-- What the outcome of an insert without a journal is, by what the tests find.
 use mathlib.Core.Path.{_≡_, sym, ap, _∙_, subst}
 use mathlib.Core.Bool.{true, not}
 use mathlib.Core.List.{List}
@@ -9,13 +9,10 @@ use Rattle.lists.specs.ListsLaws.{and-right}
 use Rattle.page.specs.declared.Pair.{Pair}
 use Rattle.page.specs.Pair.{badPair}
 use Rattle.model.specs.declared.Refusal.{Refusal}
-use Rattle.model.specs.Steps.{Worked, iterate}
-use Rattle.model.specs.Calls.{pairOk, budgetOk, insert, remove}
+use Rattle.model.specs.Calls.{pairOk, insert}
 use Rattle.image.specs.Decode.{decode}
-use Rattle.outcomes.specs.Outcomes.{Tested, passed, failed, tested, refusing, changed, insertOn, insertOutcome}
-use Rattle.outcomes.specs.Outcomes.{removeOn, removeOutcome, stepOutcome, workOn, workOutcome}
+use Rattle.outcomes.specs.Outcomes.{Tested, failed, tested, refusing, changed, insertOn, insertOutcome}
 use Rattle.index.specs.declared.PairTest.{PairTest}
-use Rattle.index.specs.Sound.{workedBy}
 use Rattle.index.specs.Tested.{PairTested}
 
 -- a pair whose offset fits its field
@@ -39,27 +36,3 @@ module _ (s : List ℕ) (p : Pair) {t : PairTest} (found : PairTested s p t) whe
   insert-passes e =
       let g = pair-sound e in
       ap (λ (x : Tested). insertOn x s p) (g .3) ∙ ap (λ (x : Pair). changed s (insert (decode s) x)) (sym (g .0))
-
-  pub remove-fails : {r : Refusal} → t ≡ PairTest.Failed r → removeOutcome s p ≡ refusing s r
-  unfolding removeOutcome
-  remove-fails e = ap (λ (x : Tested). removeOn x s p) (refusal e)
-
-  pub remove-passes : {q : Pair} → t ≡ PairTest.Passed q → removeOutcome s p ≡ changed s (remove (decode s) q)
-  unfolding removeOutcome
-  remove-passes e =
-      let g = pair-sound e in
-      ap (λ (x : Tested). removeOn x s p) (g .3) ∙ ap (λ (x : Pair). changed s (remove (decode s) x)) (sym (g .0))
-
-module _ (s : List ℕ) (budget : ℕ) where
-  abbrev steps : Worked (List ℕ)
-  steps = iterate stepOutcome budget s
-
-  pub work-fails : (r : Refusal) → tested (budgetOk budget) s ≡ failed r
-      → workOutcome s budget ≡ workOn (failed r) s (iterate stepOutcome budget s)
-  unfolding workOutcome
-  work-fails r e = ap (λ (t : Tested). workOn t s steps) e
-
-  pub work-passes : tested (budgetOk budget) s ≡ passed (decode s)
-      → workOutcome s budget ≡ workedBy (iterate stepOutcome budget s)
-  unfolding workOutcome
-  work-passes e = ap (λ (t : Tested). workOn t s steps) e

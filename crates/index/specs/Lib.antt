@@ -1,6 +1,12 @@
 pub mod Tested
 pub mod Sound
+pub mod Ready
+pub mod Written
 pub mod TestedLaws
 pub mod SoundLaws
+pub mod WrittenLaws
 pub mod CallLaws
+pub mod ReadyLaws
 pub mod SqueezeLaws
+pub mod LaidLaws
+pub mod HalvesLaws

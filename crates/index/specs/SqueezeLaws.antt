@@ -13,12 +13,14 @@ use Rattle.model.specs.Index.{Index}
 use Rattle.model.specs.Steps.{Step, iterate}
 use Rattle.model.specs.Squeeze.{squeezeStep, isBusy, bucketIn, bucketTest}
 use Rattle.model.specs.SqueezeStepLaws.{squeeze-wf}
+use Rattle.model.specs.Machine.{ofSqueeze}
 use Rattle.model.specs.Calls.{budgetOk}
 use Rattle.model.specs.MachineLaws.{never}
 use Rattle.image.specs.Decode.{decode}
 use Rattle.image.specs.EncodeDecodeLaws.{decode-encode}
-use Rattle.outcomes.specs.Outcomes.{Tested, passed, failed, tested, workOn, unlessRefused, bucketTested}
-use Rattle.outcomes.specs.Outcomes.{squeezeStepOutcome, squeezeOutcome}
+use Rattle.outcomes.specs.Outcomes.{Tested, passed, failed, unlessRefused, bucketTested}
+use Rattle.journal.specs.Journal.{Disk}
+use Rattle.cuts.specs.Journalled.{testedWith, stepJournalled, workedBy, workOn, squeezeJournalled}
 use Rattle.store.specs.declared.Change.{Change}
 use Rattle.store.specs.Finish.{finished}
 use Rattle.plan.specs.declared.Advance.{Advance}
@@ -27,8 +29,9 @@ use Rattle.squeeze.specs.declared.Span.{Span}
 use Rattle.squeeze.specs.Span.{Spans, Leads}
 use Rattle.index.specs.declared.Test.{Test}
 use Rattle.index.specs.Tested.{testOf}
-use Rattle.index.specs.TestedLaws.{failed-is, fails, passes-call, passes-index, passes-sound}
-use Rattle.index.specs.Sound.{Sound, workedBy}
+use Rattle.index.specs.TestedLaws.{failed-is}
+use Rattle.index.specs.ReadyLaws.{ready-sound, ready-passed}
+use Rattle.index.specs.Sound.{Sound}
 
 -- ---- the tests of the bucket, in their order
 
@@ -52,52 +55,54 @@ module _ (x : Index) (b : ℕ) where
 
 -- ---- all tests
 
-module _ (s : List ℕ) (b : ℕ) (numbers : Bool) where
+module _ (d : Disk) (b : ℕ) (numbers : Bool) where
   -- one that fails before the bucket's
-  pub early-fails : (r : Refusal) → testOf (tested numbers s) ≡ Test.Failed r
-      → Test.Failed r ≡ testOf (bucketTested (tested numbers s) b)
-  early-fails r h = sym (ap (λ (t : Tested). testOf (bucketTested t b)) (fails numbers s r h))
+  pub early-fails : (r : Refusal) → testOf (testedWith numbers d) ≡ Test.Failed r
+      → Test.Failed r ≡ testOf (bucketTested (testedWith numbers d) b)
+  early-fails r h = sym (ap (λ (t : Tested). testOf (bucketTested t b)) (failed-is (testedWith numbers d) r h))
 
-  module _ (bytes : Bytes s) where
+  module _ (bytes : Bytes (d .store)) where
+    abbrev x : Index
+    x = decode (d .store)
+
     -- and where those pass, the bucket's decide
-    pub early-passes : testOf (tested numbers s) ≡ Test.Passed
-        → testOf (unlessRefused (bucketTest (decode s) b) (decode s)) ≡ testOf (bucketTested (tested numbers s) b)
-    early-passes h = sym (ap (λ (t : Tested). testOf (bucketTested t b)) (passes-index numbers s bytes h))
+    pub early-passes : testOf (testedWith numbers d) ≡ Test.Passed
+        → testOf (unlessRefused (bucketTest (decode (d .store)) b) (decode (d .store)))
+        ≡ testOf (bucketTested (testedWith numbers d) b)
+    early-passes h = sym (ap (λ (t : Tested). testOf (bucketTested t b)) (ready-passed numbers d bytes h))
 
-    module _ (h : testOf (bucketTested (tested numbers s) b) ≡ Test.Passed) where
-      all-early : testOf (tested numbers s) ≡ Test.Passed
-      all-early = go (tested numbers s) h
+    module _ (h : testOf (bucketTested (testedWith numbers d) b) ≡ Test.Passed) where
+      pub all-early : testOf (testedWith numbers d) ≡ Test.Passed
+      all-early = go (testedWith numbers d) h
         where
           go : (t : Tested) → testOf (bucketTested t b) ≡ Test.Passed → testOf t ≡ Test.Passed
           go (passed x) h = refl
           go (failed r) h = never (cc)
 
-      pub squeeze-sound : Sound s
-      squeeze-sound = passes-sound (passes-call numbers s bytes all-early)
+      pub squeeze-sound : Sound (d .store)
+      squeeze-sound = ready-sound numbers d bytes all-early
 
       -- the bucket is there
-      pub squeeze-range : b ≤ decode s .maxBucket
+      pub squeeze-range : b ≤ decode (d .store) .maxBucket
       unfolding bucketTest
       squeeze-range =
-          go (leb b (decode s .maxBucket)) refl
-          (sym (ap (λ (t : Tested). testOf (bucketTested t b)) (passes-index numbers s bytes all-early)) ∙ h)
+          go (leb b (x .maxBucket)) refl
+          (sym (ap (λ (t : Tested). testOf (bucketTested t b)) (ready-passed numbers d bytes all-early)) ∙ h)
         where
-          go : (r : Bool) → leb b (decode s .maxBucket) ≡ r
-              → testOf (unlessRefused (bucketIn r (isBusy (decode s) b)) (decode s)) ≡ Test.Passed
-              → b ≤ decode s .maxBucket
-          go true e h = leb-true b (decode s .maxBucket) e
+          go : (r : Bool) → leb b (x .maxBucket) ≡ r
+              → testOf (unlessRefused (bucketIn r (isBusy x b)) x) ≡ Test.Passed → b ≤ x .maxBucket
+          go true e h = leb-true b (x .maxBucket) e
           go false e h = never (cc)
 
-      all-passed : bucketTested (tested numbers s) b ≡ passed (decode s)
+      pub all-passed : bucketTested (testedWith numbers d) b ≡ passed (decode (d .store))
       all-passed =
           ap (λ (t : Tested). bucketTested t b) e
-          ∙ go (bucketTest (decode s) b) (sym (ap (λ (t : Tested). testOf (bucketTested t b)) e) ∙ h)
+          ∙ go (bucketTest x b) (sym (ap (λ (t : Tested). testOf (bucketTested t b)) e) ∙ h)
         where
-          e : tested numbers s ≡ passed (decode s)
-          e = passes-index numbers s bytes all-early
+          e : testedWith numbers d ≡ passed x
+          e = ready-passed numbers d bytes all-early
 
-          go : (q : Option Refusal) → testOf (unlessRefused q (decode s)) ≡ Test.Passed
-              → unlessRefused q (decode s) ≡ passed (decode s)
+          go : (q : Option Refusal) → testOf (unlessRefused q x) ≡ Test.Passed → unlessRefused q x ≡ passed x
           go none h = refl
           go (some r) h = never (cc)
 
@@ -113,16 +118,17 @@ advances-spans b r (halted z) e t f g n = never (cc)
 
 -- ---- the outcome
 
-module _ (s : List ℕ) (b budget : ℕ) where
-  pub squeeze-fails : (r : Refusal) → testOf (bucketTested (tested (budgetOk budget) s) b) ≡ Test.Failed r
-      → squeezeOutcome s b budget ≡ record { answer = WorkAnswer.Refused r; store = s }
-  unfolding squeezeOutcome
+module _ (d : Disk) (b budget : ℕ) where
+  pub squeeze-fails : (r : Refusal) → testOf (bucketTested (testedWith (budgetOk budget) d) b) ≡ Test.Failed r
+      → squeezeJournalled d b budget ≡ record { answer = WorkAnswer.Refused r; disk = d }
+  unfolding squeezeJournalled
   squeeze-fails r h =
-      ap (λ (t : Tested). workOn t s (iterate (squeezeStepOutcome b) budget s))
-      (failed-is (bucketTested (tested (budgetOk budget) s) b) r h)
+      ap (λ (t : Tested). workOn t d (iterate (stepJournalled (ofSqueeze b)) budget d))
+      (failed-is (bucketTested (testedWith (budgetOk budget) d) b) r h)
 
-  pub squeeze-passes : Bytes s → testOf (bucketTested (tested (budgetOk budget) s) b) ≡ Test.Passed
-      → squeezeOutcome s b budget ≡ workedBy (iterate (squeezeStepOutcome b) budget s)
-  unfolding squeezeOutcome
+  pub squeeze-passes : Bytes (d .store) → testOf (bucketTested (testedWith (budgetOk budget) d) b) ≡ Test.Passed
+      → squeezeJournalled d b budget ≡ workedBy (iterate (stepJournalled (ofSqueeze b)) budget d)
+  unfolding squeezeJournalled
   squeeze-passes bytes h =
-      ap (λ (t : Tested). workOn t s (iterate (squeezeStepOutcome b) budget s)) (all-passed s b (budgetOk budget) bytes h)
+      ap (λ (t : Tested). workOn t d (iterate (stepJournalled (ofSqueeze b)) budget d))
+      (all-passed d b (budgetOk budget) bytes h)

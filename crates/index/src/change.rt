@@ -1,19 +1,18 @@
-// The calls that put a pair in and take one out.
+// The insert without a journal, of a store that is being built: salvage's.
 use crate::PairTest;
 use crate::Test;
 use crate::sound::insert_sound;
-use crate::sound::remove_sound;
 use crate::tests::test_call;
 use model::Answer;
 use page::Pair;
 ghost use mathlib.Core.Path.{_≡_};
 ghost use Prim.Native.Nat.{ℕ};
 ghost use Rattle.model.specs.Calls.{pairOk};
-ghost use Rattle.outcomes.specs.Outcomes.{insertOutcome, removeOutcome};
+ghost use Rattle.outcomes.specs.Outcomes.{insertOutcome};
 ghost use Rattle.index.specs.Tested.{PairTested};
 
 // Refusal 2 of a pair.
-fn check_pair(block: u32, offset: u32) -> bool
+pub fn check_pair(block: u32, offset: u32) -> bool
     ensures { λ r. ⌜ ((h : ℕ) → r ≡ pairOk (record { hash = h; block = block; offset = offset })) ⌝ }
 {
     if offset == 0 {
@@ -51,19 +50,5 @@ pub fn insert(store: &mut [u8], hash: u32, block: u32, offset: u32) -> Answer
     match test {
         PairTest::Failed(refusal) => Answer::Refused(refusal),
         PairTest::Passed(pair) => insert_sound(store, pair),
-    }
-}
-
-// Takes a pair out.
-pub fn remove(store: &mut [u8], hash: u32, block: u32, offset: u32) -> Answer
-    ensures { λ r. ⌜ r ≡ removeOutcome (now (store .entry)) (record { hash = hash; block = block; offset = offset })
-        .answer ⌝ }
-    ensures { λ _. ⌜ now (store .exit)
-        ≡ removeOutcome (now (store .entry)) (record { hash = hash; block = block; offset = offset }) .store ⌝ }
-{
-    let test = test_pair(store, hash, block, offset);
-    match test {
-        PairTest::Failed(refusal) => Answer::Refused(refusal),
-        PairTest::Passed(pair) => remove_sound(store, pair),
     }
 }

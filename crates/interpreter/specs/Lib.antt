@@ -5,6 +5,7 @@ pub mod Machine
 pub mod MachineLaws
 pub mod Runs
 pub mod RunsLaws
+pub mod LentLaws
 pub mod Held
 pub mod HeldLaws
 pub mod FeedLaws

@@ -15,8 +15,8 @@ use Rattle.model.specs.declared.Order.{Order}
 use Rattle.model.specs.Index.{Job, idle, copying, clearing, Index}
 use Rattle.model.specs.Steps.{next, step}
 use Rattle.model.specs.Calls.{sizeOk, orderOf, formatOk, overwrites, format, formatIn}
-use Rattle.model.specs.Machine.{Call, formatting, inserting, removing, working, CallFits, Kind, ofSplits, ofSqueeze, Ran}
-use Rattle.model.specs.Machine.{runIndex, stepIndex}
+use Rattle.model.specs.Machine.{Call, formatting, inserting, removing, working, CallFits, Kind, ofSplits, ofSqueeze}
+use Rattle.model.specs.Machine.{Ran, runIndex, stepIndex}
 use Rattle.model.specs.FormatLaws.{format-wf}
 use Rattle.model.specs.FrameLaws.{SameJob, insert-frame, remove-frame, begin-frame, job-frame, squeeze-frame}
 use Rattle.model.specs.InsertLaws.{insert-wf}

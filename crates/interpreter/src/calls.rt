@@ -4,13 +4,13 @@ use crate::SCRIPT_BLOCKS;
 use crate::answers::put_answer;
 use crate::answers::put_looked;
 use crate::answers::put_worked;
-use index::change::insert;
-use index::change::remove;
+use crate::lent::insert_lent;
+use crate::lent::remove_lent;
+use crate::lent::work_lent;
 use index::format::check_format;
 use index::format::format;
 use index::in_use::is_protected;
 use index::read::lookup;
-use index::work::work;
 use line::Command;
 use model::Answer;
 use model::Order;
@@ -115,7 +115,7 @@ fn run_insert(
         (now (store .entry)) (now (store .exit)) blocks (now (output .entry)) (now (output .exit)) r ⌝ }
 {
     let end = 512 * blocks as usize;
-    let answer = insert(&mut store[..end], hash, block, offset);
+    let answer = insert_lent(&mut store[..end], hash, block, offset);
     put_answer(output, line, answer)
 }
 
@@ -134,7 +134,7 @@ fn run_remove(
         (now (store .entry)) (now (store .exit)) blocks (now (output .entry)) (now (output .exit)) r ⌝ }
 {
     let end = 512 * blocks as usize;
-    let answer = remove(&mut store[..end], hash, block, offset);
+    let answer = remove_lent(&mut store[..end], hash, block, offset);
     put_answer(output, line, answer)
 }
 
@@ -155,7 +155,7 @@ fn run_work(budget: u32, line: u64, blocks: u32, store: &mut [u8], output: &mut 
         (now (store .entry)) (now (store .exit)) blocks (now (output .entry)) (now (output .exit)) r ⌝ }
 {
     let end = 512 * blocks as usize;
-    let answer = work(&mut store[..end], budget);
+    let answer = work_lent(&mut store[..end], budget);
     put_worked(output, line, answer)
 }
 

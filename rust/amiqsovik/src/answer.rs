@@ -1,16 +1,18 @@
 //! What the calls answer.
 
+use crate::BLOCK_SIZE;
 use core::error::Error;
 use core::fmt;
+use core::ops::Range;
 
-/// Why a call was refused. A refused call wrote nothing: the store and the output are as they were.
+/// Why a call was refused. A refused call wrote nothing: store, journal, output and plan are as they were.
 #[derive(Debug, Clone, Copy, PartialEq, Eq, Hash)]
 #[non_exhaustive]
 pub enum Refusal {
     /// 1: the store is not 4 to 1,024 blocks of 512 bytes.
     Length,
-    /// 2: an offset of 0 or above 65535, a reading block of 4294967295, a fill outside 1..=40, a budget above 65535, or
-    /// a bucket to squeeze that there is not.
+    /// 2: an offset of 0 or above 65535, a reading block of 4294967295, a fill outside 1..=40, a budget above 65535, a
+    /// bucket to squeeze or a block to look at that there is not, or a block store that a plan does not have.
     Number,
     /// 3: a block's check is wrong: for its bytes, for its place, or for the store's number.
     Damaged {
@@ -37,6 +39,10 @@ pub enum Refusal {
     Busy,
     /// 12: the store to format is sound and holds pairs, and the format does not overwrite.
     InUse,
+    /// 13: the journal is not 16 blocks of 512 bytes.
+    JournalLength,
+    /// 14: the journal's head is not wiped. [`recover`](crate::recover) mends that.
+    Pending,
     /// Any other number. An archive of this package's version never answers it; `include/amiqsovik.h` beside the
     /// archive says what it means.
     Unknown {
@@ -66,6 +72,8 @@ impl Refusal {
             Refusal::OutputShort { .. } => 8,
             Refusal::Busy => 11,
             Refusal::InUse => 12,
+            Refusal::JournalLength => 13,
+            Refusal::Pending => 14,
             Refusal::Unknown { number, .. } => number,
         }
     }
@@ -88,11 +96,13 @@ impl Refusal {
             | Refusal::NotHeld
             | Refusal::NoRoom
             | Refusal::Busy
-            | Refusal::InUse => 0,
+            | Refusal::InUse
+            | Refusal::JournalLength
+            | Refusal::Pending => 0,
         }
     }
 
-    /// The name of the refusal, as in document 01's table, request 2026-01 or 2026-04; `Display` has a sentence.
+    /// The name of the refusal, as in document 01's table or the requests; `Display` has a sentence.
     ///
     /// ```
     /// assert_eq!(amiqsovik::Refusal::HeldAlready.name(), "held already");
@@ -110,6 +120,8 @@ impl Refusal {
             Refusal::OutputShort { .. } => "output short",
             Refusal::Busy => "busy",
             Refusal::InUse => "in use",
+            Refusal::JournalLength => "journal length",
+            Refusal::Pending => "pending",
             Refusal::Unknown { .. } => "unknown",
         }
     }
@@ -128,6 +140,8 @@ impl fmt::Display for Refusal {
             Refusal::OutputShort { matches } => write!(f, "the output is too short for {matches} matches"),
             Refusal::Busy => f.write_str("the bucket is busy: it is one of a pending job"),
             Refusal::InUse => f.write_str("the store is in use: it is sound and holds pairs"),
+            Refusal::JournalLength => f.write_str("the journal is not 16 blocks long"),
+            Refusal::Pending => f.write_str("the journal's head is not wiped: recover first"),
             Refusal::Unknown { number, gives } => write!(f, "refused with {number}, an unknown number, and {gives}"),
         }
     }
@@ -221,4 +235,50 @@ pub struct Worked {
     pub steps: u32,
     /// Why no further step was made.
     pub stop: Stop,
+}
+
+/// Which of the two lent slices.
+#[derive(Debug, Clone, Copy, PartialEq, Eq, Hash)]
+pub enum Part {
+    /// 0: the store.
+    Store,
+    /// 1: the journal.
+    Journal,
+    /// Any other number. An archive of this package's version never answers it.
+    Unknown {
+        /// The number.
+        number: u8,
+    },
+}
+
+/// A block of the store or of the journal.
+#[derive(Debug, Clone, Copy, PartialEq, Eq, Hash)]
+pub struct Place {
+    /// Which of the two.
+    pub part: Part,
+    /// The number of the block there.
+    pub block: u32,
+}
+
+impl Place {
+    /// Where the block's bytes stand in its part.
+    ///
+    /// ```
+    /// use amiqsovik::{Part, Place};
+    /// assert_eq!(Place { part: Part::Journal, block: 15 }.bytes(), 7680..8192);
+    /// ```
+    #[must_use]
+    pub const fn bytes(self) -> Range<usize> {
+        let start = (self.block as usize).saturating_mul(BLOCK_SIZE);
+        start..start.saturating_add(BLOCK_SIZE)
+    }
+}
+
+/// What planning a step of work or of a squeeze came to.
+#[derive(Debug, Clone, Copy, PartialEq, Eq, Hash)]
+pub enum Planned {
+    /// The plan has a step of so many block stores.
+    Stores(u32),
+    /// There is no step to make, and the plan is as it was.
+    Stopped(Stop),
 }

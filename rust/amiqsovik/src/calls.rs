@@ -1,6 +1,6 @@
-//! The nine calls, over plain slices and plain numbers; format has two functions.
+//! The calls that take no journal, over plain slices and plain numbers; format has two functions.
 
-use crate::answer::{Refusal, Standing, Worked};
+use crate::answer::{Refusal, Standing};
 use crate::foreign;
 use crate::matches::Matches;
 use crate::word::{self, Word};
@@ -44,11 +44,13 @@ pub fn verify(store: &[u8]) -> Result<(), Refusal> {
 /// # Examples
 ///
 /// ```
+/// # let mut journal = [0; 8192];
+/// # amiqsovik::wipe(&mut journal)?;
 /// use amiqsovik::{format, insert, verify, Refusal};
 /// let (mut store, mut other) = ([0; 8 * 512], [0; 8 * 512]);
 /// format(&mut store, 30, 1)?;
 /// format(&mut other, 30, 2)?;
-/// insert(&mut store, 5, 7, 1)?;
+/// insert(&mut store, &mut journal, 5, 7, 1)?;
 /// assert_eq!(format(&mut store, 30, 1), Err(Refusal::InUse));
 /// store[3 * 512..4 * 512].copy_from_slice(&other[3 * 512..4 * 512]);
 /// assert_eq!(verify(&store), Err(Refusal::Damaged { block: 3 }));
@@ -68,10 +70,11 @@ pub fn format(store: &mut [u8], fill: u32, number: u32) -> Result<(), Refusal> {
 /// # Examples
 ///
 /// ```
-/// # let mut store = [0; 8 * 512];
+/// # let (mut store, mut journal) = ([0; 8 * 512], [0; 8192]);
+/// # amiqsovik::wipe(&mut journal)?;
 /// use amiqsovik::{format, format_over, insert, standing, Refusal};
 /// format(&mut store, 30, 1)?;
-/// insert(&mut store, 5, 7, 1)?;
+/// insert(&mut store, &mut journal, 5, 7, 1)?;
 /// assert_eq!(format(&mut store, 30, 1), Err(Refusal::InUse));
 /// assert_eq!(format_over(&mut store, 30, 1), Ok(()));
 /// assert_eq!(standing(&store)?.count, 0);
@@ -92,14 +95,15 @@ pub fn format_over(store: &mut [u8], fill: u32, number: u32) -> Result<(), Refus
 /// # Examples
 ///
 /// ```
-/// # let mut store = [0; 8 * 512];
+/// # let (mut store, mut journal) = ([0; 8 * 512], [0; 8192]);
+/// # amiqsovik::wipe(&mut journal)?;
 /// use amiqsovik::{format, in_use, insert, remove};
 /// assert_eq!(in_use(&store), Ok(false));
 /// format(&mut store, 30, 1)?;
 /// assert_eq!(in_use(&store), Ok(false));
-/// insert(&mut store, 5, 7, 1)?;
+/// insert(&mut store, &mut journal, 5, 7, 1)?;
 /// assert_eq!(in_use(&store), Ok(true));
-/// remove(&mut store, 5, 7, 1)?;
+/// remove(&mut store, &mut journal, 5, 7, 1)?;
 /// assert_eq!(in_use(&store), Ok(false));
 /// # Ok::<(), amiqsovik::Refusal>(())
 /// ```
@@ -109,49 +113,6 @@ pub fn in_use(store: &[u8]) -> Result<bool, Refusal> {
         Err(Refusal::InUse) => Ok(true),
         Err(refusal) => Err(refusal),
     }
-}
-
-/// Puts in the pair of a hash code and a reading's place. An offset that does not fit 16 bits is refused, as 0 is.
-///
-/// # Errors
-///
-/// [`Length`](Refusal::Length), [`Number`](Refusal::Number), [`Damaged`](Refusal::Damaged),
-/// [`NotAnIndex`](Refusal::NotAnIndex), [`HeldAlready`](Refusal::HeldAlready) or [`NoRoom`](Refusal::NoRoom): the
-/// first that fits.
-///
-/// # Examples
-///
-/// ```
-/// # let mut store = [0; 8 * 512];
-/// # amiqsovik::format(&mut store, 30, 7)?;
-/// use amiqsovik::{insert, Refusal};
-/// assert_eq!(insert(&mut store, 5, 7, 1), Ok(()));
-/// assert_eq!(insert(&mut store, 5, 7, 1), Err(Refusal::HeldAlready));
-/// assert_eq!(insert(&mut store, 5, 7, 65_536), Err(Refusal::Number));
-/// # Ok::<(), amiqsovik::Refusal>(())
-/// ```
-pub fn insert(store: &mut [u8], hash: u32, block: u32, offset: u32) -> Result<(), Refusal> {
-    Word(foreign::insert(store, hash, block, offset)).done().map(drop)
-}
-
-/// Takes a pair out.
-///
-/// # Errors
-///
-/// [`Length`](Refusal::Length), [`Number`](Refusal::Number), [`Damaged`](Refusal::Damaged),
-/// [`NotAnIndex`](Refusal::NotAnIndex) or [`NotHeld`](Refusal::NotHeld): the first that fits.
-///
-/// # Examples
-///
-/// ```
-/// # let mut store = [0; 8 * 512];
-/// # amiqsovik::format(&mut store, 30, 7)?;
-/// use amiqsovik::{remove, Refusal};
-/// assert_eq!(remove(&mut store, 5, 7, 1), Err(Refusal::NotHeld));
-/// # Ok::<(), amiqsovik::Refusal>(())
-/// ```
-pub fn remove(store: &mut [u8], hash: u32, block: u32, offset: u32) -> Result<(), Refusal> {
-    Word(foreign::remove(store, hash, block, offset)).done().map(drop)
 }
 
 /// Writes the readings held under a hash code to the output, 6 bytes each, and gives them. Later bytes of the output
@@ -168,11 +129,12 @@ pub fn remove(store: &mut [u8], hash: u32, block: u32, offset: u32) -> Result<()
 /// # Examples
 ///
 /// ```
-/// # let mut store = [0; 8 * 512];
+/// # let (mut store, mut journal) = ([0; 8 * 512], [0; 8192]);
+/// # amiqsovik::wipe(&mut journal)?;
 /// # amiqsovik::format(&mut store, 30, 7)?;
 /// use amiqsovik::{insert, lookup, Reading, Refusal};
-/// insert(&mut store, 5, 7, 1)?;
-/// insert(&mut store, 5, 3, 2)?;
+/// insert(&mut store, &mut journal, 5, 7, 1)?;
+/// insert(&mut store, &mut journal, 5, 3, 2)?;
 /// let mut output = [0; 600];
 /// let found: Vec<Reading> = lookup(&store, 5, &mut output)?.collect();
 /// assert_eq!(found, [Reading::new(3, 2), Reading::new(7, 1)]);
@@ -183,95 +145,6 @@ pub fn remove(store: &mut [u8], hash: u32, block: u32, offset: u32) -> Result<()
 pub fn lookup<'o>(store: &[u8], hash: u32, output: &'o mut [u8]) -> Result<Matches<'o>, Refusal> {
     let word = Word(foreign::lookup(store, hash, output)).done()?;
     Ok(Matches::new(output, word.gives()))
-}
-
-/// Makes up to `budget` steps, at most 65535, of the splits that are wanted. The store is a sound index after each
-/// step.
-///
-/// A split that finds m pairs to move is over within 2m + 3 of its own steps, the begin included, whatever is inserted,
-/// removed, looked up and squeezed in between. A removal while copying may save one or two of them; without removals it
-/// takes them all. A step that finds no room is not made, and not counted; see [`Stop::NoRoom`](crate::Stop::NoRoom).
-///
-/// # Errors
-///
-/// [`Length`](Refusal::Length), [`Number`](Refusal::Number), [`Damaged`](Refusal::Damaged) or
-/// [`NotAnIndex`](Refusal::NotAnIndex): the first that fits. No room for a step is no refusal, but a
-/// [`Stop`](crate::Stop): the steps made before it stay.
-///
-/// # Examples
-///
-/// ```
-/// # let mut store = [0; 8 * 512];
-/// use amiqsovik::{format, insert, work, Stop, Worked};
-/// format(&mut store, 1, 7)?;
-/// for hash in [0, 2, 4] {
-///     insert(&mut store, hash, 9, 1)?;
-/// }
-/// assert_eq!(work(&mut store, 2)?, Worked { steps: 2, stop: Stop::Spent });
-/// assert_eq!(work(&mut store, 9)?, Worked { steps: 3, stop: Stop::Idle });
-/// # Ok::<(), amiqsovik::Refusal>(())
-/// ```
-///
-/// In busy hours a step at a time, between inserts and removals: of six pairs three move, so the split would take 9
-/// steps. The removal of one that has no copy yet saves two of them; that of one which stays, and the insert, none.
-///
-/// ```
-/// # let mut store = [0; 8 * 512];
-/// use amiqsovik::{format, insert, remove, standing, work, Phase};
-/// format(&mut store, 2, 7)?;
-/// for hash in [0, 2, 4, 6, 8, 10] {
-///     insert(&mut store, hash, 9, 1)?;
-/// }
-/// let mut steps = work(&mut store, 2)?.steps;
-/// remove(&mut store, 10, 9, 1)?;
-/// steps += work(&mut store, 1)?.steps;
-/// remove(&mut store, 0, 9, 1)?;
-/// insert(&mut store, 14, 9, 1)?;
-/// while standing(&store)?.phase != Phase::None {
-///     steps += work(&mut store, 1)?.steps;
-/// }
-/// assert_eq!(steps, 7);
-/// # Ok::<(), amiqsovik::Refusal>(())
-/// ```
-pub fn work(store: &mut [u8], budget: u32) -> Result<Worked, Refusal> {
-    Word(foreign::work(store, budget)).done().map(Word::worked)
-}
-
-/// Makes up to `budget` steps, at most 65535, of a squeeze of a bucket: each moves the last entry of the last page of
-/// the bucket's chain to the first earlier page with room, and frees a page that it leaves empty. The store is a sound
-/// index after each step, and every lookup finds what it found before.
-///
-/// When it stops with [`Idle`](crate::Stop::Idle), no earlier page has room: the chain has as few pages as its entries
-/// need. With a budget of 40 for each overflow page of the chain, and one more, it always comes to that.
-///
-/// # Errors
-///
-/// [`Length`](Refusal::Length), [`Number`](Refusal::Number) of the budget, [`Damaged`](Refusal::Damaged),
-/// [`NotAnIndex`](Refusal::NotAnIndex), [`Number`](Refusal::Number) of a bucket that there is not or
-/// [`Busy`](Refusal::Busy): the first that fits. A bucket is busy while a job, copying or clearing, has it as its old
-/// or new one: [`work`] ends the job.
-///
-/// # Examples
-///
-/// Of three pages the second is thinned out, and the entries of the third go there.
-///
-/// ```
-/// # let mut store = [0; 8 * 512];
-/// use amiqsovik::{format, insert, remove, squeeze, Refusal, Stop, Worked};
-/// format(&mut store, 40, 7)?;
-/// for block in 0..90 {
-///     insert(&mut store, 2, block, 1)?;
-/// }
-/// for block in 50..80 {
-///     remove(&mut store, 2, block, 1)?;
-/// }
-/// assert_eq!(squeeze(&mut store, 0, 4)?, Worked { steps: 4, stop: Stop::Spent });
-/// assert_eq!(squeeze(&mut store, 0, 1000)?, Worked { steps: 6, stop: Stop::Idle });
-/// assert_eq!(squeeze(&mut store, 2, 1000), Err(Refusal::Number));
-/// # Ok::<(), amiqsovik::Refusal>(())
-/// ```
-pub fn squeeze(store: &mut [u8], bucket: u32, budget: u32) -> Result<Worked, Refusal> {
-    Word(foreign::squeeze(store, bucket, budget)).done().map(Word::worked)
 }
 
 /// How the index stands.

@@ -6,12 +6,17 @@
 //! nothing, and needs no `std`. A call takes at most 64 KiB of stack, which is not proved, but measured by
 //! `compare/tests/stack.rs`.
 //!
-//! The nine calls are functions over slices, format two of them; [`Store`] has them as methods.
+//! A store has a journal beside it, a second slice of 16 blocks, so that a power cut in the midst of a change loses
+//! nothing: [`recover`] mends it, as long as the journal was wiped before the store's format, belongs to this store
+//! alone, and nobody else writes to either. [`Plan`] is for a host that keeps both on a medium.
+//!
+//! The calls are functions over slices; [`Store`] has them as methods.
 //!
 //! ```
 //! use amiqsovik::{Reading, Store};
-//! let mut bytes = vec![0; 16 * 512];
-//! let mut store = Store::formatted(&mut bytes, 10, 7)?;
+//! let (mut bytes, mut journal) = (vec![0; 16 * 512], [0; 8192]);
+//! amiqsovik::wipe(&mut journal)?;
+//! let mut store = Store::formatted(&mut bytes, &mut journal, 10, 7)?;
 //! store.insert(0xC0FFEE, Reading::new(7, 1))?;
 //! let mut output = [0; 60];
 //! let found: Vec<Reading> = store.lookup(0xC0FFEE, &mut output)?.collect();
@@ -29,15 +34,21 @@
 
 mod answer;
 mod calls;
+mod changes;
 #[allow(unsafe_code)]
 mod foreign;
+mod journal;
 mod matches;
+mod plan;
 mod store;
 mod word;
 
-pub use answer::{Phase, Refusal, Standing, Stop, Worked};
-pub use calls::{format, format_over, in_use, insert, lookup, remove, squeeze, standing, verify, work};
+pub use answer::{Part, Phase, Place, Planned, Refusal, Standing, Stop, Worked};
+pub use calls::{format, format_over, in_use, lookup, standing, verify};
+pub use changes::{insert, remove, squeeze, work};
+pub use journal::{is_wiped, look, recover, wipe, JOURNAL_SIZE};
 pub use matches::{Matches, Reading, MATCH_SIZE};
+pub use plan::{do_store, plan_insert, plan_remove, plan_squeeze, plan_work, Plan, PLAN_SIZE};
 pub use store::Store;
 
 /// The bytes of a block.

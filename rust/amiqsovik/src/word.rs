@@ -1,6 +1,6 @@
 //! What the archive answers, taken apart: the word of each call, and the bytes that standing writes.
 
-use crate::answer::{Phase, Refusal, Standing, Stop, Worked};
+use crate::answer::{Part, Phase, Place, Planned, Refusal, Standing, Stop, Worked};
 
 /// The bytes that standing writes.
 pub const RESULT_SIZE: usize = 28;
@@ -20,9 +20,14 @@ impl Word {
         (self.0 >> 16) as u32 & 0xFFFF
     }
 
-    /// Bits 8..15: the stop of work or a squeeze.
+    /// Bits 8..15: the stop of work or a squeeze, or a part.
+    fn second(self) -> u8 {
+        (self.0 >> 8) as u8
+    }
+
+    /// The stop of work or a squeeze.
     pub fn stop(self) -> Stop {
-        match (self.0 >> 8) as u8 {
+        match self.second() {
             0 => Stop::Spent,
             7 => Stop::NoRoom,
             9 => Stop::Idle,
@@ -33,6 +38,24 @@ impl Word {
     /// What work or a squeeze did.
     pub fn worked(self) -> Worked {
         Worked { steps: self.steps(), stop: self.stop() }
+    }
+
+    /// What planning a step came to: no change is made in no block stores.
+    pub fn planned(self) -> Planned {
+        match self.gives() {
+            0 => Planned::Stopped(self.stop()),
+            stores => Planned::Stores(stores),
+        }
+    }
+
+    /// The block that was looked at or written.
+    pub fn place(self) -> Place {
+        let part = match self.second() {
+            0 => Part::Store,
+            1 => Part::Journal,
+            number => Part::Unknown { number },
+        };
+        Place { part, block: self.gives() }
     }
 
     /// Bits 0..7: done, or the refusal.
@@ -50,6 +73,8 @@ impl Word {
             8 => Refusal::OutputShort { matches: gives },
             11 => Refusal::Busy,
             12 => Refusal::InUse,
+            13 => Refusal::JournalLength,
+            14 => Refusal::Pending,
             number => Refusal::Unknown { number, gives },
         })
     }
@@ -74,8 +99,8 @@ pub fn standing(result: &[u8; RESULT_SIZE]) -> Standing {
 mod tests {
     use super::*;
 
-    /// Document 01's table with 11 and 12, and what a word with each number becomes. 9, 10, 13, 14 and 255 are none of
-    /// the wrapper's.
+    /// Document 01's table with 11 to 14, and what a word with each number becomes. 9, 10 and 255 are none of the
+    /// wrapper's.
     #[test]
     fn refusals_by_number() {
         let names =
@@ -85,13 +110,15 @@ mod tests {
             let other = match number {
                 11 => "busy",
                 12 => "in use",
+                13 => "journal length",
+                14 => "pending",
                 _ => "unknown",
             };
             let name = names.get(usize::from(number) - 1).copied().unwrap_or(other);
-            let gives = if [1, 2, 5, 6, 7, 11, 12].contains(&number) { 0 } else { 77 };
+            let gives = if [1, 2, 5, 6, 7, 11, 12, 13, 14].contains(&number) { 0 } else { 77 };
             assert_eq!((refusal.number(), refusal.gives(), refusal.name()), (number, gives, name));
         }
-        assert_eq!(Word(13).done().err(), Some(Refusal::Unknown { number: 13, gives: 0 }));
+        assert_eq!(Word(15).done().err(), Some(Refusal::Unknown { number: 15, gives: 0 }));
         assert_eq!(Word(77 << 32).done().map(Word::gives), Ok(77));
     }
 
@@ -103,6 +130,16 @@ mod tests {
             assert_eq!(word.worked(), Worked { steps: 0x1234, stop: word.stop() });
             assert_eq!(matches!(word.stop(), Stop::Unknown { .. }), ![0, 7, 9].contains(&number));
         }
+    }
+
+    #[test]
+    fn parts_and_plans() {
+        let word = |second: u64, gives: u64| Word(gives << 32 | second << 8);
+        assert_eq!(word(0, 1023).place(), Place { part: Part::Store, block: 1023 });
+        assert_eq!(word(1, 15).place(), Place { part: Part::Journal, block: 15 });
+        assert_eq!(word(2, 15).place().part, Part::Unknown { number: 2 });
+        assert_eq!(word(0, 19).planned(), Planned::Stores(19));
+        assert_eq!([7, 9].map(|stop| word(stop, 0).planned()), [Stop::NoRoom, Stop::Idle].map(Planned::Stopped));
     }
 
     #[test]

@@ -1,8 +1,10 @@
-//! The package and include/amiqsovik.h say the same of the version, the sizes and the names.
+//! The package and the headers in include say the same of the version, the sizes and the names.
 
-use amiqsovik::{format_over, Refusal, Stop, BLOCK_SIZE, MATCH_SIZE, MAX_BLOCKS, MIN_BLOCKS};
+use amiqsovik::{format_over, wipe, Refusal, Stop};
+use amiqsovik::{BLOCK_SIZE, JOURNAL_SIZE, MATCH_SIZE, MAX_BLOCKS, MIN_BLOCKS, PLAN_SIZE};
 
 const HEADER: &str = include_str!("../../../include/amiqsovik.h");
+const READERS: &str = include_str!("../../../include/amiqsovik_read.h");
 
 /// What the header defines a name as.
 fn defined(name: &str) -> &'static str {
@@ -26,6 +28,9 @@ fn sizes() {
     assert_eq!((defined("RESULT_BYTES"), defined("RESULT_SHORT")), ("28", "255"));
     assert_eq!(defined("MIN_BLOCKS"), MIN_BLOCKS.to_string());
     assert_eq!(defined("MAX_BLOCKS"), MAX_BLOCKS.to_string());
+    assert_eq!(defined("JOURNAL_BYTES"), JOURNAL_SIZE.to_string());
+    assert_eq!(defined("PLAN_BYTES"), PLAN_SIZE.to_string());
+    assert_eq!((defined("PART_STORE"), defined("PART_JOURNAL")), ("0", "1"));
 }
 
 /// The archive takes just these numbers of blocks.
@@ -34,6 +39,15 @@ fn fewest_and_most_blocks() {
     let format = |blocks| format_over(&mut vec![0; blocks * BLOCK_SIZE], 1, 0);
     assert_eq!([MIN_BLOCKS, MAX_BLOCKS].map(format), [Ok(()); 2]);
     assert_eq!([0, MIN_BLOCKS - 1, MAX_BLOCKS + 1, 2 * MAX_BLOCKS].map(format), [Err(Refusal::Length); 4]);
+}
+
+/// And journals of just this length.
+#[test]
+fn bytes_of_a_journal() {
+    let wipe = |bytes| wipe(&mut vec![0; bytes]);
+    assert_eq!(wipe(JOURNAL_SIZE), Ok(()));
+    let others = [0, JOURNAL_SIZE - 1, JOURNAL_SIZE + 1, JOURNAL_SIZE - BLOCK_SIZE, JOURNAL_SIZE + BLOCK_SIZE];
+    assert_eq!(others.map(wipe), [Err(Refusal::JournalLength); 5]);
 }
 
 #[test]
@@ -49,11 +63,13 @@ fn numbers_and_names() {
         ("OUTPUT_SHORT", Refusal::OutputShort { matches: 1 }),
         ("BUSY", Refusal::Busy),
         ("IN_USE", Refusal::InUse),
+        ("JOURNAL_LENGTH", Refusal::JournalLength),
+        ("PENDING", Refusal::Pending),
     ];
     for (name, refusal) in refusals {
         assert_eq!(defined(name), refusal.number().to_string(), "{name}");
         let case = format!("case AMIQSOVIK_{name}: return {:?};", refusal.name());
-        assert!(HEADER.contains(&case), "the header lacks `{case}`");
+        assert!(READERS.contains(&case), "the readers lack `{case}`");
     }
     for (name, stop) in [("STOP_SPENT", Stop::Spent), ("STOP_NO_ROOM", Stop::NoRoom), ("STOP_IDLE", Stop::Idle)] {
         assert_eq!(defined(name), stop.number().to_string(), "{name}");

@@ -1,4 +1,4 @@
-//! Stores at an end: of a point, so that the next begin needs a new one, or of what pages can hold.
+//! Stores at an end: of a point, so that the next begin needs a new one, or of what pages can hold, much or little.
 
 use crate::build::{deal, encode, Chains, Entries, Layout, IN_ALL};
 use crate::random::Random;
@@ -47,4 +47,39 @@ pub fn stuffed(blocks: u32) -> Vec<u8> {
     let chain =
         |first, rest: Vec<u32>| [vec![first], rest].concat().into_iter().map(|page| (page, full(page))).collect();
     encode(&layout, 40, 1, (0, 1), &vec![chain(1, old), chain(2, new)])
+}
+
+/// Copying from bucket 0 to bucket 2, with one or two entries on each overflow page of both chains, and some pages
+/// free: a removal may free a page in the midst of each chain.
+pub fn sparse(random: &mut Random, blocks: u32) -> Vec<u8> {
+    let mut spares = [0; 16];
+    (spares[1], spares[2]) = (1, blocks - 5);
+    let layout = Layout { blocks, max: 2, point: 2, spares, number: random.store_number() };
+    let mut free: Vec<u32> = (1..layout.bits()).map(|bit| layout.bit_block(bit)).collect();
+    random.shuffle(&mut free);
+    let mut pair =
+        |i: usize| (4 * random.below(3) + random.pick(&[0, 2, 2]), i as u32, random.within(1, 65_535) as u16);
+    let pairs: Vec<_> = (0..free.len() / 2).map(&mut pair).collect();
+    let mut guests: Vec<_> = pairs.iter().filter(|pair| pair.0 % 4 == 2).map(|&pair| (pair, true)).collect();
+    random.shuffle(&mut guests);
+    let old = thinly(random, layout.bucket_block(0), pairs.into_iter().map(|pair| (pair, false)).collect(), &mut free);
+    let new = thinly(random, layout.bucket_block(2), guests, &mut free);
+    let other = vec![(layout.bucket_block(1), Entries::new())];
+    encode(&layout, random.within(1, 40), 1, (0, 2), &vec![old, other, new])
+}
+
+/// A chain with an empty bucket page and one or two entries on each other page.
+fn thinly(
+    random: &mut Random,
+    first: u32,
+    entries: Vec<((u32, u32, u16), bool)>,
+    free: &mut Vec<u32>,
+) -> Vec<(u32, Entries)> {
+    let mut chain = vec![(first, Entries::new())];
+    let mut entries = entries.into_iter().peekable();
+    while entries.peek().is_some() {
+        let page = entries.by_ref().take(random.within(1, 2) as usize).collect();
+        chain.push((free.pop().expect("a free page"), page));
+    }
+    chain
 }

@@ -1,8 +1,8 @@
 //! The proved index and the ordinary one, side by side.
 //!
-//! The tests in `tests/` make calls through [`twin::Twin`], which makes each on both and compares answers, stores and
-//! outputs to the byte. Everything else here is aid: a generator of numbers, the check bit by bit, stores built, read
-//! or spoilt from outside, the book of demand 3, and what the benchmark measures.
+//! The tests in `tests/` make calls through [`twin::Twin`], which makes each on both and compares answers, stores,
+//! journals and outputs to the byte. Everything else here is aid: a generator of numbers, the check bit by bit, stores
+//! and journals built, read or spoilt from outside, the book of demand 3, and what the benchmark measures.
 
 #![deny(unsafe_code)]
 
@@ -10,8 +10,10 @@ pub mod book;
 pub mod brink;
 pub mod build;
 pub mod chains;
+pub mod cuts;
 #[allow(unsafe_code)]
 pub mod foreign;
+pub mod journals;
 pub mod lists;
 pub mod numbered;
 pub mod random;

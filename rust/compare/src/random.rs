@@ -46,6 +46,14 @@ impl Random {
         self.pick(&numbers)
     }
 
+    /// Bytes, all the same or any.
+    pub fn bytes(&mut self, len: usize) -> Vec<u8> {
+        if self.once_in(4) {
+            return vec![self.number() as u8; len];
+        }
+        (0..len.div_ceil(8)).flat_map(|_| self.word().to_le_bytes()).take(len).collect()
+    }
+
     pub fn shuffle<T>(&mut self, things: &mut [T]) {
         for i in (1..things.len()).rev() {
             things.swap(i, self.below(i as u32 + 1) as usize);

@@ -15,6 +15,12 @@ enum Call {
     Lookup(u32),
     /// An insert, and the removal of the same pair.
     Pair,
+    /// An insert, whose blocks are then put back.
+    Insert,
+    /// The same, without the journal by the ordinary side.
+    Bare,
+    /// The block stores of its plan, and nothing else.
+    Stores,
     /// A format that is refused, since the store is in use.
     Kept,
     /// A format that overwrites.
@@ -108,9 +114,10 @@ impl Row {
 /// The sizes of the rows on the longest chains.
 const SIZES: [u32; 3] = [16, 128, 1024];
 
-/// All rows: calls by N, verdicts by the pages of a chain, lookups by matches, jobs, whole splits, squeezes.
+/// All rows: calls by N, inserts and their journal, verdicts by the pages of a chain, lookups by matches, jobs, whole
+/// splits, squeezes.
 pub fn rows() -> Vec<Row> {
-    [by_size(), verdicts(), lookups(), jobs(), splits(), squeezes()].concat()
+    [by_size(), journals(), verdicts(), lookups(), jobs(), splits(), squeezes()].concat()
 }
 
 /// Calls on even buckets: half as many as blocks, and as many as 1,024 blocks have room for.
@@ -125,6 +132,19 @@ fn by_size() -> Vec<Row> {
         let half = |blocks| Row::new(blocks, name, call, Kind::Even(blocks / 2, split));
         let most = Row::new(1024, format!("{name}, 896 buckets"), call, Kind::Even(896, split));
         [4, 16, 64, 128, 1024].map(half).into_iter().chain([most])
+    };
+    calls.into_iter().flat_map(rows).collect()
+}
+
+/// Inserts on even buckets, and the journal's part of them.
+fn journals() -> Vec<Row> {
+    let calls = [
+        ("insert, journalled", Call::Insert),
+        ("insert, ordinary without journal", Call::Bare),
+        ("insert, its block stores alone", Call::Stores),
+    ];
+    let rows = |(name, call)| {
+        [4, 16, 128, 1024].map(|blocks| Row::new(blocks, name, call, Kind::Even(blocks / 2, Split::Over)))
     };
     calls.into_iter().flat_map(rows).collect()
 }

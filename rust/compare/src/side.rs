@@ -1,9 +1,13 @@
 //! The two implementations behind one interface, their answers in the documents' numbers.
 
-use crate::foreign;
+use crate::lists::Pair;
+
+pub mod ordinary;
+mod proved;
 
 /// An answer: the number of the refusal or 0, what it gives besides, and the steps and the stop of work or a squeeze. A
-/// done lookup gives its number of matches.
+/// done lookup gives its number of matches, a plan its number of block stores. A look, and a block store that was done,
+/// give a block, and their `stop` is 0 if it is the store's and 1 if it is the journal's.
 #[derive(Debug, Clone, Copy, PartialEq, Eq, Default)]
 pub struct Reply {
     pub number: u8,
@@ -32,6 +36,12 @@ impl Reply {
         Reply { number, gives: (word >> 32) as u32, steps: steps.into(), stop }
     }
 
+    /// The word that says so.
+    pub fn word(self) -> u64 {
+        let bits = u64::from(self.number) | u64::from(self.stop) << 8 | u64::from(self.steps) << 16;
+        bits | u64::from(self.gives) << 32
+    }
+
     /// Done, or refused with 12.
     fn used(used: bool) -> Self {
         Reply::refused(if used { 12 } else { 0 }, 0)
@@ -49,169 +59,51 @@ pub struct State {
     pub slack: i64,
 }
 
+/// A change: one list of block stores. Of work and a squeeze, of this bucket, it is one step.
+#[derive(Debug, Clone, Copy)]
+pub enum Change {
+    Insert(Pair),
+    Remove(Pair),
+    Work,
+    Squeeze(u32),
+}
+
+/// The bytes of a journal, and of a plan.
+pub const JOURNAL: usize = 8_192;
+pub const PLAN: usize = 5_632;
+
 /// An implementation of the index.
 pub trait Side {
     fn verify(store: &[u8]) -> Reply;
     fn format(store: &mut [u8], fill: u32, number: u32, overwrite: u32) -> Reply;
     fn in_use(store: &[u8]) -> Reply;
-    fn insert(store: &mut [u8], hash: u32, block: u32, offset: u32) -> Reply;
-    fn remove(store: &mut [u8], hash: u32, block: u32, offset: u32) -> Reply;
-    fn lookup(store: &[u8], hash: u32, output: &mut [u8]) -> Reply;
-    fn work(store: &mut [u8], budget: u32) -> Reply;
-    /// The same work, sealed once at the end of the call by a side that can do so.
-    fn work_sealed_once(store: &mut [u8], budget: u32) -> Reply {
-        Self::work(store, budget)
+    fn insert(store: &mut [u8], journal: &mut [u8], hash: u32, block: u32, offset: u32) -> Reply;
+    fn remove(store: &mut [u8], journal: &mut [u8], hash: u32, block: u32, offset: u32) -> Reply;
+    /// The same insert and removal, without the journal by a side that can do so.
+    fn bare_insert(store: &mut [u8], journal: &mut [u8], hash: u32, block: u32, offset: u32) -> Reply {
+        Self::insert(store, journal, hash, block, offset)
     }
-    fn squeeze(store: &mut [u8], bucket: u32, budget: u32) -> Reply;
+    fn bare_remove(store: &mut [u8], journal: &mut [u8], hash: u32, block: u32, offset: u32) -> Reply {
+        Self::remove(store, journal, hash, block, offset)
+    }
+    fn lookup(store: &[u8], hash: u32, output: &mut [u8]) -> Reply;
+    fn work(store: &mut [u8], journal: &mut [u8], budget: u32) -> Reply;
+    /// The same work, sealed once at the end of the call, and without the journal, by a side that can do so.
+    fn work_sealed_once(store: &mut [u8], journal: &mut [u8], budget: u32) -> Reply {
+        Self::work(store, journal, budget)
+    }
+    fn squeeze(store: &mut [u8], journal: &mut [u8], bucket: u32, budget: u32) -> Reply;
     fn standing(store: &[u8]) -> (Reply, State);
+    fn recover(store: &mut [u8], journal: &mut [u8]) -> Reply;
+    fn wipe(journal: &mut [u8]) -> Reply;
+    fn wiped(journal: &[u8]) -> Reply;
+    fn look(store: &[u8], journal: &[u8], block: u32) -> Reply;
+    fn plan(store: &[u8], journal: &[u8], change: Change, plan: &mut [u8]) -> Reply;
+    fn do_store(store: &mut [u8], journal: &mut [u8], plan: &[u8], n: u32) -> Reply;
 }
 
-/// The proved index, through its wrapper.
+/// The proved index.
 pub struct Proved;
 
 /// The ordinary one.
 pub struct Ordinary;
-
-impl Side for Proved {
-    fn verify(store: &[u8]) -> Reply {
-        proved(amiqsovik::verify(store))
-    }
-
-    /// Other numbers than 0 and 1 for `overwrite` go through the function for C.
-    fn format(store: &mut [u8], fill: u32, number: u32, overwrite: u32) -> Reply {
-        match overwrite {
-            0 => proved(amiqsovik::format(store, fill, number)),
-            1 => proved(amiqsovik::format_over(store, fill, number)),
-            _ => Reply::of(foreign::format(store, fill, number, overwrite)),
-        }
-    }
-
-    fn in_use(store: &[u8]) -> Reply {
-        amiqsovik::in_use(store).map_or_else(|refusal| proved(Err(refusal)), Reply::used)
-    }
-
-    fn insert(store: &mut [u8], hash: u32, block: u32, offset: u32) -> Reply {
-        proved(amiqsovik::insert(store, hash, block, offset))
-    }
-
-    fn remove(store: &mut [u8], hash: u32, block: u32, offset: u32) -> Reply {
-        proved(amiqsovik::remove(store, hash, block, offset))
-    }
-
-    fn lookup(store: &[u8], hash: u32, output: &mut [u8]) -> Reply {
-        match amiqsovik::lookup(store, hash, output) {
-            Ok(matches) => Reply { gives: matches.len() as u32, ..Reply::default() },
-            Err(refusal) => proved(Err(refusal)),
-        }
-    }
-
-    fn work(store: &mut [u8], budget: u32) -> Reply {
-        did(amiqsovik::work(store, budget))
-    }
-
-    fn squeeze(store: &mut [u8], bucket: u32, budget: u32) -> Reply {
-        did(amiqsovik::squeeze(store, bucket, budget))
-    }
-
-    fn standing(store: &[u8]) -> (Reply, State) {
-        use amiqsovik::Phase;
-        match amiqsovik::standing(store) {
-            Ok(now) => {
-                let (phase, old, new) = match now.phase {
-                    Phase::None => (0, 0, 0),
-                    Phase::Copying { old, new } => (1, old, new),
-                    Phase::Clearing { old, new } => (2, old, new),
-                    Phase::Unknown { number, old, new } => (number, old, new),
-                };
-                let state = State { count: now.count, buckets: now.buckets, phase, old, new, slack: now.slack };
-                (Reply::default(), state)
-            }
-            Err(refusal) => (proved(Err(refusal)), State::default()),
-        }
-    }
-}
-
-fn proved(answer: Result<(), amiqsovik::Refusal>) -> Reply {
-    match answer {
-        Ok(()) => Reply::default(),
-        Err(refusal) => Reply::refused(refusal.number(), refusal.gives()),
-    }
-}
-
-fn did(answer: Result<amiqsovik::Worked, amiqsovik::Refusal>) -> Reply {
-    match answer {
-        Ok(did) => Reply::worked(did.steps, did.stop.number()),
-        Err(refusal) => proved(Err(refusal)),
-    }
-}
-
-impl Side for Ordinary {
-    fn verify(store: &[u8]) -> Reply {
-        ordinary(ordinary::verify(store))
-    }
-
-    fn format(store: &mut [u8], fill: u32, number: u32, overwrite: u32) -> Reply {
-        ordinary(ordinary::format(store, fill, number, overwrite))
-    }
-
-    fn in_use(store: &[u8]) -> Reply {
-        ordinary::in_use(store).map_or_else(|refusal| ordinary(Err(refusal)), Reply::used)
-    }
-
-    fn insert(store: &mut [u8], hash: u32, block: u32, offset: u32) -> Reply {
-        ordinary(ordinary::insert(store, hash, block, offset))
-    }
-
-    fn remove(store: &mut [u8], hash: u32, block: u32, offset: u32) -> Reply {
-        ordinary(ordinary::remove(store, hash, block, offset))
-    }
-
-    fn lookup(store: &[u8], hash: u32, output: &mut [u8]) -> Reply {
-        match ordinary::lookup(store, hash, output) {
-            Ok(matches) => Reply { gives: matches, ..Reply::default() },
-            Err(refusal) => ordinary(Err(refusal)),
-        }
-    }
-
-    fn work(store: &mut [u8], budget: u32) -> Reply {
-        worked(ordinary::work(store, budget))
-    }
-
-    fn work_sealed_once(store: &mut [u8], budget: u32) -> Reply {
-        worked(ordinary::work_sealed_once(store, budget))
-    }
-
-    fn squeeze(store: &mut [u8], bucket: u32, budget: u32) -> Reply {
-        worked(ordinary::squeeze(store, bucket, budget))
-    }
-
-    fn standing(store: &[u8]) -> (Reply, State) {
-        use ordinary::Phase;
-        match ordinary::standing(store) {
-            Ok(now) => {
-                let (phase, old, new) = match now.phase {
-                    Phase::None => (0, 0, 0),
-                    Phase::Copying { old, new } => (1, old, new),
-                    Phase::Clearing { old, new } => (2, old, new),
-                };
-                let state = State { count: now.count, buckets: now.buckets, phase, old, new, slack: now.slack };
-                (Reply::default(), state)
-            }
-            Err(refusal) => (ordinary(Err(refusal)), State::default()),
-        }
-    }
-}
-
-fn ordinary(answer: Result<(), ordinary::Refusal>) -> Reply {
-    match answer {
-        Ok(()) => Reply::default(),
-        Err(refusal) => Reply::refused(refusal.number(), refusal.gives()),
-    }
-}
-
-fn worked(answer: Result<ordinary::Worked, ordinary::Refusal>) -> Reply {
-    match answer {
-        Ok(did) => Reply::worked(did.steps, did.stop.number()),
-        Err(refusal) => ordinary(Err(refusal)),
-    }
-}

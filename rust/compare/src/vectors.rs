@@ -1,10 +1,11 @@
-//! Replays the files of tests/vectors, whose README.md says how they are written: whole stores, with the answer of
-//! every call on each.
+//! Replays the files of tests/vectors, whose README.md says how they are written: whole stores, document 02's with
+//! their journals, and the answer of every call on each.
 
 use crate::numbered::{numbered, unnumbered};
-use crate::seal::check;
+use crate::seal::{self, check};
 use crate::sha256::first8;
-use crate::side::{Reply, Side};
+use crate::side::{Reply, Side, JOURNAL};
+use crate::twin::wiped;
 use crate::word::places;
 
 /// A file of tests/vectors.
@@ -13,15 +14,21 @@ pub fn file(name: &str) -> String {
     std::fs::read_to_string(format!("{folder}/{name}")).unwrap_or_else(|error| panic!("{name}: {error}"))
 }
 
-/// How many calls were replayed, and how many of them were refused with 12; how many were squeezes, and how many of
-/// those were refused with 11 and how many made a step.
+/// How many calls were replayed, and how many of them were refused with 12, and with 14; how many were squeezes, and
+/// how many of those were refused with 11 and how many made a step; how many were recoveries, and how many of those
+/// changed the store; how many were looks, and how many of those found a block in the journal.
 #[derive(Debug, Default, PartialEq, Eq)]
 pub struct Replayed {
     pub calls: u32,
     pub in_use: u32,
+    pub pending: u32,
     pub squeezes: u32,
     pub busy: u32,
     pub moved: u32,
+    pub recoveries: u32,
+    pub mended: u32,
+    pub looks: u32,
+    pub in_journal: u32,
 }
 
 impl Replayed {
@@ -30,13 +37,27 @@ impl Replayed {
         assert_eq!(written, said, "{label}");
         self.calls += 1;
         self.in_use += u32::from(said.starts_with("12 "));
+        self.pending += u32::from(said.starts_with("14 "));
     }
 
-    /// Counts a squeeze by what the file says: number, what it gives, steps.
-    fn squeeze(&mut self, said: &[&str]) {
-        self.squeezes += 1;
-        self.busy += u32::from(said[0] == "11");
-        self.moved += u32::from(said[2] != "0");
+    /// Counts a squeeze, a recovery or a look by what the file says.
+    fn count(&mut self, kind: &str, said: &[&str], store: &[u8]) {
+        match kind {
+            "z" => {
+                self.squeezes += 1;
+                self.busy += u32::from(said[0] == "11");
+                self.moved += u32::from(said[2] != "0");
+            }
+            "R" => {
+                self.recoveries += 1;
+                self.mended += u32::from(said[1] != first8(store));
+            }
+            "L" => {
+                self.looks += 1;
+                self.in_journal += u32::from(said[1].starts_with('j'));
+            }
+            _ => {}
+        }
     }
 }
 
@@ -59,8 +80,9 @@ pub fn replay_01<S: Side>(text: &str, number: u32) -> Replayed {
         let (taken, said) = words.split_at(arguments(kind, 1));
         let (taken, all) = (numbers(taken), said.join(" "));
         let written = |taken: &[u32]| {
-            let (answer, after) = answer::<S>(&store, kind, taken);
-            with_digest(answer, after.map(|after| unnumbered(&after, number)))
+            let (answer, left) = answer::<S>(&store, &wiped(), kind, taken);
+            // The journal of a change is no part of document 01.
+            with_digests(answer, left.iter().take(1).map(|after| unnumbered(after, number)))
         };
         match (kind, &taken[..]) {
             ("f", &[fill]) => {
@@ -92,27 +114,23 @@ fn in_use<S: Side>(store: &[u8], said: &[&str], label: &str) -> bool {
 
 /// Replays 02/stores.txt on a side.
 pub fn replay_02<S: Side>(text: &str) -> Replayed {
-    let mut store = Vec::new();
+    let (mut store, mut journal) = (Vec::new(), Vec::new());
     let mut replayed = Replayed::default();
     for (line, place) in text.lines().zip(1..) {
         let label = format!("line {place} of 02/stores.txt");
         let (kind, words) = split(line);
         match kind {
-            "S" => store = unused(&numbers(&words)),
+            "S" => (store, journal) = (unused(&numbers(&words)), empty_journal()),
             "B" => put_block(&mut store, &words),
+            "J" => journal = vec![0; JOURNAL],
+            "K" => put_block(&mut journal, &words),
             _ => {
-                let (taken, mut said) = words.split_at(arguments(kind, 3));
-                if ["+", "-", "w", "z"].contains(&kind) {
-                    // The last word is the digest of a journal, and there is none yet.
-                    said = &said[..said.len() - 1];
-                }
-                let (answer, after) = answer::<S>(&store, kind, &numbers(taken));
-                replayed.call(&with_digest(answer, after), &said.join(" "), &label);
+                let (taken, said) = words.split_at(arguments(kind, 3));
+                let (answer, left) = answer::<S>(&store, &journal, kind, &numbers(taken));
+                replayed.call(&with_digests(answer, left.into_iter()), &said.join(" "), &label);
+                replayed.count(kind, said, &store);
                 if kind == "s" {
                     in_use::<S>(&store, said, &label);
-                }
-                if kind == "z" {
-                    replayed.squeeze(said);
                 }
             }
         }
@@ -138,8 +156,8 @@ fn unhex(digits: &str) -> Vec<u8> {
 /// How many numbers a line has for its call; the files differ in what a format has.
 fn arguments(kind: &str, format: usize) -> usize {
     match kind {
-        "V" | "s" => 0,
-        "w" => 1,
+        "V" | "s" | "R" => 0,
+        "w" | "L" => 1,
         "?" | "z" => 2,
         "+" | "-" => 3,
         "f" => format,
@@ -170,42 +188,59 @@ fn put_block(store: &mut [u8], words: &[&str]) {
     }
 }
 
-/// What a file says of an answer: with the digest of the store, if the call may change it.
-fn with_digest(answer: String, after: Option<Vec<u8>>) -> String {
-    match after {
-        Some(store) => format!("{answer} {}", first8(&store)),
-        None => answer,
-    }
+/// A journal of zeros but for its wiped head.
+fn empty_journal() -> Vec<u8> {
+    let mut journal = wiped();
+    journal[512..].fill(0);
+    journal
 }
 
-/// Makes a call on a copy of the store. Gives what a file says of its answer, and the copy if the call may change it.
-fn answer<S: Side>(store: &[u8], kind: &str, numbers: &[u32]) -> (String, Option<Vec<u8>>) {
-    let mut copy = store.to_vec();
+/// What a file says of an answer: with the digests of what the call left.
+fn with_digests(answer: String, left: impl Iterator<Item = Vec<u8>>) -> String {
+    left.fold(answer, |said, bytes| format!("{said} {}", first8(&bytes)))
+}
+
+/// Makes a call on copies of store and journal. Gives what a file says of its answer, and what the file has digests of:
+/// the store, if the call may change it, and the journal, if it may change that too.
+fn answer<S: Side>(store: &[u8], journal: &[u8], kind: &str, numbers: &[u32]) -> (String, Vec<Vec<u8>>) {
+    let (mut copy, mut left) = (store.to_vec(), journal.to_vec());
     let said = match (kind, numbers) {
-        ("V", []) => {
-            let Reply { number, gives, .. } = S::verify(store);
-            return (format!("{number} {gives}"), None);
-        }
+        ("V", []) => return (plain(S::verify(store)), Vec::new()),
         ("s", []) => {
-            let (Reply { number, gives, .. }, s) = S::standing(store);
+            let (reply, s) = S::standing(store);
             let state = format!("{} {} {} {} {} {}", s.count, s.buckets, s.phase, s.old, s.new, s.slack);
-            return (format!("{number} {gives} {state}"), None);
+            return (format!("{} {state}", plain(reply)), Vec::new());
         }
-        ("?", &[hash, room]) => return (lookup::<S>(store, hash, room), None),
-        ("+", &[hash, block, offset]) => plain(S::insert(&mut copy, hash, block, offset)),
-        ("-", &[hash, block, offset]) => plain(S::remove(&mut copy, hash, block, offset)),
-        ("w", &[budget]) => {
-            let reply = S::work(&mut copy, budget);
-            format!("{} {} {}", plain(reply), reply.steps, reply.stop)
+        ("?", &[hash, room]) => return (lookup::<S>(store, hash, room), Vec::new()),
+        ("L", &[block]) => return (look::<S>(store, journal, block), Vec::new()),
+        ("f", &[fill, number, overwrite]) => {
+            let reply = S::format(&mut copy, fill, number, overwrite);
+            return (reply.number.to_string(), vec![copy]);
         }
-        ("z", &[bucket, budget]) => {
-            let reply = S::squeeze(&mut copy, bucket, budget);
-            format!("{} {} {}", plain(reply), reply.steps, reply.stop)
-        }
-        ("f", &[fill, number, overwrite]) => S::format(&mut copy, fill, number, overwrite).number.to_string(),
+        ("+", &[hash, block, offset]) => plain(S::insert(&mut copy, &mut left, hash, block, offset)),
+        ("-", &[hash, block, offset]) => plain(S::remove(&mut copy, &mut left, hash, block, offset)),
+        ("w", &[budget]) => steps(S::work(&mut copy, &mut left, budget)),
+        ("z", &[bucket, budget]) => steps(S::squeeze(&mut copy, &mut left, bucket, budget)),
+        ("R", []) => S::recover(&mut copy, &mut left).number.to_string(),
         other => panic!("a file has a call {other:?}"),
     };
-    (said, Some(copy))
+    (said, vec![copy, left])
+}
+
+fn steps(reply: Reply) -> String {
+    format!("{} {} {}", plain(reply), reply.steps, reply.stop)
+}
+
+/// Where the block is found, and the digest of its bytes there, or of none.
+fn look<S: Side>(store: &[u8], journal: &[u8], block: u32) -> String {
+    let reply = S::look(store, journal, block);
+    let (place, slice) = match (reply.done(), reply.stop) {
+        (true, 0) => ("s".into(), store),
+        (true, _) => (format!("j{}", reply.gives), journal),
+        _ => ("-".into(), store),
+    };
+    let bytes = if reply.done() { seal::block(slice, reply.gives as usize) } else { &[] };
+    format!("{} {place} {}", reply.number, first8(bytes))
 }
 
 fn plain(reply: Reply) -> String {

@@ -6,7 +6,8 @@ use compare::random::Random;
 use compare::side::Reply;
 use compare::spoil::spoil;
 use compare::stores::{copying, copying_one_code, half_empty, shaped, thin, wanting};
-use compare::twin::Twin;
+use compare::twin::{wiped, Twin};
+use ordinary::bare;
 
 const MOST: u32 = 65_535;
 
@@ -92,7 +93,7 @@ fn twice(twin: &Twin, call: Steps, first: u32, second: u32) {
     // A budget of 0 stops with 0 whatever came before it.
     let stop = if second == 0 { a.stop } else { b.stop };
     assert_eq!(Reply { steps: a.steps + b.steps, stop, ..b }, together, "{label}");
-    assert!(parted.bytes() == once.bytes(), "{label}: other bytes");
+    assert!(parted.bytes() == once.bytes() && parted.journal() == once.journal(), "{label}: other bytes");
 }
 
 #[test]
@@ -122,9 +123,11 @@ fn two_calls_as_one() {
 fn sealed_once() {
     let mut random = Random::new(13_000);
     let same = |store: Vec<u8>, budget, label| {
-        let (mut each, mut once) = (store.clone(), store);
-        let (answer, other) = (ordinary::work(&mut each, budget), ordinary::work_sealed_once(&mut once, budget));
+        let (mut each, mut once, mut unjournalled) = (store.clone(), store.clone(), store);
+        let answer = ordinary::work(&mut each, &mut wiped(), budget);
+        let (other, bare) = (bare::work_sealed_once(&mut once, budget), bare::work(&mut unjournalled, budget));
         assert!(answer == other && each == once, "{label}, work {budget}: {answer:?} and {other:?}");
+        assert!(answer == bare && each == unjournalled, "{label}, work {budget}: {answer:?} and {bare:?}");
     };
     for (number, store) in [copying(128), copying_one_code(128), copying_one_code(108), wanting(16)].iter().enumerate()
     {

@@ -1,10 +1,29 @@
-//! Random lists of calls on both sides: answers, stores and outputs are the same.
+//! Random lists of calls on both sides: answers, stores, journals and outputs are the same.
 
+use compare::journals::barred;
 use compare::lists::{Call, Maker, Seen};
+use compare::random::Random;
+use compare::spoil::damage;
 use compare::twin::Twin;
+
+/// Makes a call on a copy of the store, sound or damaged, with a journal that no change takes.
+fn bar(random: &mut Random, twin: &Twin, call: Call, seen: &mut Seen) {
+    let (mut store, damaged) = (twin.bytes().to_vec(), random.once_in(2));
+    if damaged {
+        damage(random, &mut store);
+    }
+    let journal = barred(random, &store);
+    let mut other = Twin::beside(store, journal, format!("{}: a journal that no change takes", twin.label));
+    let (wanted, reply) = (call.barred(other.journal()), call.make(&mut other));
+    if let Some(number) = wanted {
+        assert_eq!(reply.number, number, "{}: {call:?}", other.label);
+        *seen.barred.entry((number, damaged)).or_default() += 1;
+    }
+}
 
 fn run(seed: u64, blocks: usize, fill: u32, calls: u32, maker: &mut Maker, seen: &mut Seen) {
     let mut twin = Twin::new(vec![0x5A; blocks * 512], format!("seed {seed}, N {blocks}, fill {fill}"));
+    let mut random = Random::new(seed);
     // Formatted again in the end, over what stands there, and under another number.
     for (calls, overwrite) in [(calls, 0), (30, 1)] {
         let format = Call::Format(fill, maker.random.store_number(), overwrite);
@@ -13,12 +32,19 @@ fn run(seed: u64, blocks: usize, fill: u32, calls: u32, maker: &mut Maker, seen:
         maker.note(format, reply);
         for _ in 0..calls {
             let call = maker.call();
+            bar(&mut random, &twin, call, seen);
             let reply = call.make(&mut twin);
             maker.note(call, reply);
             seen.note(call, reply, &twin);
         }
         assert!(twin.verify().done(), "{}: not sound", twin.label);
     }
+}
+
+/// Journals that no change takes, beside sound stores and damaged ones: 13, 2 before 14, and 14 before 3.
+fn journals_reached(seen: &Seen) {
+    let numbers = [13, 2, 14].into_iter().flat_map(|number| [(number, false), (number, true)]);
+    assert!(numbers.clone().all(|wanted| seen.barred.contains_key(&wanted)), "{seen:?}");
 }
 
 /// Formats that were kept off, that overwrote, and with other numbers.
@@ -46,6 +72,7 @@ fn few_codes_in_small_stores() {
     seen.reached(&[0, 2, 5, 6, 7, 8, 12], &[0, 7, 9], &[0, 1, 2]);
     formats_reached(&seen);
     squeezes_reached(&seen);
+    journals_reached(&seen);
     assert!(seen.longest_chain >= 4 && seen.most_free_pages >= 1, "{seen:?}");
 }
 
@@ -59,6 +86,7 @@ fn many_codes_in_middle_stores() {
     seen.reached(&[0, 2, 5, 6, 8, 12], &[0, 7, 9], &[0, 1, 2]);
     formats_reached(&seen);
     squeezes_reached(&seen);
+    journals_reached(&seen);
     assert!(seen.most_buckets >= 12 && seen.most_free_pages >= 1, "{seen:?}");
 }
 

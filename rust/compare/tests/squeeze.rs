@@ -276,11 +276,12 @@ fn words() {
         }
         let (bucket, budget) = (random.below(4), random.pick(&[0, 1, 5, MOST, MOST + 1]));
         let mut twin = Twin::new(store.clone(), format!("seed {seed}"));
+        let mut journal = twin.journal().to_vec();
         let reply = twin.squeeze(bucket, budget);
-        let bits = u64::from(reply.number) | u64::from(reply.stop) << 8 | u64::from(reply.steps) << 16;
-        let word = foreign::squeeze(&mut store, bucket, budget);
-        assert_eq!(word, bits | u64::from(reply.gives) << 32, "{}", twin.label);
-        assert!(store == twin.bytes(), "{}: other bytes by the function for C", twin.label);
+        let word = foreign::squeeze(&mut store, &mut journal, bucket, budget);
+        assert_eq!(word, reply.word(), "{}", twin.label);
+        let same = store == twin.bytes() && journal == twin.journal();
+        assert!(same, "{}: other bytes by the function for C", twin.label);
         assert!(reply.gives == 0 || [3, 4].contains(&reply.number), "{}: {reply:?}", twin.label);
         assert!(reply.done() || (reply.steps, reply.stop) == (0, 0), "{}: {reply:?}", twin.label);
         seen.insert((reply.number, reply.stop, reply.steps > 0));

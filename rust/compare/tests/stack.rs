@@ -6,8 +6,11 @@
 use compare::brink::{brink, stuffed};
 use compare::build::{found, sound_at};
 use compare::foreign::c::*;
+use compare::journals::full;
 use compare::random::Random;
+use compare::side::PLAN;
 use compare::stores::{copying, copying_one_code, even, half_empty, leaving, longest, thin, wanting, Split};
+use compare::twin::wiped;
 use std::collections::BTreeMap;
 use std::ffi::{c_int, c_void};
 use std::hint::black_box;
@@ -119,9 +122,10 @@ fn pairs(store: &[u8]) -> Vec<(u32, u32, u32)> {
     [all.next(), all.last(), moved, alone.last()].into_iter().flatten().map(|entry| entry.pair).collect()
 }
 
-/// Every call on copies of a store.
+/// Every call on copies of a store, beside a wiped journal.
 fn calls(table: &mut Table, name: &str, store: &[u8]) {
-    let (at, len) = (store.as_ptr(), store.len());
+    let (at, len, mut journal) = (store.as_ptr(), store.len(), wiped());
+    let (j, j_len) = (journal.as_mut_ptr(), journal.len());
     let mut output = vec![0; 6 * 40_880];
     let (out, room) = (output.as_mut_ptr(), output.len());
     let mut copy = store.to_vec();
@@ -142,17 +146,60 @@ fn calls(table: &mut Table, name: &str, store: &[u8]) {
         table.add("lookup", name, &[0], || unsafe { amiqsovik_lookup(at, len, hash, out, room) });
         table.add("lookup", name, &[8], || unsafe { amiqsovik_lookup(at, len, hash, out, 5) });
         let (to, other) = (fresh(), block ^ 0x0055_0000);
-        table.add("insert", name, &[5], || unsafe { amiqsovik_insert(to, len, hash, block, offset) });
-        table.add("remove", name, &[6], || unsafe { amiqsovik_remove(to, len, hash, other, offset) });
-        table.add("insert", name, &[0, 7], || unsafe { amiqsovik_insert(fresh(), len, hash, other, offset) });
-        table.add("remove", name, &[0], || unsafe { amiqsovik_remove(fresh(), len, hash, block, offset) });
+        table.add("insert", name, &[5], || unsafe { amiqsovik_insert(to, len, j, j_len, hash, block, offset) });
+        table.add("remove", name, &[6], || unsafe { amiqsovik_remove(to, len, j, j_len, hash, other, offset) });
+        let insert = || unsafe { amiqsovik_insert(fresh(), len, j, j_len, hash, other, offset) };
+        table.add("insert", name, &[0, 7], insert);
+        table.add("remove", name, &[0], || unsafe { amiqsovik_remove(fresh(), len, j, j_len, hash, block, offset) });
     }
     for budget in [1, 50, 65_535] {
-        table.add("work", name, &[0], || unsafe { amiqsovik_work(fresh(), len, budget) });
+        table.add("work", name, &[0], || unsafe { amiqsovik_work(fresh(), len, j, j_len, budget) });
         for bucket in [0, 1, 300] {
-            let wanted = [0, 2, 11];
-            table.add("squeeze", name, &wanted, || unsafe { amiqsovik_squeeze(fresh(), len, bucket, budget) });
+            let squeeze = || unsafe { amiqsovik_squeeze(fresh(), len, j, j_len, bucket, budget) };
+            table.add("squeeze", name, &[0, 2, 11], squeeze);
         }
+    }
+}
+
+/// Plans, and their block stores.
+fn plans(table: &mut Table, name: &str, store: &[u8]) {
+    let (at, len, journal) = (store.as_ptr(), store.len(), wiped());
+    let (j, j_len) = (journal.as_ptr(), journal.len());
+    let (mut copy, mut pending) = (store.to_vec(), wiped());
+    let (to, pending) = (copy.as_mut_ptr(), pending.as_mut_ptr());
+    let mut plan = vec![0; PLAN];
+    let (p, p_len) = (plan.as_mut_ptr(), plan.len());
+    // SAFETY, of every call: as above.
+    table.add("plan_work", name, &[0], || unsafe { amiqsovik_plan_work(at, len, j, j_len, p, p_len) });
+    let squeeze = || unsafe { amiqsovik_plan_squeeze(at, len, j, j_len, 0, p, p_len) };
+    table.add("plan_squeeze", name, &[0, 11], squeeze);
+    for (hash, block, offset) in pairs(store) {
+        let other = block ^ 0x0055_0000;
+        let insert = || unsafe { amiqsovik_plan_insert(at, len, j, j_len, hash, other, offset, p, p_len) };
+        table.add("plan_insert", name, &[0, 7], insert);
+        let remove = || unsafe { amiqsovik_plan_remove(at, len, j, j_len, hash, block, offset, p, p_len) };
+        table.add("plan_remove", name, &[0], remove);
+        for n in 0..5 {
+            table.add("do_store", name, &[0], || unsafe { amiqsovik_do_store(to, len, pending, j_len, p, p_len, n) });
+        }
+    }
+}
+
+/// The calls for a journal, beside one with as many images as there can be.
+fn recoveries(table: &mut Table, name: &str, store: &[u8]) {
+    let (pending, mut copy) = (full(store, 7), store.to_vec());
+    let (to, len, mut journal) = (copy.as_mut_ptr(), store.len(), pending.clone());
+    let j_len = journal.len();
+    let mut fresh = || {
+        journal.copy_from_slice(&pending);
+        journal.as_mut_ptr()
+    };
+    // SAFETY, of every call: as above.
+    table.add("recover", name, &[0], || unsafe { amiqsovik_recover(to, len, fresh(), j_len) });
+    table.add("wiped", name, &[14], || unsafe { amiqsovik_wiped(fresh(), j_len) });
+    table.add("wipe", name, &[0], || unsafe { amiqsovik_wipe(fresh(), j_len) });
+    for block in [0, 13, len as u32 / 512 - 1] {
+        table.add("look", name, &[0], || unsafe { amiqsovik_look(to, len, fresh(), j_len, block) });
     }
 }
 
@@ -177,11 +224,13 @@ fn at_most_64_kibibytes() {
     stores.extend([0, 1, 2].map(|phase| ("896 buckets", sound_at(&mut random, 1024, 12, phase, 20))));
     for (name, store) in &stores {
         calls(&mut table, name, store);
+        plans(&mut table, name, store);
+        recoveries(&mut table, name, store);
     }
     for (name, (bytes, store)) in &table.most {
-        println!("{name:9} {bytes:>6} bytes of stack ({store})");
+        println!("{name:12} {bytes:>6} bytes of stack ({store})");
     }
-    assert_eq!(table.most.len(), 9);
+    assert_eq!(table.most.len(), 18);
     assert!(table.most.values().all(|(bytes, _)| *bytes <= MOST), "more than {MOST} bytes of stack");
 }
 

@@ -6,6 +6,7 @@ use compare::foreign::c::amiqsovik_standing;
 use compare::random::Random;
 use compare::side::{Ordinary, Side};
 use compare::spoil::{damage, spoil};
+use compare::twin::wiped;
 use std::collections::BTreeSet;
 
 const LENGTHS: [usize; 7] = [0, 1, 27, 28, 29, 30, 64];
@@ -42,7 +43,7 @@ fn made() -> Vec<u8> {
     let mut store = vec![0; 5 * 512];
     assert!(Ordinary::format(&mut store, 1, 5, 0).done());
     for hash in 0..3 {
-        assert!(Ordinary::insert(&mut store, hash, 7, 1).done());
+        assert!(Ordinary::insert(&mut store, &mut wiped(), hash, 7, 1).done());
     }
     store
 }

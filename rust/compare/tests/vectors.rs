@@ -14,7 +14,9 @@ fn stores_01<S: Side>() {
 }
 
 fn stores_02<S: Side>() {
-    let wanted = Replayed { calls: 3575 + 1269, in_use: 21, squeezes: 1269, busy: 56, moved: 8 };
+    let calls = Replayed { calls: 6_986, in_use: 37, pending: 492, ..Replayed::default() };
+    let squeezes = Replayed { squeezes: 1_512, busy: 64, moved: 12, ..calls };
+    let wanted = Replayed { recoveries: 130, mended: 4, looks: 1_024, in_journal: 4, ..squeezes };
     assert_eq!(replay_02::<S>(&file("02/stores.txt")), wanted);
 }
 

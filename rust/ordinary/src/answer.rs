@@ -1,5 +1,6 @@
 //! What the calls answer.
 
+use crate::journal::plan::PLAN;
 use std::fmt;
 
 /// Why a call was refused. A refused call changed nothing.
@@ -25,10 +26,17 @@ pub enum Refusal {
     Busy,
     /// The store to format is sound and holds pairs.
     InUse,
+    /// The journal is not 16 blocks long.
+    JournalLength,
+    /// The journal's head is not wiped: a change may have been cut, and recovery comes first.
+    Pending,
+    /// The plan is too short for the largest change.
+    PlanShort,
 }
 
 impl Refusal {
-    /// The number of the refusal: 1 to 8 are document 01's, 11 is request 2026-01's and 12 request 2026-04's.
+    /// The number of the refusal: 1 to 8 are document 01's, 11 is request 2026-01's, 12 request 2026-04's, and 13 and
+    /// 14 are request 2026-05's. 255 is no document's.
     pub fn number(self) -> u8 {
         match self {
             Refusal::Length => 1,
@@ -41,13 +49,17 @@ impl Refusal {
             Refusal::OutputShort(_) => 8,
             Refusal::Busy => 11,
             Refusal::InUse => 12,
+            Refusal::JournalLength => 13,
+            Refusal::Pending => 14,
+            Refusal::PlanShort => 255,
         }
     }
 
-    /// What the refusal gives besides: block, rule or number of matches, else 0.
+    /// What the refusal gives besides: block, rule, number of matches or of a plan's bytes, else 0.
     pub fn gives(self) -> u32 {
         match self {
             Refusal::Damaged(n) | Refusal::NotAnIndex(n) | Refusal::OutputShort(n) => n,
+            Refusal::PlanShort => PLAN as u32,
             _ => 0,
         }
     }
@@ -66,6 +78,9 @@ impl fmt::Display for Refusal {
             Refusal::OutputShort(matches) => write!(f, "the output is too short for {matches} matches"),
             Refusal::Busy => write!(f, "the bucket is busy: it is one of a pending job"),
             Refusal::InUse => write!(f, "the store is in use: it holds pairs"),
+            Refusal::JournalLength => write!(f, "the journal is not 16 blocks long"),
+            Refusal::Pending => write!(f, "the journal's head is not wiped: recover first"),
+            Refusal::PlanShort => write!(f, "the plan is shorter than {PLAN} bytes"),
         }
     }
 }

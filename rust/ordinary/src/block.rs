@@ -17,7 +17,8 @@ pub const CLEANUP: u16 = 64;
 
 /// Where the trailer starts: what comes before it is the block's own content.
 pub const CONTENT: usize = 492;
-const CHECK: usize = 508;
+/// Where the check stands.
+pub const CHECK: usize = 508;
 const PAGE_ID: u16 = 0xFF80;
 
 pub fn get16(bytes: &[u8], at: usize) -> u16 {

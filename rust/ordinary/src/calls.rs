@@ -1,13 +1,11 @@
-//! The nine calls.
+//! The nine calls on a store. Those that change it, but for a format, go through a journal.
 
-use crate::answer::{Phase, Refusal, Standing, Worked};
+use crate::answer::{Refusal, Standing, Worked};
 use crate::block::{self, Block, Trailer, BITMAP, BUCKET, NONE};
+use crate::changes;
 use crate::check::sound;
-use crate::edit::Edit;
 use crate::meta::{Meta, MOST};
-use crate::page::{Entry, Pair};
 use crate::view::View;
-use crate::work::Work;
 
 /// The bytes of a match in the output.
 const MATCH: usize = 6;
@@ -20,12 +18,12 @@ fn legal(blocks: usize, rest: &[u8]) -> Result<(), Refusal> {
     }
 }
 
-fn blocks(store: &[u8]) -> Result<&[Block], Refusal> {
+pub(crate) fn blocks(store: &[u8]) -> Result<&[Block], Refusal> {
     let (blocks, rest) = store.as_chunks();
     legal(blocks.len(), rest).map(|()| blocks)
 }
 
-fn blocks_mut(store: &mut [u8]) -> Result<&mut [Block], Refusal> {
+pub(crate) fn blocks_mut(store: &mut [u8]) -> Result<&mut [Block], Refusal> {
     let (blocks, rest) = store.as_chunks_mut();
     legal(blocks.len(), rest).map(|()| blocks)
 }
@@ -68,39 +66,13 @@ fn used(blocks: &[Block]) -> bool {
 }
 
 /// Puts a pair in.
-pub fn insert(store: &mut [u8], hash: u32, block: u32, offset: u32) -> Result<(), Refusal> {
-    let blocks = blocks_mut(store)?;
-    let pair = Pair::new(hash, block, offset)?;
-    let meta = sound(blocks)?;
-    let mut edit = Edit::new(blocks, meta);
-    if edit.view().held(pair).is_some() {
-        return Err(Refusal::HeldAlready);
-    }
-    edit.place(edit.meta().bucket_of(hash), Entry { pair, moved: false })?;
-    edit.meta_mut().count += 1;
-    edit.seal();
-    Ok(())
+pub fn insert(store: &mut [u8], journal: &mut [u8], hash: u32, block: u32, offset: u32) -> Result<(), Refusal> {
+    changes::insert(store, Some(journal), hash, block, offset)
 }
 
 /// Takes a pair out and, while its bucket is being populated, its moved copy too.
-pub fn remove(store: &mut [u8], hash: u32, block: u32, offset: u32) -> Result<(), Refusal> {
-    let blocks = blocks_mut(store)?;
-    let pair = Pair::new(hash, block, offset)?;
-    let meta = sound(blocks)?;
-    let mut edit = Edit::new(blocks, meta);
-    let Some(spot) = edit.view().held(pair) else {
-        return Err(Refusal::NotHeld);
-    };
-    edit.take_away(spot.page, spot.slot);
-    let bucket = edit.meta().bucket_of(hash);
-    if edit.view().populated_from(bucket).is_some() {
-        if let Some(copy) = edit.view().find(bucket, pair) {
-            edit.take_away(copy.page, copy.slot);
-        }
-    }
-    edit.meta_mut().count -= 1;
-    edit.seal();
-    Ok(())
+pub fn remove(store: &mut [u8], journal: &mut [u8], hash: u32, block: u32, offset: u32) -> Result<(), Refusal> {
+    changes::remove(store, Some(journal), hash, block, offset)
 }
 
 /// Writes the places held under a hash code, ascending, 6 bytes each, and gives their number.
@@ -120,46 +92,14 @@ pub fn lookup(store: &[u8], hash: u32, output: &mut [u8]) -> Result<u32, Refusal
 }
 
 /// Makes up to `budget` steps of splits. The store is sound after each.
-pub fn work(store: &mut [u8], budget: u32) -> Result<Worked, Refusal> {
-    worked(store, budget, false)
-}
-
-/// The same work, but the blocks are sealed once, at the end of the call: the store is not sound between its steps.
-/// It shows what it costs that document 01 has the store sound after every step.
-pub fn work_sealed_once(store: &mut [u8], budget: u32) -> Result<Worked, Refusal> {
-    worked(store, budget, true)
-}
-
-fn worked(store: &mut [u8], budget: u32, once: bool) -> Result<Worked, Refusal> {
-    let blocks = blocks_mut(store)?;
-    in_range(budget)?;
-    let meta = sound(blocks)?;
-    Ok(Work::new(Edit::new(blocks, meta), budget, once).run())
-}
-
-fn in_range(budget: u32) -> Result<(), Refusal> {
-    if budget > 65_535 {
-        return Err(Refusal::Number);
-    }
-    Ok(())
+pub fn work(store: &mut [u8], journal: &mut [u8], budget: u32) -> Result<Worked, Refusal> {
+    changes::work(store, Some(journal), budget, false)
 }
 
 /// Makes up to `budget` steps of a squeeze: each moves an entry from the end of a bucket's chain to the first page with
 /// room. The store is sound after each.
-pub fn squeeze(store: &mut [u8], bucket: u32, budget: u32) -> Result<Worked, Refusal> {
-    let blocks = blocks_mut(store)?;
-    in_range(budget)?;
-    let meta = sound(blocks)?;
-    if bucket > meta.max_bucket {
-        return Err(Refusal::Number);
-    }
-    let edit = Edit::new(blocks, meta);
-    match edit.view().phase() {
-        Phase::Copying { old, new } | Phase::Clearing { old, new } if [old, new].contains(&bucket) => {
-            Err(Refusal::Busy)
-        }
-        _ => Ok(Work::new(edit, budget, false).squeeze(bucket)),
-    }
+pub fn squeeze(store: &mut [u8], journal: &mut [u8], bucket: u32, budget: u32) -> Result<Worked, Refusal> {
+    changes::squeeze(store, Some(journal), bucket, budget)
 }
 
 /// How the index stands.

@@ -1,7 +1,9 @@
-//! Changes of a sound store. A change is whole when it is sealed.
+//! Changes of a sound store. A change is whole when it is sealed, and goes through the journal then, if there is one.
 
 use crate::answer::Refusal;
 use crate::block::{self, Block, Trailer, NONE, OVERFLOW};
+use crate::check::sound;
+use crate::journal::{plan, Journal};
 use crate::meta::{Meta, MOST};
 use crate::page::{self, Entry, ROOM};
 use crate::view::View;
@@ -46,11 +48,16 @@ pub struct Edit<'a> {
     meta: Meta,
     /// The blocks changed since the last seal.
     touched: Marks,
+    /// The journal, and those blocks as they were, each with its number.
+    journal: Option<&'a mut Journal>,
+    before: Vec<(usize, Block)>,
 }
 
 impl<'a> Edit<'a> {
-    pub fn new(blocks: &'a mut [Block], meta: Meta) -> Self {
-        Edit { blocks, meta, touched: Marks::default() }
+    /// Judges the store: it is to be sound.
+    pub fn of(blocks: &'a mut [Block], journal: Option<&'a mut Journal>) -> Result<Self, Refusal> {
+        let meta = sound(blocks)?;
+        Ok(Edit { blocks, meta, touched: Marks::default(), journal, before: Vec::new() })
     }
 
     pub fn view(&self) -> View<'_> {
@@ -69,17 +76,41 @@ impl<'a> Edit<'a> {
 
     /// A block other than meta, to be changed.
     pub fn block(&mut self, number: usize) -> &mut Block {
-        self.touched.put(number);
+        if !self.touched.has(number) {
+            self.keep(number);
+            self.touched.put(number);
+        }
         &mut self.blocks[number]
+    }
+
+    /// Keeps a block as it is for the journal.
+    fn keep(&mut self, number: usize) {
+        if self.journal.is_some() {
+            self.before.push((number, self.blocks[number]));
+        }
     }
 
     /// Writes the meta block if it was changed, and the checks of exactly the blocks that were.
     pub fn seal(&mut self) {
         if self.touched.has(0) {
+            self.keep(0);
             self.meta.write(&mut self.blocks[0]);
         }
         while let Some(at) = self.touched.take() {
             block::seal(self.meta.number, at, &mut self.blocks[at]);
+        }
+        self.pass_through_journal();
+    }
+
+    /// Makes the change anew, by its block stores: the blocks that it touched go back to what they were first.
+    fn pass_through_journal(&mut self) {
+        let Some(journal) = &mut self.journal else { return };
+        self.before.sort_unstable_by_key(|kept| kept.0);
+        let blocks = self.before.iter().map(|(at, before)| (*at, before, &self.blocks[*at]));
+        let plan = plan::plan(self.meta.number, blocks);
+        self.before.drain(..).for_each(|(at, before)| self.blocks[at] = before);
+        if let Some((plan, _)) = plan {
+            plan::run(&plan, self.blocks, journal);
         }
     }
 

@@ -1,23 +1,38 @@
 //! Scripts: one line, one call.
 
-use crate::{calls, Refusal};
+use crate::{calls, journal, Refusal};
 use std::fmt::Write;
 
 /// The most blocks of a script's store, and the output bytes that a lookup lends: enough for all that they can hold.
 const MOST: u32 = 128;
 const OUTPUT: usize = 30_000;
 const BLOCK: usize = 512;
+const JOURNAL: usize = 16 * BLOCK;
+
+/// What a script lends to its calls: a store, of no bytes before the first format, and a journal of its own.
+struct Lent {
+    store: Vec<u8>,
+    journal: Vec<u8>,
+}
+
+impl Lent {
+    fn new() -> Self {
+        let mut journal = vec![0; JOURNAL];
+        journal[..BLOCK].copy_from_slice(&journal::WIPED);
+        Lent { store: Vec::new(), journal }
+    }
+}
 
 /// Runs a script and gives what it writes.
 pub fn run(input: &[u8]) -> String {
-    let mut store = Vec::new();
+    let mut lent = Lent::new();
     let mut written = String::new();
     let body = input.strip_suffix(b"\n").unwrap_or(input);
     let lines = body.split(|&byte| byte == b'\n').take(if input.is_empty() { 0 } else { usize::MAX });
     for (line, number) in lines.zip(1..) {
         let shown = match parse(line) {
             None => Err(10),
-            Some(call) => answer(&mut store, call).map_err(Refusal::number),
+            Some(call) => answer(&mut lent, call).map_err(Refusal::number),
         };
         let text = shown.unwrap_or_else(|refusal| format!("line {number}: refused {refusal}"));
         written.push_str(&text);
@@ -61,7 +76,7 @@ fn number(word: &[u8]) -> Option<u32> {
 }
 
 /// Makes a call and says what is written for it.
-fn answer(store: &mut Vec<u8>, call: Call) -> Result<String, Refusal> {
+fn answer(Lent { store, journal }: &mut Lent, call: Call) -> Result<String, Refusal> {
     match call {
         Call::Format(blocks, fill, number, overwrite) => {
             if blocks > MOST {
@@ -76,15 +91,15 @@ fn answer(store: &mut Vec<u8>, call: Call) -> Result<String, Refusal> {
             *store = fresh;
             Ok(format!("store {blocks} fill {fill}"))
         }
-        Call::Insert(hash, block, offset) => calls::insert(store, hash, block, offset).map(|()| "ok".into()),
-        Call::Remove(hash, block, offset) => calls::remove(store, hash, block, offset).map(|()| "ok".into()),
+        Call::Insert(hash, block, offset) => calls::insert(store, journal, hash, block, offset).map(|()| "ok".into()),
+        Call::Remove(hash, block, offset) => calls::remove(store, journal, hash, block, offset).map(|()| "ok".into()),
         Call::Lookup(hash) => {
             let mut output = vec![0; OUTPUT];
             let matches = calls::lookup(store, hash, &mut output)?;
             Ok(list(&output, matches as usize))
         }
         Call::Work(budget) => {
-            let worked = calls::work(store, budget)?;
+            let worked = calls::work(store, journal, budget)?;
             Ok(format!("steps {} stop {}", worked.steps, worked.stop.number()))
         }
     }

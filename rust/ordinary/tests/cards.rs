@@ -1,7 +1,8 @@
 //! Document 01's bench cards C to K, and the ends of stores of 1,024 blocks (request 2026-09). Cards A and B are on
 //! addresses, and are reached through the stores that the calls make.
 
-use ordinary::{format, insert, lookup, remove, standing, work, Phase, Refusal, Stop, Worked};
+use ordinary::bare::{insert, remove, work};
+use ordinary::{format, lookup, standing, Phase, Refusal, Stop, Worked};
 
 fn made(blocks: usize, fill: u32, hashes: &[u32]) -> Vec<u8> {
     let mut store = vec![0; blocks * 512];

@@ -1,6 +1,7 @@
 //! Squeezes (request 2026-01), by hand: what moves where, what is freed, and what is refused in which order.
 
-use ordinary::{format, insert, lookup, remove, squeeze, standing, verify, work, Phase, Refusal, Stop, Worked};
+use ordinary::bare::{insert, remove, squeeze, work};
+use ordinary::{format, lookup, standing, verify, Phase, Refusal, Stop, Worked};
 
 /// A chain of bucket 0 with so many entries on each page, put in place by inserts of full pages and removals. The pair
 /// `i` of the page `p` has the hash code 4 (100 p + i). Overflow page p stands in block 3 + p, and has the bit p.

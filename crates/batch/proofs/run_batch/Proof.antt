@@ -2,20 +2,21 @@ use mathlib.Core.List.{List}
 use Prim.Native.Nat.{ℕ, _-_}
 use native.Mathlib.Omega.{arith}
 use borrow.Author.Needs.{needs}
+use Rattle.journal.specs.Journal.{disk}
 use Rattle.batch.specs.Batch.{Kept}
 use Rattle.batch.specs.RunningLaws.{Running, running-none, running-next, running-end}
 use Rattle.batch.proofs.run_batch.Statement.{statement}
 use Rattle.batch.proofs.run_batch.Tie as tie
 
-abbrev kept : (store output words : List ℕ) → Kept
-kept s out ws = record { store = s; output = out; words = ws }
+abbrev kept : (store journal output words : List ℕ) → Kept
+kept s j out ws = record { disk = disk s j; output = out; words = ws }
 
 abbrev Inv-loop : tie.InvT-loop
-Inv-loop store₀ calls output₀ words₀ n i₀ store output words i =
-    Running calls n (kept store₀ output₀ words₀) (kept store output words) i
+Inv-loop store₀ journal₀ calls output₀ words₀ n i₀ store journal output words i =
+    Running calls n (kept store₀ journal₀ output₀ words₀) (kept store journal output words) i
 
 abbrev μ-loop : tie.MeasureT-loop
-μ-loop store₀ calls output₀ words₀ n i₀ store output words i = n - i
+μ-loop store₀ journal₀ calls output₀ words₀ n i₀ store journal output words i = n - i
 
 smaller-requires : tie.Need-smaller-requires Inv-loop μ-loop
 smaller-requires c κs = search needs
@@ -25,7 +26,7 @@ loop-holds c = running-none _ _ _
 
 run-at-requires : tie.Need-run-at-requires Inv-loop μ-loop
 run-at-requires c κs =
-    let l = c .before .before in
+    let l = c .before .before .before in
     let e = l .before .before .smaller .ensures in
     omega (arith, l .loop-test .taken)
 
@@ -34,7 +35,7 @@ mul-words c = search needs
 
 slice-write-words : tie.Need-slice-write-words Inv-loop μ-loop
 slice-write-words c =
-    let l = c .before .before .before .before .before .before .before in
+    let l = c .before .before .before .before .before .before .before .before .before .before in
     let e = l .before .before .smaller .ensures in
     omega (arith, l .loop-test .taken, l .before .loop .inv .words)
 
@@ -46,10 +47,10 @@ loop-less c = omega arith
 
 loop-again : tie.Need-loop-again Inv-loop μ-loop
 loop-again c =
-    let r = c .before .before .before .before in
-    let l = r .before .before .before in
+    let r = c .before .before .before .before .before .before in
+    let l = r .before .before .before .before in
     running-next (l .before .loop .inv) (l .loop-test .taken) (r .run-at .ensures) (r .run-at .kept .0)
-    (r .run-at .kept .1 .1 .1 .0)
+    (r .run-at .kept .1 .0) (r .run-at .kept .1 .1 .1 .1 .0)
 
 same-length : tie.Need-same-length Inv-loop μ-loop
 same-length c = search needs
@@ -59,6 +60,9 @@ same-length-2 c = search needs
 
 same-length-3 : tie.Need-same-length-3 Inv-loop μ-loop
 same-length-3 c = search needs
+
+same-length-4 : tie.Need-same-length-4 Inv-loop μ-loop
+same-length-4 c = search needs
 
 returns : tie.Need-returns Inv-loop μ-loop
 returns c =
@@ -81,4 +85,5 @@ run-batch-spec =
     same-length
     same-length-2
     same-length-3
+    same-length-4
     returns)

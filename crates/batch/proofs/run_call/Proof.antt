@@ -37,20 +37,14 @@ returns c =
 same-length-2 : tie.Need-same-length-2
 same-length-2 c = search needs
 
-returns-2 : tie.Need-returns-2
-returns-2 c =
-    let f = c .before .before in
-    let m = f .before .before in
-    ran-insert _ _ _ _ _ _ (m .match .keys2) (f .amiqsovik-insert .ensures .0) (f .amiqsovik-insert .ensures .1)
-
 same-length-3 : tie.Need-same-length-3
 same-length-3 c = search needs
 
-returns-3 : tie.Need-returns-3
-returns-3 c =
-    let f = c .before .before in
-    let m = f .before .before in
-    ran-remove _ _ _ _ _ _ (m .match .keys3) (f .amiqsovik-remove .ensures .0) (f .amiqsovik-remove .ensures .1)
+returns-2 : tie.Need-returns-2
+returns-2 c =
+    let f = c .before .before .before .before in
+    let m = f .before .before .before in
+    ran-insert _ _ _ _ _ _ (m .match .keys2) (f .amiqsovik-insert .ensures)
 
 same-length-4 : tie.Need-same-length-4
 same-length-4 c = search needs
@@ -58,35 +52,53 @@ same-length-4 c = search needs
 same-length-5 : tie.Need-same-length-5
 same-length-5 c = search needs
 
+returns-3 : tie.Need-returns-3
+returns-3 c =
+    let f = c .before .before .before .before in
+    let m = f .before .before .before in
+    ran-remove _ _ _ _ _ _ (m .match .keys3) (f .amiqsovik-remove .ensures)
+
+same-length-6 : tie.Need-same-length-6
+same-length-6 c = search needs
+
+same-length-7 : tie.Need-same-length-7
+same-length-7 c = search needs
+
 returns-4 : tie.Need-returns-4
 returns-4 c =
     let f = c .before .before in
     let m = f .before .before .before in
     ran-lookup _ _ _ _ _ _ (m .match .keys4) (f .run-lookup .ensures .0) (f .run-lookup .ensures .1)
 
-same-length-6 : tie.Need-same-length-6
-same-length-6 c = search needs
-
-returns-5 : tie.Need-returns-5
-returns-5 c =
-    let f = c .before .before in
-    let m = f .before .before in
-    ran-work _ _ _ _ _ _ (m .match .keys5) (f .amiqsovik-work .ensures .0) (f .amiqsovik-work .ensures .1)
-
-same-length-7 : tie.Need-same-length-7
-same-length-7 c = search needs
-
-returns-6 : tie.Need-returns-6
-returns-6 c =
-    let f = c .before .before in
-    let m = f .before .before in
-    ran-squeeze _ _ _ _ _ _ (m .match .keys6) (f .amiqsovik-squeeze .ensures .0) (f .amiqsovik-squeeze .ensures .1)
-
 same-length-8 : tie.Need-same-length-8
 same-length-8 c = search needs
 
 same-length-9 : tie.Need-same-length-9
 same-length-9 c = search needs
+
+returns-5 : tie.Need-returns-5
+returns-5 c =
+    let f = c .before .before .before .before in
+    let m = f .before .before .before in
+    ran-work _ _ _ _ _ _ (m .match .keys5) (f .amiqsovik-work .ensures)
+
+same-length-10 : tie.Need-same-length-10
+same-length-10 c = search needs
+
+same-length-11 : tie.Need-same-length-11
+same-length-11 c = search needs
+
+returns-6 : tie.Need-returns-6
+returns-6 c =
+    let f = c .before .before .before .before in
+    let m = f .before .before .before in
+    ran-squeeze _ _ _ _ _ _ (m .match .keys6) (f .amiqsovik-squeeze .ensures)
+
+same-length-12 : tie.Need-same-length-12
+same-length-12 c = search needs
+
+same-length-13 : tie.Need-same-length-13
+same-length-13 c = search needs
 
 returns-7 : tie.Need-returns-7
 returns-7 c =
@@ -110,16 +122,20 @@ run-call-spec =
     same-length
     returns
     same-length-2
-    returns-2
     same-length-3
-    returns-3
+    returns-2
     same-length-4
     same-length-5
-    returns-4
+    returns-3
     same-length-6
-    returns-5
     same-length-7
-    returns-6
+    returns-4
     same-length-8
     same-length-9
+    returns-5
+    same-length-10
+    same-length-11
+    returns-6
+    same-length-12
+    same-length-13
     returns-7)

@@ -9,14 +9,14 @@ use Rattle.interpreter.proofs.calls.run_insert.Tie as tie
 mul-end : tie.Need-mul-end
 mul-end c = search needs
 
-slice-relend-prefix-insert : tie.Need-slice-relend-prefix-insert
-slice-relend-prefix-insert c = search needs
+slice-relend-prefix-insert-lent : tie.Need-slice-relend-prefix-insert-lent
+slice-relend-prefix-insert-lent c = search needs
 
-slice-aggregate-insert : tie.Need-slice-aggregate-insert
-slice-aggregate-insert c = sym (part-size (c .before .before .before .pre))
+slice-aggregate-insert-lent : tie.Need-slice-aggregate-insert-lent
+slice-aggregate-insert-lent c = sym (part-size (c .before .before .before .pre))
 
-insert-requires : tie.Need-insert-requires
-insert-requires c κs = search needs
+insert-lent-requires : tie.Need-insert-lent-requires
+insert-lent-requires c κs = search needs
 
 put-answer-requires : tie.Need-put-answer-requires
 put-answer-requires c κs = search needs
@@ -34,9 +34,9 @@ returns c =
     let s = p .before .before .before .before in
     let a = s .args in
     record {
-      store = stands-made (a .store .now) _ (p .insert .last .0) (s .pre .few)
-          (p .insert .kept .0 ∙ part-size (s .pre)) (p .insert .ensures .1);
-      text = wrote-as (ap (answerText (a .line)) (p .insert .ensures .0)) (c .before .before .put-answer .ensures);
+      store = stands-made (a .store .now) _ (p .insert-lent .last .0) (s .pre .few)
+          (p .insert-lent .kept .0 ∙ part-size (s .pre)) (p .insert-lent .ensures .1);
+      text = wrote-as (ap (answerText (a .line)) (p .insert-lent .ensures .0)) (c .before .before .put-answer .ensures);
     }
 
 pub run-insert-spec : {M : Type 1} → statement M
@@ -44,9 +44,9 @@ run-insert-spec =
     tie.close
     (tie.spec
     mul-end
-    slice-relend-prefix-insert
-    slice-aggregate-insert
-    insert-requires
+    slice-relend-prefix-insert-lent
+    slice-aggregate-insert-lent
+    insert-lent-requires
     put-answer-requires
     same-length
     same-length-2

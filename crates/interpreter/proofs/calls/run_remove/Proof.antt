@@ -9,14 +9,14 @@ use Rattle.interpreter.proofs.calls.run_remove.Tie as tie
 mul-end : tie.Need-mul-end
 mul-end c = search needs
 
-slice-relend-prefix-remove : tie.Need-slice-relend-prefix-remove
-slice-relend-prefix-remove c = search needs
+slice-relend-prefix-remove-lent : tie.Need-slice-relend-prefix-remove-lent
+slice-relend-prefix-remove-lent c = search needs
 
-slice-aggregate-remove : tie.Need-slice-aggregate-remove
-slice-aggregate-remove c = sym (part-size (c .before .before .before .pre))
+slice-aggregate-remove-lent : tie.Need-slice-aggregate-remove-lent
+slice-aggregate-remove-lent c = sym (part-size (c .before .before .before .pre))
 
-remove-requires : tie.Need-remove-requires
-remove-requires c κs = search needs
+remove-lent-requires : tie.Need-remove-lent-requires
+remove-lent-requires c κs = search needs
 
 put-answer-requires : tie.Need-put-answer-requires
 put-answer-requires c κs = search needs
@@ -34,9 +34,9 @@ returns c =
     let s = p .before .before .before .before in
     let a = s .args in
     record {
-      store = stands-made (a .store .now) _ (p .remove .last .0) (s .pre .few)
-          (p .remove .kept .0 ∙ part-size (s .pre)) (p .remove .ensures .1);
-      text = wrote-as (ap (answerText (a .line)) (p .remove .ensures .0)) (c .before .before .put-answer .ensures);
+      store = stands-made (a .store .now) _ (p .remove-lent .last .0) (s .pre .few)
+          (p .remove-lent .kept .0 ∙ part-size (s .pre)) (p .remove-lent .ensures .1);
+      text = wrote-as (ap (answerText (a .line)) (p .remove-lent .ensures .0)) (c .before .before .put-answer .ensures);
     }
 
 pub run-remove-spec : {M : Type 1} → statement M
@@ -44,9 +44,9 @@ run-remove-spec =
     tie.close
     (tie.spec
     mul-end
-    slice-relend-prefix-remove
-    slice-aggregate-remove
-    remove-requires
+    slice-relend-prefix-remove-lent
+    slice-aggregate-remove-lent
+    remove-lent-requires
     put-answer-requires
     same-length
     same-length-2

@@ -9,14 +9,14 @@ use Rattle.interpreter.proofs.calls.run_work.Tie as tie
 mul-end : tie.Need-mul-end
 mul-end c = search needs
 
-slice-relend-prefix-work : tie.Need-slice-relend-prefix-work
-slice-relend-prefix-work c = search needs
+slice-relend-prefix-work-lent : tie.Need-slice-relend-prefix-work-lent
+slice-relend-prefix-work-lent c = search needs
 
-slice-aggregate-work : tie.Need-slice-aggregate-work
-slice-aggregate-work c = sym (part-size (c .before .before .before .pre))
+slice-aggregate-work-lent : tie.Need-slice-aggregate-work-lent
+slice-aggregate-work-lent c = sym (part-size (c .before .before .before .pre))
 
-work-requires : tie.Need-work-requires
-work-requires c κs = search needs
+work-lent-requires : tie.Need-work-lent-requires
+work-lent-requires c κs = search needs
 
 put-worked-requires : tie.Need-put-worked-requires
 put-worked-requires c κs = search needs
@@ -34,9 +34,9 @@ returns c =
     let s = p .before .before .before .before in
     let a = s .args in
     record {
-      store = stands-made (a .store .now) _ (p .work .last .0) (s .pre .few) (p .work .kept .0 ∙ part-size (s .pre))
-          (p .work .ensures .1);
-      text = wrote-as (ap (workText (a .line)) (p .work .ensures .0)) (c .before .before .put-worked .ensures);
+      store = stands-made (a .store .now) _ (p .work-lent .last .0) (s .pre .few)
+          (p .work-lent .kept .0 ∙ part-size (s .pre)) (p .work-lent .ensures .1);
+      text = wrote-as (ap (workText (a .line)) (p .work-lent .ensures .0)) (c .before .before .put-worked .ensures);
     }
 
 pub run-work-spec : {M : Type 1} → statement M
@@ -44,9 +44,9 @@ run-work-spec =
     tie.close
     (tie.spec
     mul-end
-    slice-relend-prefix-work
-    slice-aggregate-work
-    work-requires
+    slice-relend-prefix-work-lent
+    slice-aggregate-work-lent
+    work-lent-requires
     put-worked-requires
     same-length
     same-length-2
