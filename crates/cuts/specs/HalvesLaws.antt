@@ -13,9 +13,9 @@ use Rattle.store.specs.Store.{numberAt}
 use Rattle.model.specs.Calls.{sizeOk}
 use Rattle.outcomes.specs.OutcomeSoundLaws.{blocks-is, legal-is}
 use Rattle.journal.specs.Journal.{Disk, BlockStore, image, mark, page, doStore, run, head, ending, wipe, imageStores}
-use Rattle.journal.specs.Journal.{pageStores, stores}
+use Rattle.journal.specs.Journal.{pageStores, stores, write}
 use Rattle.journal.specs.Altered.{altered, imagesOf, changeStores, written}
-use Rattle.journal.specs.Cut.{Cut, between, later, Whole, Ready, Becomes}
+use Rattle.journal.specs.Cut.{Cut, Torn, between, inside, later, Whole, Ready, Becomes}
 use Rattle.journal.specs.Planned.{planTo, planOver, planCount, planStore}
 use Rattle.journal.specs.CopyLaws.{each-run}
 use Rattle.journal.specs.AlteredLaws.{altered-below, storesTo-none, storesTo-some, length-storesTo}
@@ -28,6 +28,10 @@ use Rattle.cuts.specs.InOrder.{doStores, AllDone, InOrder}
 all-none : (p : List ℕ) (i : ℕ) (g : Disk) (k : ℕ) → k ≤ 0 → Cut g [] k (doStores p i k g)
 all-none p i g zero h = between
 all-none p i g (suc k) h = absurd (omega arith)
+
+torn-none : (p : List ℕ) (i : ℕ) (g : Disk) (k : ℕ) (b : List ℕ) → k < 0 → Torn (planStore p (i + k)) b
+    → Cut g [] k (write (planStore p (i + k)) b (doStores p i k g))
+torn-none p i g k b h u = absurd (omega arith)
 
 -- ---- the block stores from the i-th on, of a plan for a store of m blocks
 
@@ -56,12 +60,14 @@ module _ (p : List ℕ) (m : ℕ) (long : 5632 ≤ length p) (legal : sizeOk m �
     pub each : AllDone p i (length qs) g
     pub leaves : doStores p i (length qs) g ≡ run qs g
     pub cuts : (k : ℕ) → k ≤ length qs → Cut g qs k (doStores p i k g)
+    pub torn : (k : ℕ) (b : List ℕ) → k < length qs → Torn (planStore p (i + k)) b
+        → Cut g qs k (write (planStore p (i + k)) b (doStores p i k g))
 
   -- all of them; store and journal keep their lengths
   all-done : (i : ℕ) (qs : List BlockStore) → i + length qs ≡ 2 * planCount p + 3
       → ((j : ℕ) → planStore p (i + j) ≡ getD qs j wipe) → Each (λ (q : BlockStore). placeOk q m ≡ true) qs
       → (g : Disk) → ((k : ℕ) (e : Disk) → Cut g qs k e → Whole m e) → Done i qs g
-  all-done i [] l at ok g w = record { each = tt; leaves = refl; cuts = all-none p i g }
+  all-done i [] l at ok g w = record { each = tt; leaves = refl; cuts = all-none p i g; torn = torn-none p i g }
   all-done i (q ∷ qs) l at ok g w =
       next
       (all-done (suc i) qs (omega arith)
@@ -84,6 +90,20 @@ module _ (p : List ℕ) (m : ℕ) (long : 5632 ≤ length p) (legal : sizeOk m �
           (subst (λ (e : Disk). Cut (doStore q g) qs k (doStores p (suc i) k e)) (sym disk)
           (rest .cuts k (omega arith)))
 
+      first-torn : Done (suc i) qs (doStore q g) → (k : ℕ) (b : List ℕ) → k < suc (length qs)
+          → Torn (planStore p (i + k)) b → Cut g (q ∷ qs) k (write (planStore p (i + k)) b (doStores p i k g))
+      first-torn rest zero b h =
+          subst (λ (s : BlockStore). Torn s b → Cut g (q ∷ qs) 0 (write s b g)) (sym (at 0)) (λ u. inside u)
+      first-torn rest (suc k) b h =
+          let z : suc i + k ≡ i + suc k = omega arith in
+          subst
+          (λ (j : ℕ). Torn (planStore p j) b
+          → Cut g (q ∷ qs) (suc k) (write (planStore p j) b (doStores p i (suc k) g))) z
+          (subst
+          (λ (e : Disk). Torn (planStore p (suc i + k)) b
+          → Cut g (q ∷ qs) (suc k) (write (planStore p (suc i + k)) b (doStores p (suc i) k e))) (sym disk)
+          (λ u. later (rest .torn k b (omega arith) u)))
+
       next : Done (suc i) qs (doStore q g) → Done i (q ∷ qs) g
       next rest =
           record {
@@ -93,6 +113,7 @@ module _ (p : List ℕ) (m : ℕ) (long : 5632 ≤ length p) (legal : sizeOk m �
             );
             leaves = ap (doStores p (suc i) (length qs)) disk ∙ rest .leaves;
             cuts = first-of rest;
+            torn = first-torn rest;
           }
 
 -- ---- of the plan of a change
@@ -153,6 +174,11 @@ module _ {d : Disk} {m : ℕ} {t : List ℕ} (r : Ready d) (c : Becomes d m t) w
             cuts =
                 subst (λ (ps : List BlockStore). (k : ℕ) → k ≤ length ps → Cut d ps k (doStores plan 0 k d)) q
                 (all-none plan 0 d);
+            torn =
+                subst
+                (λ (ps : List BlockStore). (k : ℕ) (g : List ℕ) → k < length ps → Torn (planStore plan k) g
+                → Cut d ps k (write (planStore plan k) g (doStores plan 0 k d))) q
+                (λ k g h u. absurd (omega arith));
           }
       go (suc n) e =
           let h : 1 ≤ length ks = omega arith in
@@ -161,4 +187,15 @@ module _ {d : Disk} {m : ℕ} {t : List ℕ} (r : Ready d) (c : Becomes d m t) w
           let f = all-done plan m (omega arith) legal (omega arith) (omega arith) 0 (changeStores d t)
           (omega (arith, length-storesTo number (d .store) t h)) (reads h) (places h) d
           (λ k e q. leaves r c q .whole) in
-          record { stores = refl; each = f .each; leaves = f .leaves; cuts = f .cuts }
+          record {
+            stores = refl;
+            each = f .each;
+            leaves = f .leaves;
+            cuts = f .cuts;
+            torn =
+                λ k g l. let z : 0 + k ≡ k = omega arith in
+                subst
+                (λ (j : ℕ). Torn (planStore plan j) g
+                → Cut d (changeStores d t) k (write (planStore plan j) g (doStores plan 0 k d))) z
+                (f .torn k g l);
+          }

@@ -1,11 +1,11 @@
 -- All block stores of a plan, each by the call that does the n-th one. docs/RULES.md 11.9.
 use mathlib.Core.Path.{_≡_}
 use mathlib.Core.List.{List}
-use Prim.Native.Nat.{ℕ, zero, suc, _≤_}
+use Prim.Native.Nat.{ℕ, zero, suc, _≤_, _<_}
 use lib.ListN.{length}
-use Rattle.journal.specs.Journal.{Disk}
+use Rattle.journal.specs.Journal.{Disk, write}
 use Rattle.journal.specs.Altered.{changeStores}
-use Rattle.journal.specs.Cut.{Cut}
+use Rattle.journal.specs.Cut.{Cut, Torn}
 use Rattle.journal.specs.Planned.{planStore}
 use Rattle.cuts.specs.Halves.{placeOf, storeOutcome}
 
@@ -27,3 +27,6 @@ pub record InOrder (d : Disk) (plan : List ℕ) (n : ℕ) (t : List ℕ) (e : Di
   pub each : AllDone plan 0 n d
   pub leaves : doStores plan 0 n d ≡ e
   pub cuts : (k : ℕ) → k ≤ n → Cut d (changeStores d t) k (doStores plan 0 k d)
+  -- or inside the next one
+  pub torn : (k : ℕ) (g : List ℕ) → k < n → Torn (planStore plan k) g
+      → Cut d (changeStores d t) k (write (planStore plan k) g (doStores plan 0 k d))

@@ -27,14 +27,6 @@ use Rattle.index.specs.TestedLaws.{failed-is, passes-call, passes-index,
 use Rattle.index.specs.Sound.{Sound}
 use Rattle.index.specs.Ready.{PairReady}
 
--- ---- one test after the other
-
-module _ (n : Bool) (d : Disk) {l j w : Bool} (el : lengthOk (d .store) ≡ l) (ej : sixteen (d .journal) ≡ j)
-    (ew : headWiped (d .journal) ≡ w) where
-  pub ready-is : testedWith n d ≡ testedIn l j n w (tested n (d .store))
-  unfolding testedWith
-  ready-is = λ i. testedIn (el i) (ej i) n (ew i) (tested n (d .store))
-
 -- a store and a journal that pass
 pub record Passing (n : Bool) (d : Disk) : Type 0 where
   pub store : testOf (tested n (d .store)) ≡ Test.Passed

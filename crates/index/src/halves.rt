@@ -18,10 +18,10 @@ use verify::check_length;
 ghost use mathlib.Core.Path.{_≡_};
 ghost use mathlib.Core.Bool.{cond};
 ghost use mathlib.Core.List.{[]};
-ghost use Prim.Native.Nat.{_≤_};
+ghost use Prim.Native.Nat.{_+_, _≤_, _<_};
 ghost use lib.ListN.{length};
 ghost use Rattle.journal.specs.Journal.{disk};
-ghost use Rattle.journal.specs.Planned.{planStore};
+ghost use Rattle.journal.specs.Planned.{planCount, planStore};
 ghost use Rattle.model.specs.declared.Refusal.{Refusal};
 ghost use Rattle.model.specs.declared.PlaceAnswer.{PlaceAnswer};
 ghost use Rattle.cuts.specs.Halves.{planInsert, planRemove, planWork, planSqueeze, storeOk, placeOf, storeOutcome};
@@ -134,7 +134,16 @@ fn store_place(store: &[u8], plan: &[u8], n: u32) -> PlaceAnswer
             block: n + 1,
         };
     }
-    let past = n - count;
+    past_place(store, plan, count, n - count)
+}
+
+// The same past the images: block store `count + past`.
+fn past_place(store: &[u8], plan: &[u8], count: u32, past: u32) -> PlaceAnswer
+    requires { ⌜ (5632 ≤ length (now plan)) × (count ≡ planCount (now plan)) × (1 ≤ count) × (count ≤ 8)
+        × (past < count + 3) ⌝ }
+    ensures { λ r. ⌜ r ≡ cond (storeOk (disk (now (store .entry)) []) (now (plan .entry)) (count + past))
+        (placeOf (planStore (now (plan .entry)) (count + past))) (PlaceAnswer.Refused Refusal.Number) ⌝ }
+{
     if past == 0 {
         return PlaceAnswer::At {
             journal: true,

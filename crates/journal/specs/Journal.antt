@@ -1,7 +1,7 @@
 -- A journal beside a store. docs/RULES.md 11.1: "a second lent slice of exactly 16 blocks: block 0 the head (u32s:
 -- store number, number of images, their block numbers; then zeros), from block 1 up to 14 images, each a store block
--- with its check, block 15 the end, a copy of the head's bytes 0..507. Head and end carry the check of blocks 0 and 15 under
--- the store number in their own bytes 0..3; a wiped head is zeros with its check."
+-- with its check, block 15 the end, a copy of the head's bytes 0..507. Head and end carry the check of blocks 0 and 15
+-- under the store number in their own bytes 0..3; a wiped head is zeros with its check."
 use mathlib.Core.Bool.{Bool, true, false, not, _&&_}
 use mathlib.Core.List.{List, [], _∷_, _++_, map}
 use mathlib.Core.Option.{Option, none, some}

@@ -1,13 +1,12 @@
--- A planned change, which lists exactly the blocks that it alters, has the block stores of the change from s to t.
+-- A planned change, which lists exactly the blocks that it alters, has the images and the plan of the change to t.
 use mathlib.Core.Path.{_≡_, refl, sym, ap, ap₂, _∙_}
 use mathlib.Core.Logic.{_≢_, ⊎-elim}
-use mathlib.Core.List.{List, [], _∷_, _++_, map}
+use mathlib.Core.List.{List, [], _∷_, _++_}
 use Prim.Native.Nat.{ℕ, zero, suc, _+_, _*_, _≤_, _<_}
 use native.Mathlib.Omega.{arith}
 use lib.ListN.{length, getD, take, replicate}
 use lib.Seq.{getD-take, length-take-le, take-length}
-use Rattle.lists.specs.Lists.{bind, upFrom}
-use Rattle.lists.specs.TestLaws.{map-run}
+use Rattle.lists.specs.Lists.{bind}
 use Rattle.lists.specs.Block.{block}
 use Rattle.lists.specs.BlockLaws.{blocks-ext}
 use Rattle.endian.specs.Endian.{le32}
@@ -15,20 +14,11 @@ use Rattle.store.specs.Store.{sealed}
 use Rattle.store.specs.Change.{commits, Fits}
 use Rattle.store.specs.CopyLaws.{find-at}
 use Rattle.store.specs.ChangeLaws.{block-commits, block-commits-rest, length-commits}
-use Rattle.journal.specs.Journal.{BlockStore, image, mark, page, wipe}
-use Rattle.journal.specs.Journal.{headBytes, head, ending, wiped, imageStores, pageStores, stores}
-use Rattle.journal.specs.Altered.{altered, imagesOf, storesTo}
+use Rattle.journal.specs.Journal.{headBytes, head, ending, wiped, stores}
+use Rattle.journal.specs.Altered.{altered, imagesOf}
 use Rattle.journal.specs.Planned.{planTo}
 use Rattle.journal.specs.PartLaws.{block-take}
-use Rattle.journal.specs.AlteredLaws.{
-  altered-below,
-  altered-ascending,
-  altered-differs,
-  altered-missed,
-  length-imagesOf,
-  block-imagesOf,
-  storesTo-some,
-}
+use Rattle.journal.specs.AlteredLaws.{altered-below, altered-ascending, altered-differs, altered-missed, length-imagesOf, block-imagesOf}
 use Rattle.journal.specs.PlannedLaws.{planTo-some}
 
 -- ---- two ascending lists of the same numbers are one
@@ -149,43 +139,7 @@ module _ (s t numbers images : List ℕ) (m n : ℕ) (ls : length s ≡ 512 * m)
       ap₂ (λ (c : ℕ) (l : List ℕ). take 508 (le32 number ++ (le32 c ++ (bind l le32 ++ replicate 508 0)))) count
       (sym altered-planned ∙ sym (take-length (altered s t)))
 
-  stores-same : (number : ℕ)
-      → stores number numbers images n ≡ stores number (altered s t) (imagesOf s t) (length (altered s t))
-  unfolding stores head ending
-  stores-same number =
-      λ i.
-      ims i
-      ++ (mark 0 (sealed number 0 (heads number i))
-      ∷ mark 15 (sealed number 15 (heads number i))
-      ∷ (pgs i ++ (wipe ∷ [])))
-    where
-      ks : List ℕ
-      ks = altered s t
-
-      z : (k : ℕ) → 0 + k ≡ k
-      z k = omega arith
-
-      ims : imageStores images 0 n ≡ imageStores (imagesOf s t) 0 (length ks)
-      ims =
-          let f : ℕ → BlockStore = λ j. image (1 + j) (block images j) in
-          let g : ℕ → BlockStore = λ j. image (1 + j) (block (imagesOf s t) j) in
-          map-run f g 0 0 n (λ k h. ap f (z k) ∙ ap (image (1 + k)) (body k h) ∙ ap g (sym (z k)))
-          ∙ ap (λ (k : ℕ). map g (upFrom 0 k)) count
-
-      pgs : pageStores numbers images 0 n ≡ pageStores ks (imagesOf s t) 0 (length ks)
-      pgs =
-          let f : ℕ → BlockStore = λ j. page (getD numbers j 0) (block images j) in
-          let g : ℕ → BlockStore = λ j. page (getD ks j 0) (block (imagesOf s t) j) in
-          map-run f g 0 0 n
-          (λ k h. ap f (z k) ∙ ap₂ (λ (x : ℕ) (y : List ℕ). page x y) (name k h) (body k h) ∙ ap g (sym (z k)))
-          ∙ ap (λ (k : ℕ). map g (upFrom 0 k)) count
-
-  -- its block stores are those of the change from s to t
-  pub stores-planned : (number : ℕ) → 1 ≤ n → stores number numbers images n ≡ storesTo number s t
-  stores-planned number some =
-      stores-same number ∙ sym (storesTo-some number s t (omega (arith, count)))
-
-  -- and so are the bytes that they write
+  -- and its plan is that of the change from s to t
   pub planTo-planned : (number : ℕ) → 1 ≤ n
       → planTo number s t
       ≡ head number numbers n ++ (ending number numbers n ++ (wiped ++ take (512 * n) images))

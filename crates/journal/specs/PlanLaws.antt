@@ -3,18 +3,18 @@ use mathlib.Core.Path.{_≡_, sym, ap, ap₂, _∙_}
 use mathlib.Core.List.{List, [], _∷_, _++_, map, append-assoc}
 use Prim.Native.Nat.{ℕ, suc, _+_, _*_, _≤_, _<_}
 use native.Mathlib.Omega.{arith}
-use lib.ListN.{length, getD, take, drop, length-append}
-use lib.Seq.{take-at, take-append-add, drop-append-add, drop-drop}
+use lib.ListN.{length, getD, drop, length-append}
+use lib.Seq.{take-at, drop-append-add, drop-drop}
 use Rattle.lists.specs.Lists.{upFrom}
 use Rattle.lists.specs.TestLaws.{map-run}
 use Rattle.lists.specs.Block.{block, setBlock}
 use Rattle.endian.specs.Endian.{u32At}
-use Rattle.endian.specs.EndianLaws.{u32At-front, u32At-take}
+use Rattle.endian.specs.EndianLaws.{u32At-front}
 use Rattle.store.specs.Store.{sealed}
 use Rattle.journal.specs.Journal.{BlockStore, image, mark, page, headBytes, head, ending, wiped, wipe}
 use Rattle.journal.specs.Journal.{imageStores, pageStores, stores}
 use Rattle.journal.specs.Planned.{planCount, planName, planImage, planStoresOf, planStores}
-use Rattle.journal.specs.PartLaws.{block-first, block-next, block-take}
+use Rattle.journal.specs.PartLaws.{block-first, block-next}
 use Rattle.journal.specs.HeadLaws.{
   length-headBytes,
   count-headBytes,
@@ -106,37 +106,6 @@ planStores-by p n at b h e w count names images first next last =
 module _ (number : ℕ) (numbers images : List ℕ) (n : ℕ) (few : n ≤ 8) (listed : n ≤ length numbers)
     (named : (j : ℕ) → j < n → getD numbers j 0 < 4294967296) (plan : List ℕ)
     (is : plan ≡ head number numbers n ++ (ending number numbers n ++ (wiped ++ images))) where
-  pub length-plan : length plan ≡ 1536 + length images
-  length-plan =
-      ap length is
-      ∙ length-append (head number numbers n) (ending number numbers n ++ (wiped ++ images))
-      ∙ omega (
-        arith,
-        length-head number numbers n,
-        length-append (ending number numbers n) (wiped ++ images),
-        length-ending number numbers n,
-        length-append wiped images,
-        length-wiped,
-      )
-
-  -- up to the end of its images
-  pub take-plan : take (1536 + 512 * n) plan
-      ≡ head number numbers n ++ (ending number numbers n ++ (wiped ++ take (512 * n) images))
-  take-plan =
-      let a : 1536 + 512 * n ≡ length (head number numbers n) + (1024 + 512 * n) =
-      omega (arith, length-head number numbers n) in
-      let b : 1024 + 512 * n ≡ length (ending number numbers n) + (512 + 512 * n) =
-      omega (arith, length-ending number numbers n) in
-      let c : 512 + 512 * n ≡ length wiped + 512 * n = omega (arith, length-wiped) in
-      ap (take (1536 + 512 * n)) is
-      ∙ ap (λ (k : ℕ). take k (head number numbers n ++ (ending number numbers n ++ (wiped ++ images)))) a
-      ∙ take-append-add (head number numbers n) _ (1024 + 512 * n)
-      ∙ ap (λ (k : ℕ). head number numbers n ++ take k (ending number numbers n ++ (wiped ++ images))) b
-      ∙ ap (λ (l : List ℕ). head number numbers n ++ l)
-      (take-append-add (ending number numbers n) (wiped ++ images) (512 + 512 * n)
-      ∙ ap (λ (k : ℕ). ending number numbers n ++ take k (wiped ++ images)) c
-      ∙ ap (λ (l : List ℕ). ending number numbers n ++ l) (take-append-add wiped images (512 * n)))
-
   read : (i : ℕ) → i + 4 ≤ 508 → u32At plan i ≡ u32At (headBytes number numbers n) i
   unfolding head
   read i h =
@@ -178,30 +147,3 @@ module _ (number : ℕ) (numbers images : List ℕ) (n : ℕ) (few : n ≤ 8) (l
   planStores-plan =
       planStores-by plan n (λ j. getD numbers j 0) (block images) (head number numbers n) (ending number numbers n)
       wiped count-plan name-plan (λ k h. image-plan k) head-plan end-plan wiped-plan
-
--- What stands behind the images does not matter.
-module _ (p q : List ℕ) (n : ℕ) (count : planCount p ≡ n) (lp : 1536 + 512 * n ≤ length p)
-    (lq : 1536 + 512 * n ≤ length q) (same : take (1536 + 512 * n) q ≡ take (1536 + 512 * n) p) where
-  front-number : (i : ℕ) → i + 4 ≤ 1536 + 512 * n → u32At q i ≡ u32At p i
-  front-number i h =
-      sym (u32At-take (1536 + 512 * n) q i h) ∙ ap (λ (l : List ℕ). u32At l i) same ∙ u32At-take (1536 + 512 * n) p i h
-
-  front-block : (k : ℕ) → 512 * k + 512 ≤ 1536 + 512 * n → block q k ≡ block p k
-  front-block k h =
-      sym (block-take q (1536 + 512 * n) k lq h)
-      ∙ ap (λ (l : List ℕ). block l k) same
-      ∙ block-take p (1536 + 512 * n) k lp h
-
-  pub planCount-front : planCount q ≡ n
-  planCount-front = front-number 4 (omega arith) ∙ count
-
-  pub planName-front : (i : ℕ) → i < n → planName q i ≡ planName p i
-  planName-front i h = front-number (8 + 4 * i) (omega arith)
-
-  pub planStores-front : planStores q ≡ planStores p
-  unfolding planStores
-  planStores-front =
-      planStores-by q n (planName p) (planImage p) (block p 0) (block p 1) (block p 2) planCount-front planName-front
-      (λ k h. front-block (3 + k) (omega arith)) (front-block 0 (omega arith)) (front-block 1 (omega arith))
-      (front-block 2 (omega arith))
-      ∙ ap (λ (k : ℕ). planStoresOf k p) (sym count)

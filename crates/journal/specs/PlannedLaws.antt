@@ -7,11 +7,11 @@ use lib.ListN.{length, getD, drop, length-append, length-drop}
 use Rattle.lists.specs.Block.{block}
 use Rattle.journal.specs.Journal.{head, ending, wiped}
 use Rattle.journal.specs.Altered.{altered, imagesOf, storesTo}
-use Rattle.journal.specs.Planned.{planIn, planTo, planOver, planCount, planName, planImage, planStores}
+use Rattle.journal.specs.Planned.{planIn, planTo, planOver, planCount, planName, planStores}
 use Rattle.journal.specs.PartLaws.{block-front}
 use Rattle.journal.specs.HeadLaws.{length-head, length-ending, length-wiped}
 use Rattle.journal.specs.AlteredLaws.{altered-below, length-imagesOf, storesTo-some}
-use Rattle.journal.specs.PlanLaws.{count-plan, name-plan, image-plan, planStores-plan, stores-cong}
+use Rattle.journal.specs.PlanLaws.{count-plan, name-plan, planStores-plan, stores-cong}
 
 pub planTo-some : (number : ℕ) (s t : List ℕ) → 1 ≤ length (altered s t)
     → planTo number s t
@@ -82,10 +82,6 @@ module _ (number : ℕ) (s t : List ℕ) (m : ℕ) (ls : length s ≡ 512 * m) (
 
   front : (i : ℕ) → i < n → block (imagesOf s t ++ rest) i ≡ block (imagesOf s t) i
   front i h = block-front (imagesOf s t) rest i (omega (arith, length-imagesOf s t m ls lt))
-
-  pub image-planOver : (i : ℕ) → i < n → planImage plan i ≡ block (imagesOf s t) i
-  image-planOver i h =
-      image-plan number ks (imagesOf s t ++ rest) n few (omega arith) named plan parts i ∙ front i h
 
   pub planStores-to : planStores plan ≡ storesTo number s t
   planStores-to =

@@ -29,7 +29,7 @@ use Rattle.journal.specs.CopyLaws.{
   setBlock-twice,
   setBlock-same,
 }
-use Rattle.journal.specs.CutLaws.{Keeps, cut-keeps, run-keeps, Either, first, second, cut-append}
+use Rattle.journal.specs.CutLaws.{Keeps, cut-keeps, Either, first, second, cut-append}
 use Rattle.journal.specs.HeadLaws.{length-wiped}
 use Rattle.journal.specs.ValidLaws.{Held, holds-held, held-holds, wiped-fails, head-fails}
 
@@ -264,11 +264,6 @@ whole-stores {m} {d} w = go (holds d) refl
     go : (b : Bool) → holds d ≡ b → Each (Keeps (Whole m)) (copyStores b d ++ (wipe ∷ []))
     go true h = each-append (Keeps (Whole m)) (copyStores true d) (wipe ∷ []) (copied-keep h) (wiping, tt)
     go false h = (wiping, tt)
-
--- a store and a journal keep their lengths
-pub recover-whole : {m : ℕ} {d : Disk} → Whole m d → Whole m (recover d)
-unfolding recover
-recover-whole {m} {d} w = run-keeps (Whole m) (recoveryStores d) (whole-stores w) d w
 
 pub mends : {m : ℕ} {d f : Disk} → Whole m d → Tries d f → recover f ≡ recover d
 mends w ended = refl

@@ -1,23 +1,20 @@
-use mathlib.Core.Path.{_≡_}
-use Prim.Native.Nat.{_+_, _-_, _≤_, _<_}
+use mathlib.Core.Path.{_≡_, ap, _∙_}
+use mathlib.Core.Bool.{cond}
+use mathlib.Core.List.{[]}
+use Prim.Native.Nat.{ℕ, _+_, _-_, _≤_}
 use native.Mathlib.Omega.{arith}
 use borrow.Author.Needs.{needs}
-use Rattle.lists.specs.Block.{blocks}
-use Rattle.index.specs.HalvesLaws.{place-none, place-many, place-past, place-image, place-head, place-end}
-use Rattle.index.specs.HalvesLaws.{place-wipe, place-outside, place-page}
+use Rattle.model.specs.declared.Refusal.{Refusal}
+use Rattle.model.specs.declared.PlaceAnswer.{PlaceAnswer}
+use Rattle.journal.specs.Journal.{disk}
+use Rattle.journal.specs.Planned.{planStore}
+use Rattle.cuts.specs.Halves.{placeOf, storeOk}
+use Rattle.index.specs.HalvesLaws.{place-none, place-many, place-past, place-image}
 use Rattle.index.proofs.halves.store_place.Statement.{statement}
 use Rattle.index.proofs.halves.store_place.Tie as tie
 
 some : (c : tie.Else1) → 1 ≤ c .before .plan-count .result
 some c = omega (arith, c .if1 .left)
-
--- the image that a store of a block is of
-image-at : (c : tie.Else7)
-    → let k = c .before .before .before .before .before .before .before in
-    let n = k .before .before .before .args .n in
-    let m = k .plan-count .result in
-    (n ≡ m + (2 + (n - m - 2))) × (n - m - 2 < m)
-image-at c = (omega arith, omega arith)
 
 plan-count-requires : tie.Need-plan-count-requires
 plan-count-requires c κs = search needs
@@ -47,8 +44,8 @@ returns-3 c =
     place-past (a .store .now) (a .plan .now) (a .n) _ (k .plan-count .ensures) (some (c .before .before))
     (c .before .if2 .left) (c .if3 .taken)
 
-add-t13 : tie.Need-add-t13
-add-t13 c = search needs
+add-t11 : tie.Need-add-t11
+add-t11 c = search needs
 
 returns-4 : tie.Need-returns-4
 returns-4 c =
@@ -58,64 +55,18 @@ returns-4 c =
     place-image (a .store .now) (a .plan .now) (a .n) _ (k .plan-count .ensures) (some (e .before .before))
     (e .before .if2 .left) (e .if3 .left) (c .if4 .taken)
 
+past-place-requires : tie.Need-past-place-requires
+past-place-requires c κs = search needs
+
 returns-5 : tie.Need-returns-5
 returns-5 c =
-    let e = c .before .before in
-    let k = e .before .before .before in
+    let k = c .before .before .before .before .before in
     let a = k .before .before .before .args in
-    place-head (a .store .now) (a .plan .now) (a .n) _ (k .plan-count .ensures) (some (e .before .before))
-    (e .before .if2 .left) (e .if3 .left) (omega arith)
-
-returns-6 : tie.Need-returns-6
-returns-6 c =
-    let e = c .before .before .before in
-    let k = e .before .before .before in
-    let a = k .before .before .before .args in
-    place-end (a .store .now) (a .plan .now) (a .n) _ (k .plan-count .ensures) (some (e .before .before))
-    (e .before .if2 .left) (e .if3 .left) (omega arith)
-
-sub-if7 : tie.Need-sub-if7
-sub-if7 c = search needs
-
-returns-7 : tie.Need-returns-7
-returns-7 c =
-    let e = c .before .before .before .before in
-    let k = e .before .before .before in
-    let a = k .before .before .before .args in
-    place-wipe (a .store .now) (a .plan .now) (a .n) _ (k .plan-count .ensures) (some (e .before .before))
-    (e .before .if2 .left) (e .if3 .left) (omega arith)
-
-sub-plan-name : tie.Need-sub-plan-name
-sub-plan-name c = search needs
-
-cast-plan-name : tie.Need-cast-plan-name
-cast-plan-name c = search needs
-
-plan-name-requires : tie.Need-plan-name-requires
-plan-name-requires c κs = search needs
-
-cast-if8 : tie.Need-cast-if8
-cast-if8 c = search needs
-
-returns-8 : tie.Need-returns-8
-unfolding blocks
-returns-8 c =
-    let e = c .before .before .before .before .before .before in
-    let k = e .before .before .before in
-    let a = k .before .before .before .args in
-    place-outside (a .store .now) (a .plan .now) (a .n) _ (k .plan-count .ensures) (some (e .before .before))
-    (e .before .if2 .left) (e .if3 .left) (a .n - k .plan-count .result - 2) _
-    (image-at (c .before .before) .0) (c .before .plan-name .ensures) (image-at (c .before .before) .1) (c .if8 .taken)
-
-returns-9 : tie.Need-returns-9
-unfolding blocks
-returns-9 c =
-    let e = c .before .before .before .before .before .before in
-    let k = e .before .before .before in
-    let a = k .before .before .before .args in
-    place-page (a .store .now) (a .plan .now) (a .n) _ (k .plan-count .ensures) (some (e .before .before))
-    (e .before .if2 .left) (e .if3 .left) (a .n - k .plan-count .result - 2) _
-    (image-at (c .before .before) .0) (c .before .plan-name .ensures) (image-at (c .before .before) .1) (c .if8 .left)
+    let z : k .plan-count .result + (a .n - k .plan-count .result) ≡ a .n = omega arith in
+    c .past-place .ensures
+    ∙ ap
+    (λ (i : ℕ). cond (storeOk (disk (a .store .now) []) (a .plan .now) i) (placeOf (planStore (a .plan .now) i))
+    (PlaceAnswer.Refused Refusal.Number)) z
 
 pub store-place-spec : {M : Type 1} → statement M
 store-place-spec =
@@ -127,15 +78,7 @@ store-place-spec =
     mul-if3
     add-if3
     returns-3
-    add-t13
+    add-t11
     returns-4
-    returns-5
-    returns-6
-    sub-if7
-    returns-7
-    sub-plan-name
-    cast-plan-name
-    plan-name-requires
-    cast-if8
-    returns-8
-    returns-9)
+    past-place-requires
+    returns-5)
