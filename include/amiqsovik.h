@@ -255,7 +255,7 @@ AMIQSOVIK_MUST_USE uint64_t amiqsovik_look(const uint8_t *store, size_t store_le
  *     }
  *
  * At a start fdatasync both files before they are read: what a killed process wrote may not be on the disk yet. Then
- * recover in memory, write the blocks of the store that differ, fdatasync, and only then the head. */
+ * recover in memory, write each block of the store that differs and fdatasync it, ascending, and only then the head. */
 AMIQSOVIK_MUST_USE uint64_t amiqsovik_plan_insert(const uint8_t *AMIQSOVIK_RESTRICT store, size_t store_length,
                                                   const uint8_t *AMIQSOVIK_RESTRICT journal, size_t journal_length,
                                                   uint32_t hash, uint32_t block, uint32_t offset,

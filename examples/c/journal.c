@@ -41,7 +41,7 @@ static void make(void)
         same("insert", insert(store, BYTES, 2, reading, 1), word(AMIQSOVIK_DONE, 0));
 }
 
-/* Every call that takes a journal, with numbers that are good or not: none of them is done, all answer `number`. */
+/* The changes, and the plans of insert and remove, with numbers good or not: none is done, all answer `number`. */
 static void refused(const char *what, size_t bytes, size_t length, uint32_t offset, uint32_t bucket, uint32_t number)
 {
     uint64_t answer = word(number, number == AMIQSOVIK_DAMAGED ? 2 : 0);

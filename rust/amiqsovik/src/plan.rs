@@ -45,7 +45,8 @@ impl Plan {
         Plan { bytes: [0; PLAN_SIZE] }
     }
 
-    /// The number of block stores: 2k + 3 for a change that alters k blocks, 1 to 8, and 0 before the first plan.
+    /// The number of block stores: 2k + 3 for a change that alters k blocks, 1 to 8, and 0 before the first plan. A plan
+    /// that is refused, or stops, leaves the one before it: make the stores only of one that was planned.
     ///
     /// ```
     /// assert_eq!(amiqsovik::Plan::new().stores(), 0);

@@ -262,7 +262,7 @@ fn wiped(journal: &[u8]) -> Result<(), Refusal> {
     }
 }
 
-/// The number of blocks, and how the store stands or why not, judged anew; not its bytes.
+/// The number of blocks, whether the journal has a wiped head, and how the store stands or why not; not their bytes.
 ///
 /// ```
 /// let (mut bytes, mut journal) = ([0; 16 * 512], [0; 8192]);

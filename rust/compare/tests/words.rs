@@ -1,5 +1,6 @@
-//! The words of the functions for C that take a journal, whole, beside what the ordinary index answers: on sound and
-//! spoilt stores, good and bad journals, numbers at and past their ends. What they write is the same too.
+//! The words of the functions for C that change a store or a journal, or say whether one is wiped, whole, beside what
+//! the ordinary index answers: on sound and spoilt stores, good and bad journals, numbers at and past their ends. What
+//! they write is the same too.
 
 use compare::build::{found, sound};
 use compare::foreign;
@@ -76,7 +77,7 @@ fn call(random: &mut Random, lent: &Lent, label: &str) -> (&'static str, Reply) 
 }
 
 #[test]
-fn of_every_call_with_a_journal() {
+fn of_changes_and_of_calls_on_a_journal() {
     let mut seen = BTreeSet::new();
     for seed in 0..4_000 {
         let mut random = Random::new(40_000 + seed);
