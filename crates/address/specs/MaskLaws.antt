@@ -40,8 +40,8 @@ pub high-mask : (m : ℕ) → high_mask m ≡ 2 ^ mask_digits m - 1
 unfolding high_mask
 high-mask m = refl
 
-pub low_mask : (m : ℕ) → low_mask m ≡ 2 ^ low_digits m - 1
-low_mask m = omega (arith, low-size m)
+pub low_mask_lem : (m : ℕ) → low_mask m ≡ 2 ^ low_digits m - 1
+low_mask_lem m = omega (arith, low-size m)
 
 -- "h AND high mask; if above max bucket, h AND low mask"
 pub bucket_of-and : (m h : ℕ)
@@ -53,7 +53,7 @@ bucket_of-and m h = ap₂ (λ (x y : ℕ). cond (leb x m) x y) (sym high) (sym l
     high = ap (bit_and h) (high-mask m) ∙ and_mask h (mask_digits m) ∙ ap (λ (k : ℕ). h % k) (sym (high-size m))
 
     low : bit_and h (low_mask m) ≡ h % (low_mask m + 1)
-    low = ap (bit_and h) (low_mask m) ∙ and_mask h (low_digits m) ∙ ap (λ (k : ℕ). h % k) (sym (low-size m))
+    low = ap (bit_and h) (low_mask_lem m) ∙ and_mask h (low_digits m) ∙ ap (λ (k : ℕ). h % k) (sym (low-size m))
 
 -- from 2 on the high mask has the digits of m
 pub digits-mask : (m : ℕ) → 2 ≤ m → bit_length m ≡ mask_digits m
