@@ -139,7 +139,7 @@ pub fn made_blocks(spares: [u32; 16], s: u32) -> u64
 }
 
 // The meta block, the page of a bucket, an overflow bit's block, or a block that is not made yet.
-#[derive(Drop)]
+#[derive(Clone, Copy)]
 pub enum BlockRole {
     Meta,
     Bucket(u32),

@@ -7,28 +7,28 @@ pub mod along; // along.rt: the same over the walks of a hash code's own and old
 pub mod bitmap; // bitmap.rt: the lowest free bit; whether all bits from one on are 1
 
 // The slot of a pair in a page.
-#[derive(Drop)]
+#[derive(Clone, Copy)]
 pub enum Slot {
     At(u32),
     Nothing,
 }
 
 // The block and slot of a pair in a chain.
-#[derive(Drop)]
+#[derive(Clone, Copy)]
 pub enum Found {
     At { block: u32, slot: u32 },
     Nothing,
 }
 
 // The first page of a chain with room for an entry; the chain's last block if none has.
-#[derive(Drop)]
+#[derive(Clone, Copy)]
 pub enum Room {
     Page { block: u32 },
     Full { last: u32 },
 }
 
 // The lowest free bit of a bitmap.
-#[derive(Drop)]
+#[derive(Clone, Copy)]
 pub enum Free {
     Bit(u32),
     Nothing,

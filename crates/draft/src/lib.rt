@@ -11,7 +11,7 @@ ghost use Rattle.draft.specs.Draft.{Draft};
 use store::Change;
 
 // A change, and the place of one of its blocks.
-#[derive(Drop)]
+#[derive(Clone, Copy)]
 pub struct Opened {
     pub change: Change,
     pub at: usize,

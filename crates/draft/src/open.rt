@@ -9,7 +9,7 @@ use endian::raw::copy_over;
 use store::{Change, block_at, put_block};
 
 // Where a number stands in a change, or would stand.
-#[derive(Drop)]
+#[derive(Clone, Copy)]
 enum Place {
     Listed(usize),
     Absent(usize),

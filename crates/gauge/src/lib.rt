@@ -15,14 +15,14 @@ use pages::count_pages;
 use store::block_at;
 
 // Held entries divided by buckets, and by 40 times the pages that stand in chains.
-#[derive(Drop)]
+#[derive(Clone, Copy)]
 pub struct Gauge {
     pub per_bucket: f64,
     pub per_page: f64,
 }
 
 // The answer, and the gauge: both of its numbers are 0 on a refusal.
-#[derive(Drop)]
+#[derive(Clone, Copy)]
 pub struct GaugeAnswer {
     pub answer: Answer,
     pub gauge: Gauge,

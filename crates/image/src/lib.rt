@@ -1,6 +1,6 @@
 // The fields of a meta block but for its magic and edition, and what a store is found to be.
 
-#[derive(Drop)]
+#[derive(Clone, Copy)]
 pub struct Meta {
     pub count: u32,
     pub fill: u16,
@@ -14,7 +14,7 @@ pub struct Meta {
     pub number: u32,
 }
 
-#[derive(Drop)]
+#[derive(Clone, Copy)]
 pub enum Verdict {
     BadLength,
     Damaged { block: u32 },

@@ -21,28 +21,28 @@ use split::Position;
 use squeeze::Span;
 
 // What the tests before a call find: a sound store, or the refusal.
-#[derive(Drop)]
+#[derive(Clone, Copy)]
 pub enum Test {
     Passed,
     Failed(Refusal),
 }
 
 // What those before a call with a pair find: the pair, for a sound store, or the refusal.
-#[derive(Drop)]
+#[derive(Clone, Copy)]
 enum PairTest {
     Passed(Pair),
     Failed(Refusal),
 }
 
 // What a step came to, and the position in the old chain that the next one may search from.
-#[derive(Drop)]
+#[derive(Clone, Copy)]
 struct Stride {
     advance: Advance,
     next: Position,
 }
 
 // What a squeeze's step came to, and the pages that the next one looks at.
-#[derive(Drop)]
+#[derive(Clone, Copy)]
 struct SqueezeStride {
     advance: Advance,
     next: Span,

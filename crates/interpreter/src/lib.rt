@@ -15,7 +15,7 @@ const TOO_MANY: usize = 81;
 
 // What is kept between two pieces of a script: the number of the last line that ended, how many bytes the pending line
 // has (81 where there are more than 80), these bytes, and N of the store that stands, 0 before the first.
-#[derive(Drop)]
+#[derive(Clone, Copy)]
 pub struct ScriptState {
     number: u64,
     seen: usize,
@@ -25,7 +25,7 @@ pub struct ScriptState {
 
 // The state after a piece, how many of its bytes were used, and how many were written. Nothing was done if it was not
 // ready: the state is none that a script has, or a slice is too short.
-#[derive(Drop)]
+#[derive(Clone, Copy)]
 pub struct Fed {
     pub ready: bool,
     pub state: ScriptState,
@@ -34,14 +34,14 @@ pub struct Fed {
 }
 
 // N of the store that stands after a line, and how many bytes the line wrote.
-#[derive(Drop)]
+#[derive(Clone, Copy)]
 struct LineEnd {
     blocks: u32,
     written: usize,
 }
 
 // The state after the bytes up to an LF or the end of a piece, their number, with the LF, and whether it was an LF.
-#[derive(Drop)]
+#[derive(Clone, Copy)]
 struct Gathered {
     state: ScriptState,
     used: usize,

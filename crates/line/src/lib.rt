@@ -3,14 +3,14 @@ pub mod words; // words.rt: the words of a line, numbers
 pub mod commands; // commands.rt: a line as a command
 
 // A word read as a number.
-#[derive(Drop)]
+#[derive(Clone, Copy)]
 pub enum Number {
     Value(u32),
     Wrong,
 }
 
 // The numbers of a line, in its order.
-#[derive(Drop)]
+#[derive(Clone, Copy)]
 pub enum Fields {
     None,
     One(u32),
@@ -21,7 +21,7 @@ pub enum Fields {
 }
 
 // A line of the script.
-#[derive(Drop)]
+#[derive(Clone, Copy)]
 pub enum Command {
     Format {
         blocks: u32,

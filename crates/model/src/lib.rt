@@ -3,7 +3,7 @@ pub mod numbers; // numbers.rt: the numbers of answers, in code
 
 // The numbers that a caller gives format: the fill, the store number, and whether it overwrites a store in use (1) or
 // not (0). N is none of them: it is the store's length.
-#[derive(Drop)]
+#[derive(Clone, Copy)]
 pub struct Order {
     pub fill: u32,
     pub number: u32,
@@ -11,7 +11,7 @@ pub struct Order {
 }
 
 // Why a call was refused, with what the refusal gives besides.
-#[derive(Drop)]
+#[derive(Clone, Copy)]
 pub enum Refusal {
     Length,
     Number,
@@ -28,34 +28,34 @@ pub enum Refusal {
 }
 
 // The answer of format, insert and remove, and of the call that says whether a store is in use.
-#[derive(Drop)]
+#[derive(Clone, Copy)]
 pub enum Answer {
     Done,
     Refused(Refusal),
 }
 
-#[derive(Drop)]
+#[derive(Clone, Copy)]
 pub enum LookupAnswer {
     Found { matches: u32 },
     Refused(Refusal),
 }
 
 // Why work or a squeeze stopped: its budget is spent, there is nothing to do, or, of work, the next step finds no room.
-#[derive(Drop)]
+#[derive(Clone, Copy)]
 pub enum Stop {
     Spent,
     Idle,
     NoRoom,
 }
 
-#[derive(Drop)]
+#[derive(Clone, Copy)]
 pub enum WorkAnswer {
     Worked { steps: u32, stop: Stop },
     Refused(Refusal),
 }
 
 // The job's phase with its two bucket numbers.
-#[derive(Drop)]
+#[derive(Clone, Copy)]
 pub enum Phase {
     None,
     Copying { old: u32, new: u32 },
@@ -63,7 +63,7 @@ pub enum Phase {
 }
 
 // `slack` is fill * buckets - count; below zero a split is wanted.
-#[derive(Drop)]
+#[derive(Clone, Copy)]
 pub struct Standing {
     pub count: u32,
     pub buckets: u32,
@@ -71,7 +71,7 @@ pub struct Standing {
     pub slack: i64,
 }
 
-#[derive(Drop)]
+#[derive(Clone, Copy)]
 pub enum StandingAnswer {
     Stands(Standing),
     Refused(Refusal),
@@ -79,7 +79,7 @@ pub enum StandingAnswer {
 
 // Where a block lies: in the journal or in the store, and its number there. `Short` is the answer to a plan that is
 // lent too few bytes.
-#[derive(Drop)]
+#[derive(Clone, Copy)]
 pub enum PlaceAnswer {
     At { journal: bool, block: u32 },
     Short,
@@ -87,7 +87,7 @@ pub enum PlaceAnswer {
 }
 
 // The plan of a change: the number of its block stores; or, of a step, why there is none.
-#[derive(Drop)]
+#[derive(Clone, Copy)]
 pub enum PlanAnswer {
     Planned { stores: u32 },
     Stopped(Stop),

@@ -10,28 +10,28 @@ use model::{Answer, Refusal, Stop};
 use store::Change;
 
 // A planned call: its answer, and its change; a refusal changes nothing.
-#[derive(Drop)]
+#[derive(Clone, Copy)]
 pub struct Plan {
     pub answer: Answer,
     pub change: Change,
 }
 
 // What a step comes to: one change, or a stop.
-#[derive(Drop)]
+#[derive(Clone, Copy)]
 pub enum Advance {
     Next,
     Stopped(Stop),
 }
 
 // A planned step.
-#[derive(Drop)]
+#[derive(Clone, Copy)]
 pub struct StepPlan {
     pub advance: Advance,
     pub change: Change,
 }
 
 // A planned put of an entry: whether there is room, and its change.
-#[derive(Drop)]
+#[derive(Clone, Copy)]
 pub struct PutPlan {
     pub room: bool,
     pub change: Change,

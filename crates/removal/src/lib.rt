@@ -26,14 +26,14 @@ use view::Sources;
 use view::held::{find_held, sources_of};
 
 // The overflow bit of a page that is left empty, if there is one.
-#[derive(Drop)]
+#[derive(Clone, Copy)]
 pub enum Freed {
     Bit(u32),
     Nothing,
 }
 
 // A change that takes an entry out of its page, and what it frees.
-#[derive(Drop)]
+#[derive(Clone, Copy)]
 pub struct Cut {
     pub change: Change,
     pub freed: Freed,

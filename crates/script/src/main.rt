@@ -13,7 +13,7 @@ use text::LINE_OUTPUT;
 const BUFFER: usize = 65536 + LINE_OUTPUT;
 
 // The state after some lines, how many bytes of a piece they used, and how many they wrote.
-#[derive(Drop)]
+#[derive(Clone, Copy)]
 struct Lines {
     state: ScriptState,
     used: usize,
@@ -21,14 +21,14 @@ struct Lines {
 }
 
 // The state after a piece, and whether all that it wrote went out.
-#[derive(Drop)]
+#[derive(Clone, Copy)]
 struct Piece {
     state: ScriptState,
     out: bool,
 }
 
 // The state after some reads, whether another read follows, and whether the input has ended and nothing failed.
-#[derive(Drop)]
+#[derive(Clone, Copy)]
 struct Run {
     state: ScriptState,
     more: bool,

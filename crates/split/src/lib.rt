@@ -10,7 +10,7 @@ use plan::StepPlan;
 
 // The first entry of the old chain that is left to copy or to clear, its place, which is a number of entries from the
 // chain's start, and its block and slot.
-#[derive(Drop)]
+#[derive(Clone, Copy)]
 pub enum Mover {
     At {
         entry: Entry,
@@ -22,7 +22,7 @@ pub enum Mover {
 }
 
 // A page of a chain: its block, its index and the number of entries on the pages before it.
-#[derive(Drop)]
+#[derive(Clone, Copy)]
 pub struct Spot {
     pub block: u32,
     pub index: usize,
@@ -31,7 +31,7 @@ pub struct Spot {
 
 // A place in the old chain, which a step may search from. Where it is fresh, no entry from there on has a copy. The
 // search begins at the page, whose index is 0 where none is known.
-#[derive(Drop)]
+#[derive(Clone, Copy)]
 pub struct Position {
     pub place: usize,
     pub fresh: bool,
@@ -39,7 +39,7 @@ pub struct Position {
 }
 
 // A planned step, and the position that the next one may search from.
-#[derive(Drop)]
+#[derive(Clone, Copy)]
 pub struct SplitPlan {
     pub step: StepPlan,
     pub next: Position,

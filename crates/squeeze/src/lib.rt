@@ -29,21 +29,21 @@ use removal::pages::cut_entry;
 use store::{Change, block_at, prev_at};
 
 // A chain's last page and its first page with room, where those are two.
-#[derive(Drop)]
+#[derive(Clone, Copy)]
 pub enum Spot {
     At { last: u32, target: u32 },
     Nothing,
 }
 
 // The pages of a chain that a step looks at: no page before `first` has room, and `last` is the chain's last one.
-#[derive(Drop)]
+#[derive(Clone, Copy)]
 pub struct Span {
     pub first: u32,
     pub last: u32,
 }
 
 // A planned step, and the pages that the next one looks at.
-#[derive(Drop)]
+#[derive(Clone, Copy)]
 pub struct SqueezePlan {
     pub step: StepPlan,
     pub next: Span,

@@ -117,7 +117,7 @@ pub fn seal_block(image: &mut [u8], number: u32, k: u32)
 
 // Blocks to be replaced: the first `count` of `numbers`, in ascending order. The new bodies are the blocks of a slice
 // of images, in the same order.
-#[derive(Drop)]
+#[derive(Clone, Copy)]
 pub struct Change {
     pub count: usize,
     pub numbers: [u32; 8],

@@ -18,7 +18,7 @@ pub fn skip_byte(line: &[u8], at: usize, byte: u8) -> usize
     at
 }
 
-#[derive(Drop)]
+#[derive(Clone, Copy)]
 pub struct Number {
     pub value: u32,
     pub next: usize,
@@ -42,7 +42,7 @@ pub fn read_number(line: &[u8], at: usize) -> Number
     Number { value, next }
 }
 
-#[derive(Drop)]
+#[derive(Clone, Copy)]
 pub struct Spares {
     pub values: [u32; 16],
     pub next: usize,

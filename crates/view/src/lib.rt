@@ -6,7 +6,7 @@ pub mod lookup; // lookup.rt: the matches written out
 
 // The buckets in whose chains the pairs of a hash code are held: its own; or, where that is being populated, the
 // unmoved entries of the new one and all of the old one.
-#[derive(Drop)]
+#[derive(Clone, Copy)]
 pub enum Sources {
     Home { home: u32 },
     Both { new: u32, old: u32 },
@@ -14,7 +14,7 @@ pub enum Sources {
 
 // The numbers of blocks in the chains of the sources. `old` is 0 where there is no old chain; where there is one, only
 // the unmoved entries of the own chain count, and `fresh` is true.
-#[derive(Drop)]
+#[derive(Clone, Copy)]
 pub struct SourceCounts {
     pub own: usize,
     pub old: usize,

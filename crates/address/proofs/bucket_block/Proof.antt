@@ -21,43 +21,43 @@ later sp (suc b) g h e =
     let q : g - 1 ≡ pred (bucket_point (suc b)) = omega arith in
     ap (λ (i : ℕ). suc b + get_or sp i 0 + 1) q
 
-returns : tie.Need-returns
-returns c = first c.before.args.t1 c.before.args.bucket c.if1.true
+returns : tie.Need-returns-then-bucket-eq0
+returns c = first c.before.args.spares c.before.args.bucket c.if-bucket-eq0.true
 
-point-of-bucket-requires : tie.Need-point-of-bucket-requires
+point-of-bucket-requires : tie.Need-point_of_bucket-requires
 point-of-bucket-requires c κs = search rules
 
-sub-before : tie.Need-overflow-sub-before
-sub-before c = omega (arith, c.point-of-bucket.ensures, bucket_point-pos c.before.before.args.bucket (omega arith))
+sub-before : tie.Need-overflow_sub-before
+sub-before c = omega (arith, c.point_of_bucket.ensures, bucket_point-pos c.before.before.args.bucket (omega arith))
 
-cast-before : tie.Need-overflow-cast-before
+cast-before : tie.Need-overflow_cast-before
 cast-before c = search rules
 
-mul-result : tie.Need-overflow-mul-result
+mul-result : tie.Need-offset_bounds-spares-before
 mul-result c = search rules
 
-array-read-result : tie.Need-array-read-result
+array-read-result : tie.Need-bounds-spares-before
 array-read-result c =
-    omega (arith, c.point-of-bucket.ensures, bucket_point-le c.before.before.args.bucket 16 c.before.before.requires.0)
+    omega (arith, c.point_of_bucket.ensures, bucket_point-le c.before.before.args.bucket 16 c.before.before.requires.0)
 
-block-is : (c : tie.After-point-of-bucket)
-    → c.before.before.args.bucket + get_or c.before.before.args.t1 (c.point-of-bucket.result - 1) 0 + 1
-    ≡ bucket_block c.before.before.args.t1 c.before.before.args.bucket
+block-is : (c : tie.After-point_of_bucket)
+    → c.before.before.args.bucket + get_or c.before.before.args.spares (c.point_of_bucket.result - 1) 0 + 1
+    ≡ bucket_block c.before.before.args.spares c.before.before.args.bucket
 block-is c =
     let a = c.before.before.args in
-    later a.t1 a.bucket c.point-of-bucket.result (omega arith) c.point-of-bucket.ensures
+    later a.spares a.bucket c.point_of_bucket.result (omega arith) c.point_of_bucket.ensures
 
-add-result : tie.Need-overflow-add-result
+add-result : tie.Need-overflow_add-result
 add-result c = record { fits = omega (arith, block-is c, c.before.before.requires.1) }
 
-add-result-2 : tie.Need-overflow-add-result-2
+add-result-2 : tie.Need-overflow_add-result-2
 add-result-2 c = record { fits = omega (arith, block-is c, c.before.before.requires.1) }
 
-returns-2 : tie.Need-returns-2
+returns-2 : tie.Need-returns
 returns-2 c = block-is c
 
-pub bucket-block-spec : {M : Type 1} → statement M
-bucket-block-spec =
+pub bucket_block_spec : {M : Type 1} → statement M
+bucket_block_spec =
     tie.close
     (tie.spec
     returns

@@ -7,23 +7,23 @@ use Rattle.address.specs.MaskLaws.{bucket_of-and}
 use Rattle.address.proofs.bucket_of.Statement.{statement}
 use Rattle.address.proofs.bucket_of.Tie as tie
 
-high-mask-requires : tie.Need-high-mask-requires
+high-mask-requires : tie.Need-high_mask-requires
 high-mask-requires c κs = search rules
 
-returns : tie.Need-returns
+returns : tie.Need-returns-then-bucket-max
 returns c =
     let a = c.before.before.args in
-    let h : bit_and a.hash c.before.high-mask.result ≤ a.max = omega arith in
-    rw (bucket_of-and, ← c.before.high-mask.ensures, le-leb _ _ h)
+    let h : bit_and a.hash c.before.high_mask.result ≤ a.max = omega arith in
+    rw (bucket_of-and, ← c.before.high_mask.ensures, le-leb _ _ h)
 
-low-mask-requires : tie.Need-low-mask-requires
+low-mask-requires : tie.Need-low_mask-requires
 low-mask-requires c κs = search rules
 
-returns-2 : tie.Need-returns-2
+returns-2 : tie.Need-returns
 returns-2 c =
     let a = c.before.before.before.args in
-    let h : a.max < bit_and a.hash c.before.before.high-mask.result = omega arith in
-    rw (bucket_of-and, ← c.before.before.high-mask.ensures, ← c.low_mask.ensures, lt-leb _ _ h)
+    let h : a.max < bit_and a.hash c.before.before.high_mask.result = omega arith in
+    rw (bucket_of-and, ← c.before.before.high_mask.ensures, ← c.low_mask.ensures, lt-leb _ _ h)
 
-pub bucket-of-spec : {M : Type 1} → statement M
-bucket-of-spec = tie.close (tie.spec high-mask-requires returns low-mask-requires returns-2)
+pub bucket_of_spec : {M : Type 1} → statement M
+bucket_of_spec = tie.close (tie.spec high-mask-requires returns low-mask-requires returns-2)

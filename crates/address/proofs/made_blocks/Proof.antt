@@ -9,36 +9,36 @@ use Rattle.address.specs.Address.{made}
 use Rattle.address.proofs.made_blocks.Statement.{statement}
 use Rattle.address.proofs.made_blocks.Tie as tie
 
-buckets-at-requires : tie.Need-buckets-at-requires
+buckets-at-requires : tie.Need-buckets_at-requires
 buckets-at-requires c κs = search rules
 
-cast-result : tie.Need-overflow-cast-result
+cast-result : tie.Need-overflow_cast-result
 cast-result c = search rules
 
-mul-result : tie.Need-overflow-mul-result
+mul-result : tie.Need-offset_bounds-spares-s
 mul-result c = search rules
 
-array-read-result : tie.Need-array-read-result
+array-read-result : tie.Need-bounds-spares-s
 array-read-result c = search rules
 
-cast-result-2 : tie.Need-overflow-cast-result-2
+cast-result-2 : tie.Need-overflow_cast-result-3
 cast-result-2 c = search rules
 
-spare : (c : tie.After-buckets-at) → Fits w32 (get_or c.before.args.t1 c.before.args.s 0)
+spare : (c : tie.After-buckets_at) → Fits w32 (get_or c.before.args.spares c.before.args.s 0)
 spare c = search rules
 
-add-result : tie.Need-overflow-add-result
+add-result : tie.Need-overflow_add-result
 add-result c = omega (arith, spare c)
 
-add-result-2 : tie.Need-overflow-add-result-2
+add-result-2 : tie.Need-overflow_add-result-2
 add-result-2 c = omega (arith, spare c)
 
 returns : tie.Need-returns
 unfolding made
-returns c = ap (λ (x : ℕ). x + get_or c.before.args.t1 c.before.args.s 0 + 1) c.buckets-at.ensures
+returns c = ap (λ (x : ℕ). x + get_or c.before.args.spares c.before.args.s 0 + 1) c.buckets_at.ensures
 
-pub made-blocks-spec : {M : Type 1} → statement M
-made-blocks-spec =
+pub made_blocks_spec : {M : Type 1} → statement M
+made_blocks_spec =
     tie.close
     (tie.spec
     buckets-at-requires

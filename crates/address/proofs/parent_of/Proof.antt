@@ -13,25 +13,25 @@ unfolding split_from bit_length
 of_zero zero e = refl
 of_zero (suc m) e = absurd (omega arith)
 
-returns : tie.Need-returns
-returns c = of_zero c.before.args.bucket c.if1.true
+returns : tie.Need-returns-then-bucket-eq0
+returns c = of_zero c.before.args.bucket c.if-bucket-eq0.true
 
-sub-result : tie.Need-overflow-sub-result
+sub-result : tie.Need-overflow_sub-result
 sub-result c = leading_lt c.before.args.bucket (omega arith) c.before.ranges.bucket.fits
 
-shl-result : tie.Need-overflow-shl-result
+shl-result : tie.Need-overflow_shl-result
 shl-result c = search rules
 
-sub-result-2 : tie.Need-overflow-sub-result-2
+sub-result-2 : tie.Need-overflow_sub-result-2
 sub-result-2 c =
     let b = c.before.args.bucket in
     omega (arith, shift_top b (omega arith) c.before.ranges.bucket.fits, top-le b (omega arith))
 
-returns-2 : tie.Need-returns-2
+returns-2 : tie.Need-returns
 unfolding split_from
 returns-2 c =
     let b = c.before.args.bucket in
     ap (λ (x : ℕ). b - x) (shift_top b (omega arith) c.before.ranges.bucket.fits)
 
-pub parent-of-spec : {M : Type 1} → statement M
-parent-of-spec = tie.close (tie.spec returns sub-result shl-result sub-result-2 returns-2)
+pub parent_of_spec : {M : Type 1} → statement M
+parent_of_spec = tie.close (tie.spec returns sub-result shl-result sub-result-2 returns-2)

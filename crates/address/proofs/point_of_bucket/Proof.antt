@@ -9,7 +9,7 @@ use Rattle.address.proofs.Leading.{digits-leading}
 use Rattle.address.proofs.point_of_bucket.Statement.{statement}
 use Rattle.address.proofs.point_of_bucket.Tie as tie
 
-sub-group : tie.Need-overflow-sub-group
+sub-group : tie.Need-overflow_sub-group
 sub-group c = omega (arith, leading_le 32 c.args.bucket)
 
 -- leading zeros give the group
@@ -38,36 +38,36 @@ module _ (b : ℕ) (fits : b < 2 ^ 32) (high : 10 ≤ 32 - count_leading_zeros 3
   point-is : 10 + 4 * (32 - count_leading_zeros 32 b - 10) + (b / 2 ^ (32 - count_leading_zeros 32 b - 3) - 4) ≡ bucket_point b
   point-is = omega (arith, quarter, point-high b e group)
 
-returns : tie.Need-returns
+returns : tie.Need-returns-then-group-lt10
 returns c =
     let b = c.before.args.bucket in
     let d = group-is b c.before.ranges.bucket.fits in
-    d ∙ sym (point-low b (omega (arith, c.if1.true, d)))
+    d ∙ sym (point-low b (omega (arith, c.if-group-lt10.true, d)))
 
-sub-phase : tie.Need-overflow-sub-phase
+sub-phase : tie.Need-overflow_sub-phase
 sub-phase c = search rules
 
-shr-phase : tie.Need-overflow-shr-phase
+shr-phase : tie.Need-overflow_shr-phase
 shr-phase c = search rules
 
-sub-phase-2 : tie.Need-overflow-sub-phase-2
-sub-phase-2 c = quarter-from c.before.args.bucket c.before.ranges.bucket.fits c.if1.false
+sub-phase-2 : tie.Need-overflow_sub-phase-2
+sub-phase-2 c = quarter-from c.before.args.bucket c.before.ranges.bucket.fits c.if-group-lt10.false
 
-mul-result : tie.Need-overflow-mul-result
+mul-result : tie.Need-overflow_mul-result
 mul-result c = search rules
 
-add-result : tie.Need-overflow-add-result
+add-result : tie.Need-overflow_add-result
 add-result c = search rules
 
-add-result-2 : tie.Need-overflow-add-result-2
+add-result-2 : tie.Need-overflow_add-result-2
 add-result-2 c =
-    omega (arith, quarter-upto c.before.args.bucket c.before.ranges.bucket.fits c.if1.false)
+    omega (arith, quarter-upto c.before.args.bucket c.before.ranges.bucket.fits c.if-group-lt10.false)
 
-returns-2 : tie.Need-returns-2
-returns-2 c = point-is c.before.args.bucket c.before.ranges.bucket.fits c.if1.false
+returns-2 : tie.Need-returns
+returns-2 c = point-is c.before.args.bucket c.before.ranges.bucket.fits c.if-group-lt10.false
 
-pub point-of-bucket-spec : {M : Type 1} → statement M
-point-of-bucket-spec =
+pub point_of_bucket_spec : {M : Type 1} → statement M
+point_of_bucket_spec =
     tie.close
     (tie.spec
     sub-group
