@@ -3,16 +3,16 @@ use Rattle.store.specs.Finish.{finished}
 use Rattle.store.proofs.finish.Statement.{statement}
 use Rattle.store.proofs.finish.Tie as tie
 
-number-at-requires : tie.Need-number-at-requires
+number-at-requires : tie.Need-number_at-number-requires
 number-at-requires c κs = search rules
 
-finish-as-requires : tie.Need-finish-as-requires
+finish-as-requires : tie.Need-finish_as-requires
 finish-as-requires c κs = search rules
 
-same_length : tie.Need-same-length
+same_length : tie.Need-shape_of-store
 same_length c = search rules
 
-same-length-2 : tie.Need-same-length-2
+same-length-2 : tie.Need-shape_of-images
 same-length-2 c = search rules
 
 returns : tie.Need-returns

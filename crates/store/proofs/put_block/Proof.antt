@@ -5,35 +5,35 @@ use borrow.Author.Rules.{rules}
 use Rattle.store.proofs.put_block.Statement.{statement}
 use Rattle.store.proofs.put_block.Tie as tie
 
-mul-from : tie.Need-overflow-mul-from
+mul-from : tie.Need-overflow_mul-from
 mul-from c = search rules
 
-add-copy-over : tie.Need-overflow-add-copy-over
+add-copy-over : tie.Need-overflow_add-from
 add-copy-over c = search rules
 
-sub-copy-over : tie.Need-overflow-sub-copy-over
+sub-copy-over : tie.Need-slice_bounds-copy_over-count
 sub-copy-over c = search rules
 
-part-copy-over-start : tie.Need-slice-bounds-copy-over-start
+part-copy-over-start : tie.Need-slice_bounds-copy_over-start
 part-copy-over-start c = search rules
 
-part-copy-over-end : tie.Need-slice-bounds-copy-over-end
+part-copy-over-end : tie.Need-slice_bounds-copy_over-end
 part-copy-over-end c = search rules
 
-copy-over-requires : tie.Need-copy-over-requires
+copy-over-requires : tie.Need-copy_over-requires
 copy-over-requires c κs = search rules
 
-same_length : tie.Need-same-length
+same_length : tie.Need-shape_of-store
 same_length c = search rules
 
 returns : tie.Need-returns
 returns c =
-    let a = c.before.before.before.before.before.before.args in
-    let p = c.before.before.copy-over in
-    put-block a.store.now a.k p.new.0 ∙ ap (set_block a.store.now a.k) p.ensures
+    let a = c.args in
+    let p = c.copy_over in
+    put-block a.store.now a.k p.new.dst ∙ ap (set_block a.store.now a.k) p.ensures
 
-pub put-block-spec : {M : Type 1} → statement M
-put-block-spec =
+pub put_block_spec : {M : Type 1} → statement M
+put_block_spec =
     tie.close
     (tie.spec
     mul-from

@@ -9,43 +9,43 @@ use Rattle.text.proofs.put_number.Statement.{statement}
 use Rattle.text.proofs.put_number.Tie as tie
 
 -- the bytes that are lent are the digits
-spelled : (c : tie.After-spell)
-    → let p = c.spell in
-    take (20 - p.result) (drop p.result p.new.1.0) ≡ digits c.before.before.before.args.n
+spelled : (c : tie.After-spell-from)
+    → let p = c.spell-from in
+    take (20 - p.result) (drop p.result p.new.space) ≡ digits c.args.n
 spelled c =
-    let p = c.spell in
-    take_all (20 - p.result) (drop p.result p.new.1.0)
-    (omega (arith, length-drop p.result p.new.1.0, p.auto.1.0))
+    let p = c.spell-from in
+    take_all (20 - p.result) (drop p.result p.new.space)
+    (omega (arith, length-drop p.result p.new.space, p.auto.space))
     ∙ p.ensures.1
 
-slice-aggregate-spell : tie.Need-slice-aggregate-spell
+slice-aggregate-spell : tie.Need-slice_bounds-spell-end
 slice-aggregate-spell c = search rules
 
-spell-requires : tie.Need-spell-requires
+spell-requires : tie.Need-spell-from-requires
 spell-requires c κs = search rules
 
-sub-put-bytes : tie.Need-overflow-sub-put-bytes
+sub-put-bytes : tie.Need-slice_bounds-put_bytes-count
 sub-put-bytes c = search rules
 
-part-put-bytes-start : tie.Need-slice-bounds-put-bytes-start
+part-put-bytes-start : tie.Need-slice_bounds-put_bytes-start
 part-put-bytes-start c = search rules
 
-part-put-bytes-end : tie.Need-slice-bounds-put-bytes-end
+part-put-bytes-end : tie.Need-slice_bounds-put_bytes-end
 part-put-bytes-end c = search rules
 
-put-bytes-requires : tie.Need-put-bytes-requires
+put-bytes-requires : tie.Need-put_bytes-requires
 put-bytes-requires c κs =
-    rw (spelled c.before.before.before.before) c.before.before.before.before.before.before.before.requires
+    rw (spelled c.before.before.before) c.requires
 
-same_length : tie.Need-same-length
+same_length : tie.Need-shape_of-output
 same_length c = search rules
 
 returns : tie.Need-returns
 returns c =
-    let p = c.before.before in rw (spelled p.before.before.before.before.before) at p.put-bytes.ensures
+    rw (spelled c.before.before.before.before.before.before) at c.put_bytes.ensures
 
-pub put-number-spec : {M : Type 1} → statement M
-put-number-spec =
+pub put_number_spec : {M : Type 1} → statement M
+put_number_spec =
     tie.close
     (tie.spec
     slice-aggregate-spell

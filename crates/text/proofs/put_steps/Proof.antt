@@ -3,22 +3,16 @@ use borrow.Author.Rules.{rules}
 use Rattle.text.proofs.put_steps.Statement.{statement}
 use Rattle.text.proofs.put_steps.Tie as tie
 
-slice-aggregate-put-two : tie.Need-slice-aggregate-put-two
-slice-aggregate-put-two c = search rules
-
-slice-aggregate-put-two-2 : tie.Need-slice-aggregate-put-two-2
-slice-aggregate-put-two-2 c = search rules
-
-put-two-requires : tie.Need-put-two-requires
+put-two-requires : tie.Need-put_two-requires
 put-two-requires c κs = search rules
 
-same_length : tie.Need-same-length
+same_length : tie.Need-shape_of-output
 same_length c = search rules
 
 returns : tie.Need-returns
 unfolding steps_text
-returns c = c.before.before.put_two.ensures
+returns c = c.put_two.ensures
 
-pub put-steps-spec : {M : Type 1} → statement M
-put-steps-spec =
-    tie.close (tie.spec slice-aggregate-put-two slice-aggregate-put-two-2 put-two-requires same_length returns)
+pub put_steps_spec : {M : Type 1} → statement M
+put_steps_spec =
+    tie.close (tie.spec put-two-requires same_length returns)

@@ -4,55 +4,46 @@ use borrow.Author.Rules.{rules}
 use Rattle.text.proofs.put_two.Statement.{statement}
 use Rattle.text.proofs.put_two.Tie as tie
 
-put-bytes-requires : tie.Need-put-bytes-requires
+put-bytes-requires : tie.Need-put_bytes-c-requires
 put-bytes-requires c κs = search rules
 
-put-number-requires : tie.Need-put-number-requires
+put-number-requires : tie.Need-put_number-d-requires
 put-number-requires c κs =
-    let s = c.before.before.before.before.before.before.before.before in
-    omega (arith, digits-64 s.args.a s.ranges.a.fits)
+    omega (arith, digits-64 c.args.a c.ranges.a.fits)
 
-put-bytes-requires-2 : tie.Need-put-bytes-requires-2
+put-bytes-requires-2 : tie.Need-put_bytes-e-requires
 put-bytes-requires-2 c κs =
-    let s = c.before.before.before.before.before.before.before.before.before.before.before.before in
-    omega (arith, digits-64 s.args.a s.ranges.a.fits)
+    omega (arith, digits-64 c.args.a c.ranges.a.fits)
 
-put-number-requires-2 : tie.Need-put-number-requires-2
+put-number-requires-2 : tie.Need-put_number-f-requires
 put-number-requires-2 c κs =
-    let s = c.before.before.before.before.before.before.before.before.before.before.before.before.before.before.before.before in
-    omega (arith, digits-64 s.args.a s.fits.a.fits, digits-64 s.args.b s.fits.b.fits)
+    omega (arith, digits-64 c.args.a c.ranges.a.fits, digits-64 c.args.b c.ranges.b.fits)
 
-slice-aggregate-put-bytes : tie.Need-slice-aggregate-put-bytes
-slice-aggregate-put-bytes c = search rules
-
-put-bytes-requires-3 : tie.Need-put-bytes-requires-3
+put-bytes-requires-3 : tie.Need-put_bytes-requires
 put-bytes-requires-3 c κs =
-    let s = c.before.before.before.before.before.before.before.before.before.before.before.before.before.before.before.before.before.before.before.before.before in
-    omega (arith, digits-64 s.args.a s.fits.a.fits, digits-64 s.args.b s.fits.b.fits)
+    omega (arith, digits-64 c.args.a c.ranges.a.fits, digits-64 c.args.b c.ranges.b.fits)
 
-same_length : tie.Need-same-length
+same_length : tie.Need-shape_of-output
 same_length c = search rules
 
 returns : tie.Need-returns
 returns c =
-    let p5 = c.before.before in
-    let p4 = p5.before.before.before.before.before in
-    let p3 = p4.before.before.before.before in
-    let p2 = p3.before.before.before.before in
-    let p1 = p2.before.before.before.before in
-    then-wrote (then-wrote (then-wrote (then-wrote p1.put-bytes.ensures p2.put-number.ensures)
-    p3.put-bytes2.ensures)
-    p4.put-number2.ensures) p5.put-bytes3.ensures
+    let p4 = c in
+    let p3 = p4 in
+    let p2 = p3 in
+    let p1 = p2 in
+    then-wrote (then-wrote (then-wrote (then-wrote p1.put_bytes-c.ensures p2.put_number-d.ensures)
+    p3.put_bytes-e.ensures)
+    p4.put_number-f.ensures) c.put_bytes.ensures
 
-pub put-two-spec : {M : Type 1} → statement M
-put-two-spec =
+pub put_two_spec : {M : Type 1} → statement M
+put_two_spec =
     tie.close
     (tie.spec
     put-bytes-requires
     put-number-requires
     put-bytes-requires-2
     put-number-requires-2
-    slice-aggregate-put-bytes
     put-bytes-requires-3
     same_length
     returns)

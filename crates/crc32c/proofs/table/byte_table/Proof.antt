@@ -8,5 +8,5 @@ returns : tie.Need-returns
 unfolding byte_table
 returns c = refl
 
-pub byte-table-spec : {M : Type 1} → statement M
-byte-table-spec = tie.close (tie.spec returns)
+pub byte_table_spec : {M : Type 1} → statement M
+byte_table_spec = tie.close (tie.spec returns)

@@ -5,50 +5,50 @@ use Rattle.line.specs.Command.{command_of}
 use Rattle.line.proofs.commands.command_of.Statement.{statement}
 use Rattle.line.proofs.commands.command_of.Tie as tie
 
-format-of-requires : tie.Need-format-of-requires
+format-of-requires : tie.Need-format_of-requires
 format-of-requires c κs = tt
 
-insert-of-requires : tie.Need-insert-of-requires
+insert-of-requires : tie.Need-insert_of-requires
 insert-of-requires c κs = tt
 
-remove-of-requires : tie.Need-remove-of-requires
+remove-of-requires : tie.Need-remove_of-requires
 remove-of-requires c κs = tt
 
-lookup-of-requires : tie.Need-lookup-of-requires
+lookup-of-requires : tie.Need-lookup_of-requires
 lookup-of-requires c κs = tt
 
-work-of-requires : tie.Need-work-of-requires
+work-of-requires : tie.Need-work_of-requires
 work-of-requires c κs = tt
 
-returns : tie.Need-returns
+returns : tie.Need-returns-in-102
 returns c =
-    let a = c.before.before.args in
-    c.format-of.ensures ∙ sym (ap (λ (k : ℕ). command_of k a.fields) c.before.match.keys1)
+    let a = c.args in
+    c.format_of.ensures ∙ sym (ap (λ (k : ℕ). command_of k a.fields) c.in-102.is)
 
-returns-2 : tie.Need-returns-2
+returns-2 : tie.Need-returns-in-43
 returns-2 c =
-    let a = c.before.before.args in
-    c.insert-of.ensures ∙ sym (ap (λ (k : ℕ). command_of k a.fields) c.before.match.keys2)
+    let a = c.args in
+    c.insert_of.ensures ∙ sym (ap (λ (k : ℕ). command_of k a.fields) c.in-43.is)
 
-returns-3 : tie.Need-returns-3
+returns-3 : tie.Need-returns-in-45
 returns-3 c =
-    let a = c.before.before.args in
-    c.remove-of.ensures ∙ sym (ap (λ (k : ℕ). command_of k a.fields) c.before.match.keys3)
+    let a = c.args in
+    c.remove_of.ensures ∙ sym (ap (λ (k : ℕ). command_of k a.fields) c.in-45.is)
 
-returns-4 : tie.Need-returns-4
+returns-4 : tie.Need-returns-in-63
 returns-4 c =
-    let a = c.before.before.args in
-    c.lookup-of.ensures ∙ sym (ap (λ (k : ℕ). command_of k a.fields) c.before.match.keys4)
+    let a = c.args in
+    c.lookup_of.ensures ∙ sym (ap (λ (k : ℕ). command_of k a.fields) c.in-63.is)
 
-returns-5 : tie.Need-returns-5
+returns-5 : tie.Need-returns-in-119
 returns-5 c =
-    let a = c.before.before.args in
-    c.work-of.ensures ∙ sym (ap (λ (k : ℕ). command_of k a.fields) c.before.match.keys5)
+    let a = c.args in
+    c.work_of.ensures ∙ sym (ap (λ (k : ℕ). command_of k a.fields) c.in-119.is)
 
-returns-6 : tie.Need-returns-6
+returns-6 : tie.Need-returns-in_default
 returns-6 c =
-    let k = c.before.args.kind in
-    let r = c.match.rest in
+    let k = c.args.kind in
+    let r = c.in_default.in_default-own.rest in
     rw (
       ne_eqb k 102 r.0.0.0.0.1,
       ne_eqb k 43 r.0.0.0.1,
@@ -58,8 +58,8 @@ returns-6 c =
       ne_eqb k 119 r.1,
     )
 
-pub command-of-spec : {M : Type 1} → statement M
-command-of-spec =
+pub command_of_spec : {M : Type 1} → statement M
+command_of_spec =
     tie.close
     (tie.spec
     format-of-requires

@@ -6,14 +6,14 @@ use borrow.Author.Rules.{rules}
 use Rattle.line.proofs.commands.insert_of.Statement.{statement}
 use Rattle.line.proofs.commands.insert_of.Tie as tie
 
-enum-known-fields : tie.Need-enum-known-fields
+enum-known-fields : tie.Need-enum_known-fields
 enum-known-fields c = search rules
 
-returns : tie.Need-returns
-returns c = sym (ap (with_three Command.Insert) c.before.fields.given.1)
+returns : tie.Need-returns-in-Three
+returns c = sym (ap (with_three Command.Insert) c.in-Three.is)
 
-returns-2 : tie.Need-returns-2
-returns-2 c = not_three Command.Insert c.before.args.fields c.match.keys2
+returns-2 : tie.Need-returns-in_default
+returns-2 c = not_three Command.Insert c.args.fields c.in_default.in_default-own.keys2
 
-pub insert-of-spec : {M : Type 1} → statement M
-insert-of-spec = tie.close (tie.spec enum-known-fields returns returns-2)
+pub insert_of_spec : {M : Type 1} → statement M
+insert_of_spec = tie.close (tie.spec enum-known-fields returns returns-2)

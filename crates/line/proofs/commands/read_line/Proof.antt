@@ -12,54 +12,52 @@ use borrow.Author.Rules.{rules}
 use Rattle.line.proofs.commands.read_line.Statement.{statement}
 use Rattle.line.proofs.commands.read_line.Tie as tie
 
-returns : tie.Need-returns
-returns c = sym (line-short c.before.before.args.line.now c.if1.true)
+returns : tie.Need-returns-then-line-lt2
+returns c = sym (line-short c.args.line.now c.if-line-lt2.true)
 
-returns-2 : tie.Need-returns-2
-returns-2 c = sym (line-long c.before.before.before.args.line.now c.if2.true)
+returns-2 : tie.Need-returns-then-line-gt80
+returns-2 c = sym (line-long c.args.line.now c.if-line-gt80.true)
 
-shared-slice-read-if3 : tie.Need-shared-slice-read-if3
+shared-slice-read-if3 : tie.Need-bounds-line-1
 shared-slice-read-if3 c = omega arith
 
-returns-3 : tie.Need-returns-3
+returns-3 : tie.Need-returns-then-line-ne32
 returns-3 c =
-    let s = c.before.before in
-    sym (line-no-space s.before.before.before.args.line.now s.before.if1.false s.if2.false
-    c.if3.true)
+    sym (line-no-space c.args.line.now c.if-line-lt2.false c.if-line-gt80.false
+    c.if-line-ne32.true)
 
-shared-slice-read-command-of : tie.Need-shared-slice-read-command-of
+shared-slice-read-command-of : tie.Need-bounds-line-0
 shared-slice-read-command-of c = omega arith
 
-sub-read-fields : tie.Need-overflow-sub-read-fields
+sub-read-fields : tie.Need-slice_bounds-read_fields-count
 sub-read-fields c = omega arith
 
-part-read-fields-start : tie.Need-slice-bounds-read-fields-start
+part-read-fields-start : tie.Need-slice_bounds-read_fields-start
 part-read-fields-start c = omega arith
 
-part-read-fields-end : tie.Need-slice-bounds-read-fields-end
+part-read-fields-end : tie.Need-slice_bounds-read_fields-end
 part-read-fields-end c = omega arith
 
-read-fields-requires : tie.Need-read-fields-requires
+read-fields-requires : tie.Need-read_fields-requires
 read-fields-requires c κs = tt
 
-command-of-requires : tie.Need-command-of-requires
+command-of-requires : tie.Need-command_of-requires
 command-of-requires c κs = tt
 
-returns-4 : tie.Need-returns-4
+returns-4 : tie.Need-returns
 returns-4 c =
-    let f = c.before in
-    let t = f.before.before.before in
-    let s = t.before.before in
-    let line = s.before.before.before.args.line.now in
+    let t = c in
+    let s = t in
+    let line = s.args.line.now in
     let whole : take (length line - 2) (drop 2 line) ≡ drop 2 line =
     take_all (length line - 2) (drop 2 line) (omega (arith, length-drop 2 line)) in
-    c.command-of.ensures
+    c.command_of.ensures
     ∙ ap (command_of (get_or line 0 0))
-    (f.read-fields.ensures ∙ ap (λ (l : List ℕ). fields_from Fields.None (words l)) whole)
-    ∙ sym (line-call line s.before.if1.false s.if2.false t.if3.false)
+    (c.read_fields.ensures ∙ ap (λ (l : List ℕ). fields_from Fields.None (words l)) whole)
+    ∙ sym (line-call line s.if-line-lt2.false s.if-line-gt80.false t.if-line-ne32.false)
 
-pub read-line-spec : {M : Type 1} → statement M
-read-line-spec =
+pub read_line_spec : {M : Type 1} → statement M
+read_line_spec =
     tie.close
     (tie.spec
     returns

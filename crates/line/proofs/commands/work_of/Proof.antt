@@ -6,14 +6,14 @@ use borrow.Author.Rules.{rules}
 use Rattle.line.proofs.commands.work_of.Statement.{statement}
 use Rattle.line.proofs.commands.work_of.Tie as tie
 
-enum-known-fields : tie.Need-enum-known-fields
+enum-known-fields : tie.Need-enum_known-fields
 enum-known-fields c = search rules
 
-returns : tie.Need-returns
-returns c = sym (ap (with_one Command.Work) c.before.fields.given.1)
+returns : tie.Need-returns-in-One
+returns c = sym (ap (with_one Command.Work) c.in-One.is)
 
-returns-2 : tie.Need-returns-2
-returns-2 c = not-one Command.Work c.before.args.fields c.match.keys2
+returns-2 : tie.Need-returns-in_default
+returns-2 c = not-one Command.Work c.args.fields c.in_default.in_default-own.keys2
 
-pub work-of-spec : {M : Type 1} → statement M
-work-of-spec = tie.close (tie.spec enum-known-fields returns returns-2)
+pub work_of_spec : {M : Type 1} → statement M
+work_of_spec = tie.close (tie.spec enum-known-fields returns returns-2)

@@ -10,108 +10,103 @@ use borrow.Author.Rules.{rules}
 use Rattle.line.proofs.words.read_fields.Statement.{statement}
 use Rattle.line.proofs.words.read_fields.Tie as tie
 
-abbrev invariant-loop : tie.invariant-loop
+abbrev invariant-loop : tie.invariant-loop-n
 invariant-loop line fields₀ at₀ fields at =
     (at ≤ length line) × (fields_from Fields.None (words line) ≡ fields_from fields (words (drop at line)))
 
-abbrev decreases-loop : tie.decreases-loop
+abbrev decreases-loop : tie.decreases-loop-n
 decreases-loop line fields₀ at₀ fields at = length line - at
 
 -- where the word ends
-ends : (c : tie.After-word-end invariant-loop decreases-loop)
-    → Word c.before.before.before.args.line.now c.before.loop.at c.word-end.result
-ends c = word_at _ _ _ c.before.loop.invariant.0 c.word-end.ensures
+ends : (c : tie.After-word_end-end invariant-loop decreases-loop)
+    → Word c.args.line.now c.loop-n.at c.word_end-end.result
+ends c = word_at _ _ _ c.loop-n.invariant.0 c.word_end-end.ensures
 
-loop-holds : tie.Need-loop-init invariant-loop decreases-loop
+loop-holds : tie.Need-loop-n-init invariant-loop decreases-loop
 loop-holds c = (omega arith, refl)
 
-word-end-requires : tie.Need-word-end-requires invariant-loop decreases-loop
-word-end-requires c κs = c.loop.invariant.0
+word-end-requires : tie.Need-word_end-end-requires invariant-loop decreases-loop
+word-end-requires c κs = c.loop-n.invariant.0
 
-sub-read-number : tie.Need-overflow-sub-read-number invariant-loop decreases-loop
+sub-read-number : tie.Need-slice_bounds-read_number-count invariant-loop decreases-loop
 sub-read-number c = (ends c).from
 
-part-read-number-start : tie.Need-slice-bounds-read-number-start invariant-loop decreases-loop
+part-read-number-start : tie.Need-slice_bounds-read_number-start invariant-loop decreases-loop
 part-read-number-start c = omega (arith, (ends c).upto)
 
-part-read-number-end : tie.Need-slice-bounds-read-number-end invariant-loop decreases-loop
+part-read-number-end : tie.Need-slice_bounds-read_number-end invariant-loop decreases-loop
 part-read-number-end c = omega (arith, (ends c).upto)
 
-read-number-requires : tie.Need-read-number-requires invariant-loop decreases-loop
+read-number-requires : tie.Need-read_number-number-requires invariant-loop decreases-loop
 read-number-requires c κs = tt
 
-enum-known-number : tie.Need-enum-known-number invariant-loop decreases-loop
+enum-known-number : tie.Need-enum_known-number invariant-loop decreases-loop
 enum-known-number c = search rules
 
-enum_told : tie.Need-enum-told invariant-loop decreases-loop
+enum_told : tie.Need-enum_told-1 invariant-loop decreases-loop
 enum_told c = search rules
 
 -- the word's number
-read : (c : tie.After-read-number invariant-loop decreases-loop)
-    → let e = c.before.before in
-    let at = e.before.loop.at in
-    c.read_number.result ≡ number_of (take (e.word-end.result - at)
-    (drop at e.before.before.before.args.line.now))
-read c = c.read_number.ensures
+read : (c : tie.After-read_number-number invariant-loop decreases-loop)
+    →
+    let at = c.loop-n.at in
+    c.read_number-number.result ≡ number_of (take (c.word_end-end.result - at)
+    (drop at c.args.line.now))
+read c = c.read_number-number.ensures
 
-returns : tie.Need-returns invariant-loop decreases-loop
+returns : tie.Need-returns-in_default invariant-loop decreases-loop
 returns c =
-    let n = c.before.before in
-    let e = n.before.before in
-    let l = e.before in
-    sym (l.loop.invariant.1 ∙ fields-stop (ends e) l.loop.fields (sym (read n) ∙ c.enum_told.given.1))
+    let e = c in
+    let l = e in
+    sym (l.loop-n.invariant.1 ∙ fields-stop (ends e.before.before.before) l.loop-n.fields (sym (read c.before) ∙ c.in_default.is))
 
-add-value-requires : tie.Need-add-value-requires invariant-loop decreases-loop
+add-value-requires : tie.Need-add_value-fields-requires invariant-loop decreases-loop
 add-value-requires c κs = tt
 
 -- one number more
-more : (c : tie.After-add-value invariant-loop decreases-loop)
-    → let n = c.before.before.before.before in
-    let l = n.before.before.before in
-    add_number l.loop.fields n.read_number.result ≡ c.add-value.result
+more : (c : tie.After-add_value-fields invariant-loop decreases-loop)
+    →
+    let l = c in
+    add_number l.loop-n.fields c.read_number-number.result ≡ c.add_value-fields.result
 more c =
-    let k = c.before.before in
-    let l = k.before.before.before.before.before in
-    ap (add_number l.loop.fields) k.number.given.1 ∙ sym c.add-value.ensures
+    let l = c in
+    ap (add_number l.loop-n.fields) c.in-Value.is ∙ sym c.add_value-fields.ensures
 
-returns-2 : tie.Need-returns-2 invariant-loop decreases-loop
+returns-2 : tie.Need-returns-then-end-line invariant-loop decreases-loop
 returns-2 c =
-    let n = c.before.before.before.before.before in
-    let e = n.before.before in
-    let l = e.before in
+    let e = c in
+    let l = e in
     sym
-    (l.loop.invariant.1 ∙ fields-last (ends e) l.loop.fields c.if1.true
-    ∙ ap (add_number l.loop.fields) (sym (read n)) ∙ more c.before)
+    (l.loop-n.invariant.1 ∙ fields-last (ends e.before.before.before.before.before) l.loop-n.fields c.if-end-line.true
+    ∙ ap (add_number l.loop-n.fields) (sym (read c.before.before.before)) ∙ more c.before)
 
 -- the word is not the last
-within : (c : tie.Else1 invariant-loop decreases-loop)
-    → let e = c.before.before.before.before.before.before.before in
-    e.word-end.result < length e.before.before.before.args.line.now
+within : (c : tie.Else-end-line invariant-loop decreases-loop)
+    →
+    c.word_end-end.result < length c.args.line.now
 within c =
-    let e = c.before.before.before.before.before.before.before in
-    omega (arith, (ends e).upto, c.if1.false)
+    omega (arith, (ends c.before.before.before.before.before).upto, c.if-end-line.false)
 
-add_at : tie.Need-overflow-add-at invariant-loop decreases-loop
+add_at : tie.Need-overflow_add-at invariant-loop decreases-loop
 add_at c =
-    omega (arith, within c, c.before.before.before.before.before.before.before.before.before.before.well-formed)
+    omega (arith, within c, c.well_formed)
 
-loop-less : tie.Need-loop-smaller invariant-loop decreases-loop
-loop-less c = omega (arith, within c, (ends c.before.before.before.before.before.before.before).from)
+loop-less : tie.Need-loop-n-smaller invariant-loop decreases-loop
+loop-less c = omega (arith, within c, (ends c.before.before.before.before.before).from)
 
-loop-again : tie.Need-loop-preserved invariant-loop decreases-loop
+loop-again : tie.Need-loop-n-preserved invariant-loop decreases-loop
 loop-again c =
-    let n = c.before.before.before.before.before in
-    let e = n.before.before in
-    let l = e.before in
-    let rest = words (drop (e.word-end.result + 1) l.before.before.args.line.now) in (
+    let e = c in
+    let l = e in
+    let rest = words (drop (e.word_end-end.result + 1) l.args.line.now) in (
       omega (arith, within c),
-      l.loop.invariant.1 ∙ fields-more (ends e) l.loop.fields (within c)
+      l.loop-n.invariant.1 ∙ fields-more (ends e.before.before.before.before.before) l.loop-n.fields (within c)
           ∙ ap (λ (f : Fields). fields_from f rest)
-          (ap (add_number l.loop.fields) (sym (read n)) ∙ more c.before),
+          (ap (add_number l.loop-n.fields) (sym (read c.before.before.before)) ∙ more c.before),
     )
 
-pub read-fields-spec : {M : Type 1} → statement M
-read-fields-spec =
+pub read_fields_spec : {M : Type 1} → statement M
+read_fields_spec =
     tie.close
     (tie.spec
     invariant-loop

@@ -7,47 +7,44 @@ use Rattle.line.specs.WordsLaws.{span-end, span-hit, span-miss}
 use Rattle.line.proofs.words.word_end.Statement.{statement}
 use Rattle.line.proofs.words.word_end.Tie as tie
 
-abbrev invariant-loop : tie.invariant-loop
+abbrev invariant-loop : tie.invariant-loop-end
 invariant-loop line at end₀ end = (end ≤ length line) × (at + span 32 (drop at line) ≡ end + span 32 (drop end line))
 
-abbrev decreases-loop : tie.decreases-loop
+abbrev decreases-loop : tie.decreases-loop-end
 decreases-loop line at end₀ end = length line - end
 
-loop-holds : tie.Need-loop-init invariant-loop decreases-loop
+loop-holds : tie.Need-loop-end-init invariant-loop decreases-loop
 loop-holds c = (c.requires, refl)
 
-shared-slice-read-if1 : tie.Need-shared-slice-read-if1 invariant-loop decreases-loop
+shared-slice-read-if1 : tie.Need-bounds-line-end invariant-loop decreases-loop
 shared-slice-read-if1 c = omega arith
 
-returns : tie.Need-returns invariant-loop decreases-loop
+returns : tie.Need-returns-then-line-end-eq32 invariant-loop decreases-loop
 returns c =
-    let l = c.before.before.before in
     omega (
       arith,
-      span-hit 32 l.before.args.line.now l.loop.end c.before.before.loop-test.true
-          c.if1.true,
+      span-hit 32 c.args.line.now c.loop-end.end c.loop-end-test.true
+          c.if-line-end-eq32.true,
     )
 
-add-end : tie.Need-overflow-add-end invariant-loop decreases-loop
+add-end : tie.Need-overflow_add-end invariant-loop decreases-loop
 add-end c = omega arith
 
-loop-less : tie.Need-loop-smaller invariant-loop decreases-loop
+loop-less : tie.Need-loop-end-smaller invariant-loop decreases-loop
 loop-less c = omega arith
 
-loop-again : tie.Need-loop-preserved invariant-loop decreases-loop
+loop-again : tie.Need-loop-end-preserved invariant-loop decreases-loop
 loop-again c =
-    let l = c.before.before.before in
-    let miss = span-miss 32 l.before.args.line.now l.loop.end c.before.before.loop-test.true
-    c.if1.false in
+    let miss = span-miss 32 c.args.line.now c.loop-end.end c.loop-end-test.true
+    c.if-line-end-eq32.false in
     (omega arith, omega arith)
 
-returns-2 : tie.Need-returns-2 invariant-loop decreases-loop
+returns-2 : tie.Need-returns invariant-loop decreases-loop
 returns-2 c =
-    let l = c.before in
-    omega (arith, span-end 32 l.before.args.line.now l.loop.end c.loop-test.false)
+    omega (arith, span-end 32 c.args.line.now c.loop-end.end c.loop-end-test.false)
 
-pub word-end-spec : {M : Type 1} → statement M
-word-end-spec =
+pub word_end_spec : {M : Type 1} → statement M
+word_end_spec =
     tie.close
     (tie.spec
     invariant-loop

@@ -11,58 +11,57 @@ use Rattle.page.specs.EditLaws.{with_entry, insert-page}
 use Rattle.page.proofs.edit.insert_entry.Statement.{statement}
 use Rattle.page.proofs.edit.insert_entry.Tie as tie
 
-count-entries-requires : tie.Need-count-entries-requires
+count-entries-requires : tie.Need-count_entries-n-requires
 count-entries-requires c κs = omega arith
 
-mul-open-gap : tie.Need-overflow-mul-open-gap
+mul-open-gap : tie.Need-overflow_mul-k
 mul-open-gap c = omega arith
 
-add-open-gap : tie.Need-overflow-add-open-gap
+add-open-gap : tie.Need-overflow_add-k
 add-open-gap c = omega arith
 
-mul-open-gap-2 : tie.Need-overflow-mul-open-gap-2
+mul-open-gap-2 : tie.Need-overflow_mul-n
 mul-open-gap-2 c = omega arith
 
-add-open-gap-2 : tie.Need-overflow-add-open-gap-2
+add-open-gap-2 : tie.Need-overflow_add-n
 add-open-gap-2 c = omega arith
 
-open-gap-requires : tie.Need-open-gap-requires
+open-gap-requires : tie.Need-open_gap-requires
 open-gap-requires c κs = omega arith
 
-put-entry-requires : tie.Need-put-entry-requires
+put-entry-requires : tie.Need-put_entry-requires
 put-entry-requires c κs = omega arith
 
-add-put-u16 : tie.Need-overflow-add-put-u16
+add-put-u16 : tie.Need-overflow_add-n-2
 add-put-u16 c = omega arith
 
-cast-put-u16 : tie.Need-overflow-cast-put-u16
+cast-put-u16 : tie.Need-overflow_cast-n
 cast-put-u16 c = omega arith
 
-put-u16-requires : tie.Need-put-u16-requires
+put-u16-requires : tie.Need-put_u16-requires
 put-u16-requires c κs = omega arith
 
-same_length : tie.Need-same-length
+same_length : tie.Need-shape_of-p
 same_length c = omega arith
 
 returns : tie.Need-returns
 returns c es tail eq =
-    let put = c.before.before.before.before.before.before in
-    let gap = put.before.before.before.before in
-    let count = gap.before.before in
-    let s = count.before.before.before in
+    let gap = c in
+    let count = gap in
+    let s = count in
     let a = s.args in
-    let n : count.count_entries.result ≡ length es =
-    count.count_entries.ensures ∙ number-page a.p.now es tail s.requires.whole eq in
+    let n : count.count_entries-n.result ≡ length es =
+    count.count_entries-n.ensures ∙ number-page a.p.now es tail s.requires.whole eq in
     let l₂ =
-    put.put-entry.ensures
-    ∙ ap (λ (l : List ℕ). sets l (4 + 12 * a.k) (encode_entry a.e)) gap.open-gap.ensures in
-    c.before.before.put-u16.ensures
-    ∙ ap (λ (l : List ℕ). sets l 0 (le16 (count.count_entries.result + 1))) l₂
+    c.put_entry.ensures
+    ∙ ap (λ (l : List ℕ). sets l (4 + 12 * a.k) (encode_entry a.e)) gap.open_gap.ensures in
+    c.put_u16.ensures
+    ∙ ap (λ (l : List ℕ). sets l 0 (le16 (count.count_entries-n.result + 1))) l₂
     ∙ ap₂ (λ (l : List ℕ) (m : ℕ). with_entry l m a.k (encode_entry a.e)) eq n
     ∙ insert-page es tail a.k a.e (omega arith) (omega arith)
 
-pub insert-entry-spec : {M : Type 1} → statement M
-insert-entry-spec =
+pub insert_entry_spec : {M : Type 1} → statement M
+insert_entry_spec =
     tie.close
     (tie.spec
     count-entries-requires

@@ -11,58 +11,57 @@ use Rattle.page.specs.EditLaws.{blank, without_entry, remove-page}
 use Rattle.page.proofs.edit.remove_entry.Statement.{statement}
 use Rattle.page.proofs.edit.remove_entry.Tie as tie
 
-count-entries-requires : tie.Need-count-entries-requires
+count-entries-requires : tie.Need-count_entries-n-requires
 count-entries-requires c κs = omega arith
 
-sub-last : tie.Need-overflow-sub-last
+sub-last : tie.Need-overflow_sub-last
 sub-last c = omega arith
 
-mul-close-gap : tie.Need-overflow-mul-close-gap
+mul-close-gap : tie.Need-overflow_mul-k
 mul-close-gap c = omega arith
 
-add-close-gap : tie.Need-overflow-add-close-gap
+add-close-gap : tie.Need-overflow_add-k
 add-close-gap c = omega arith
 
-mul-close-gap-2 : tie.Need-overflow-mul-close-gap-2
+mul-close-gap-2 : tie.Need-overflow_mul-n
 mul-close-gap-2 c = omega arith
 
-add-close-gap-2 : tie.Need-overflow-add-close-gap-2
+add-close-gap-2 : tie.Need-overflow_add-n
 add-close-gap-2 c = omega arith
 
-close-gap-requires : tie.Need-close-gap-requires
+close-gap-requires : tie.Need-close_gap-requires
 close-gap-requires c κs = omega arith
 
-put-entry-requires : tie.Need-put-entry-requires
+put-entry-requires : tie.Need-put_entry-requires
 put-entry-requires c κs = omega arith
 
-cast-put-u16 : tie.Need-overflow-cast-put-u16
+cast-put-u16 : tie.Need-overflow_cast-last
 cast-put-u16 c = omega arith
 
-put-u16-requires : tie.Need-put-u16-requires
+put-u16-requires : tie.Need-put_u16-requires
 put-u16-requires c κs = omega arith
 
-same_length : tie.Need-same-length
+same_length : tie.Need-shape_of-p
 same_length c = omega arith
 
 returns : tie.Need-returns
 returns c es tail eq =
-    let put = c.before.before.before.before.before.before in
-    let gap = put.before.before.before.before in
-    let count = gap.before.before in
-    let s = count.before.before.before in
+    let gap = c in
+    let count = gap in
+    let s = count in
     let a = s.args in
-    let n : count.count_entries.result ≡ length es =
-    count.count_entries.ensures ∙ number-page a.p.now es tail s.requires.whole eq in
-    let m : ℕ = count.count_entries.result - 1 in
+    let n : count.count_entries-n.result ≡ length es =
+    count.count_entries-n.ensures ∙ number-page a.p.now es tail s.requires.whole eq in
+    let m : ℕ = count.count_entries-n.result - 1 in
     let l₂ =
-    put.put-entry.ensures ∙ ap (λ (l : List ℕ). sets l (4 + 12 * m) (encode_entry blank)) gap.close-gap.ensures in
-    c.before.before.put-u16.ensures
+    c.put_entry.ensures ∙ ap (λ (l : List ℕ). sets l (4 + 12 * m) (encode_entry blank)) gap.close_gap.ensures in
+    c.put_u16.ensures
     ∙ ap (λ (l : List ℕ). sets l 0 (le16 m)) l₂
     ∙ ap₂ (λ (l : List ℕ) (k : ℕ). without_entry l k (k - 1) a.k (encode_entry blank)) eq n
     ∙ remove-page es tail a.k (omega arith) (omega arith)
 
-pub remove-entry-spec : {M : Type 1} → statement M
-remove-entry-spec =
+pub remove_entry_spec : {M : Type 1} → statement M
+remove_entry_spec =
     tie.close
     (tie.spec
     count-entries-requires

@@ -2,11 +2,11 @@ use borrow.Author.Tests.{eq-eqb, ne_eqb}
 use Rattle.page.proofs.order.is_bad.Statement.{statement}
 use Rattle.page.proofs.order.is_bad.Tie as tie
 
-returns : tie.Need-returns
-returns c = rw (eq-eqb c.before.before.args.p.offset 0 c.if1.true)
+returns : tie.Need-returns-then-p-eq0
+returns c = rw (eq-eqb c.args.p.offset 0 c.if-p-eq0.true)
 
-returns-2 : tie.Need-returns-2
-returns-2 c = rw (ne_eqb c.before.before.before.args.p.offset 0 c.before.if1.false)
+returns-2 : tie.Need-returns-else-p-eq0
+returns-2 c = rw (ne_eqb c.args.p.offset 0 c.if-p-eq0.false)
 
-pub is-bad-spec : {M : Type 1} → statement M
-is-bad-spec = tie.close (tie.spec returns returns-2)
+pub is_bad_spec : {M : Type 1} → statement M
+is_bad_spec = tie.close (tie.spec returns returns-2)

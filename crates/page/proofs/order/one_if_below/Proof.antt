@@ -16,14 +16,14 @@ quotient a b ha hb = go (dec_lt a b)
     go (yes l) = rw (lt-ltb a b l) (omega arith)
     go (no l) = rw (le-ltb a b (omega arith)) (omega arith)
 
-add-result : tie.Need-overflow-add-result
+add-result : tie.Need-overflow_add-result
 add-result c = omega arith
 
-sub-result : tie.Need-overflow-sub-result
+sub-result : tie.Need-overflow_sub-result
 sub-result c = omega arith
 
 returns : tie.Need-returns
 returns c = quotient c.args.a c.args.b c.requires.0 c.requires.1
 
-pub one-if-below-spec : {M : Type 1} → statement M
-one-if-below-spec = tie.close (tie.spec add-result sub-result returns)
+pub one_if_below_spec : {M : Type 1} → statement M
+one_if_below_spec = tie.close (tie.spec add-result sub-result returns)

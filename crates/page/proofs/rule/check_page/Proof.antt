@@ -4,66 +4,58 @@ use Rattle.page.proofs.Turns.{holds, breaks}
 use Rattle.page.proofs.rule.check_page.Statement.{statement}
 use Rattle.page.proofs.rule.check_page.Tie as tie
 
-check-number-requires : tie.Need-check-number-requires
+check-number-requires : tie.Need-check_number-requires
 check-number-requires c κs = omega arith
 
-returns : tie.Need-returns
+returns : tie.Need-returns-then-not-check_number
 unfolding page_ok
 returns c =
-    let t₁ = breaks c.before.check-number.ensures c.if1.true in
+    let t₁ = breaks c.check_number.ensures c.if-not-check_number.true-raw in
     rw t₁
 
-check-rest-requires : tie.Need-check-rest-requires
+check-rest-requires : tie.Need-check_rest-requires
 check-rest-requires c κs =
-    let s = c.before.before.before in
-    let t₁ = holds c.before.check-number.ensures c.if1.false in
-    (s.requires, t₁)
+    let t₁ = holds c.check_number.ensures c.if-not-check_number.false-raw in
+    (c.requires, t₁)
 
-returns-2 : tie.Need-returns-2
+returns-2 : tie.Need-returns-then-not-check_rest
 unfolding page_ok
 returns-2 c =
-    let m = c.before.before in
-    let t₁ = holds m.before.check-number.ensures m.if1.false in
-    let t₂ = breaks c.before.check-rest.ensures c.if2.true in
+    let t₁ = holds c.check_number.ensures c.if-not-check_number.false-raw in
+    let t₂ = breaks c.check_rest.ensures c.if-not-check_rest.true-raw in
     rw (t₁, t₂)
 
-check-numbers-requires : tie.Need-check-numbers-requires
+check-numbers-requires : tie.Need-check_numbers-requires
 check-numbers-requires c κs =
-    let s = c.before.before.before.before.before in
-    let m = c.before.before in
-    let t₁ = holds m.before.check-number.ensures m.if1.false in
-    (s.requires, t₁)
+    let t₁ = holds c.check_number.ensures c.if-not-check_number.false-raw in
+    (c.requires, t₁)
 
-returns-3 : tie.Need-returns-3
+returns-3 : tie.Need-returns-then-not-check_numbers
 unfolding page_ok
 returns-3 c =
-    let r = c.before.before in
-    let m = r.before.before in
-    let t₁ = holds m.before.check-number.ensures m.if1.false in
-    let t₂ = holds r.before.check-rest.ensures r.if2.false in
-    let t₃ = breaks c.before.check-numbers.ensures c.if3.true in
+    let m = c in
+    let t₁ = holds m.check_number.ensures m.if-not-check_number.false-raw in
+    let t₂ = holds c.check_rest.ensures c.if-not-check_rest.false-raw in
+    let t₃ = breaks c.check_numbers.ensures c.if-not-check_numbers.true-raw in
     rw (t₁, t₂, t₃)
 
-check-order-requires : tie.Need-check-order-requires
+check-order-requires : tie.Need-check_order-requires
 check-order-requires c κs =
-    let s = c.before.before.before.before.before.before.before in
-    let m = c.before.before.before.before in
-    let t₁ = holds m.before.check-number.ensures m.if1.false in
-    (s.requires, t₁)
+    let t₁ = holds c.check_number.ensures c.if-not-check_number.false-raw in
+    (c.requires, t₁)
 
-returns-4 : tie.Need-returns-4
+returns-4 : tie.Need-returns
 unfolding page_ok
 returns-4 c =
-    let n = c.before in
-    let r = n.before.before in
-    let m = r.before.before in
-    let t₁ = holds m.before.check-number.ensures m.if1.false in
-    let t₂ = holds r.before.check-rest.ensures r.if2.false in
-    let t₃ = holds n.before.check-numbers.ensures n.if3.false in
-    rw (t₁, t₂, t₃) c.check-order.ensures
+    let r = c in
+    let m = r in
+    let t₁ = holds m.check_number.ensures m.if-not-check_number.false-raw in
+    let t₂ = holds r.check_rest.ensures r.if-not-check_rest.false-raw in
+    let t₃ = holds c.check_numbers.ensures c.if-not-check_numbers.false-raw in
+    rw (t₁, t₂, t₃) c.check_order.ensures
 
-pub check-page-spec : {M : Type 1} → statement M
-check-page-spec =
+pub check_page_spec : {M : Type 1} → statement M
+check_page_spec =
     tie.close
     (tie.spec
     check-number-requires

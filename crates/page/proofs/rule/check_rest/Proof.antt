@@ -11,45 +11,41 @@ use Rattle.page.specs.RuleLaws.{number-le}
 use Rattle.page.proofs.rule.check_rest.Statement.{statement}
 use Rattle.page.proofs.rule.check_rest.Tie as tie
 
-get-u16-requires : tie.Need-get-u16-requires
+get-u16-requires : tie.Need-get_u16-requires
 get-u16-requires c κs = omega arith
 
-returns : tie.Need-returns
+returns : tie.Need-returns-then-get_u16-ne0
 unfolding rest_zero
 returns c =
-    let l = c.before.before.before.args.p.now in
+    let l = c.args.p.now in
     let odd : eqb (u16_at l 2) 0 ≡ false =
-    ne_eqb (u16_at l 2) 0 (λ e. c.if1.true (c.before.get-u16.ensures ∙ e)) in
+    ne_eqb (u16_at l 2) 0 (λ e. c.if-get_u16-ne0.true (c.get_u16.ensures ∙ e)) in
     rw odd
 
-count-entries-requires : tie.Need-count-entries-requires
+count-entries-requires : tie.Need-count_entries-requires
 count-entries-requires c κs = omega arith
 
-mul-is-zero : tie.Need-overflow-mul-is-zero
+mul-is-zero : tie.Need-overflow_mul-count_entries
 mul-is-zero c =
-    let s = c.before.before.before.before in
-    omega (arith, number-le s.args.p.now s.requires.1)
+    omega (arith, number-le c.args.p.now c.requires.1)
 
-add-is-zero : tie.Need-overflow-add-is-zero
+add-is-zero : tie.Need-overflow_add-count_entries
 add-is-zero c =
-    let s = c.before.before.before.before in
-    omega (arith, number-le s.args.p.now s.requires.1)
+    omega (arith, number-le c.args.p.now c.requires.1)
 
-is-zero-requires : tie.Need-is-zero-requires
+is-zero-requires : tie.Need-is_zero-requires
 is-zero-requires c κs =
-    let s = c.before.before.before.before in
-    (omega (arith, number-le s.args.p.now s.requires.1), omega (arith, s.requires.0))
+    (omega (arith, number-le c.args.p.now c.requires.1), omega (arith, c.requires.0))
 
-returns-2 : tie.Need-returns-2
+returns-2 : tie.Need-returns
 unfolding rest_zero
 returns-2 c =
-    let l = c.before.before.before.before.before.args.p.now in
-    let m = c.before.before in
-    let even : eqb (u16_at l 2) 0 ≡ true = eq-eqb (u16_at l 2) 0 (sym m.before.get-u16.ensures ∙ m.if1.false) in
-    rw even (c.is_zero.ensures ∙ ap (λ (n : ℕ). all_zero (part (4 + 12 * n) 492 l)) c.before.count_entries.ensures)
+    let l = c.args.p.now in
+    let even : eqb (u16_at l 2) 0 ≡ true = eq-eqb (u16_at l 2) 0 (sym c.get_u16.ensures ∙ c.if-get_u16-ne0.false) in
+    rw even (c.is_zero.ensures ∙ ap (λ (n : ℕ). all_zero (part (4 + 12 * n) 492 l)) c.count_entries.ensures)
 
-pub check-rest-spec : {M : Type 1} → statement M
-check-rest-spec =
+pub check_rest_spec : {M : Type 1} → statement M
+check_rest_spec =
     tie.close
     (tie.spec
     get-u16-requires

@@ -6,5 +6,5 @@ use Rattle.page.proofs.run.count_run.Tie as tie
 returns : tie.Need-returns
 returns c = sym (length-run_entries c.args.run.now)
 
-pub count-run-spec : {M : Type 1} → statement M
-count-run-spec = tie.close (tie.spec returns)
+pub count_run_spec : {M : Type 1} → statement M
+count_run_spec = tie.close (tie.spec returns)

@@ -6,69 +6,63 @@ use borrow.Author.Rules.{rules}
 use Rattle.page.proofs.search.codes_below.Statement.{statement}
 use Rattle.page.proofs.search.codes_below.Tie as tie
 
-count-entries-requires : tie.Need-count-entries-requires
+count-entries-requires : tie.Need-count_entries-high-requires
 count-entries-requires c κs = search rules
 
-returns : tie.Need-returns
+returns : tie.Need-returns-then-high-low
 returns c =
-    let s = c.before.before.before in
-    let end = start-inside s.args.p.now s.requires.0 s.args.code in
-    omega (arith, c.if1.true, c.before.count_entries.ensures, s.requires.1, end)
+    let end = start-inside c.args.p.now c.requires.0 c.args.code in
+    omega (arith, c.if-high-low.true, c.count_entries-high.ensures, c.requires.1, end)
 
-get-code-requires : tie.Need-get-code-requires
+get-code-requires : tie.Need-get_code-requires
 get-code-requires c κs =
-    let s = c.before.before.before in
-    let few = number-le s.args.p.now s.requires.0.number in
-    (omega (arith, c.if1.false, c.before.count_entries.ensures, few), s.requires.0.whole)
+    let few = number-le c.args.p.now c.requires.0.number in
+    (omega (arith, c.if-high-low.false, c.count_entries-high.ensures, few), c.requires.0.whole)
 
-cast-if2 : tie.Need-overflow-cast-if2
+cast-if2 : tie.Need-overflow_cast-get_code
 cast-if2 c = search rules
 
-returns-2 : tie.Need-returns-2
+returns-2 : tie.Need-returns-then-code-get_code
 returns-2 c =
-    let e = c.before.before in
-    let s = e.before.before.before in
+    let s = c in
     let down = code-down s.args.p.now s.requires.0 s.args.code s.args.low
-    (omega (arith, e.if1.false, e.before.count_entries.ensures))
-    (omega (arith, c.if2.true, c.before.get-code.ensures)) in
+    (omega (arith, c.if-high-low.false, c.count_entries-high.ensures))
+    (omega (arith, c.if-code-get_code.true, c.get_code.ensures)) in
     omega (arith, down, s.requires.1)
 
-sub-get-code : tie.Need-overflow-sub-get-code
+sub-get-code : tie.Need-overflow_sub-high
 sub-get-code c = search rules
 
-get-code-requires-2 : tie.Need-get-code-requires-2
+get-code-requires-2 : tie.Need-get_code-requires-2
 get-code-requires-2 c κs =
-    let e = c.before.before in
-    let s = e.before.before.before in
+    let s = c in
     let few = number-le s.args.p.now s.requires.0.number in
-    (omega (arith, e.if1.false, e.before.count_entries.ensures, few), s.requires.0.whole)
+    (omega (arith, c.if-high-low.false, c.count_entries-high.ensures, few), s.requires.0.whole)
 
-cast-if3 : tie.Need-overflow-cast-if3
+cast-if3 : tie.Need-overflow_cast-get_code-2
 cast-if3 c = search rules
 
-returns-3 : tie.Need-returns-3
+returns-3 : tie.Need-returns-then-get_code-code
 returns-3 c =
-    let e = c.before.before.before.before in
-    let n = e.before.count_entries in
-    let s = e.before.before.before in
+    let n = c.count_entries-high in
+    let s = c in
     let l = s.args.p.now in
     let up = code_up l s.requires.0 s.args.code (n.result - 1)
-    (omega (arith, e.if1.false, n.ensures)) (omega (arith, c.if3.true, c.before.get-code2.ensures)) in
+    (omega (arith, c.if-high-low.false, n.ensures)) (omega (arith, c.if-get_code-code.true, c.get_code-2.ensures)) in
     omega (arith, up, start-inside l s.requires.0 s.args.code, n.ensures)
 
-bisect-codes-requires : tie.Need-bisect-codes-requires
+bisect-codes-requires : tie.Need-bisect_codes-requires
 bisect-codes-requires c κs =
-    let e = c.before.before.before.before in
-    let n = e.before.count_entries in
-    let s = e.before.before.before in
+    let n = c.count_entries-high in
+    let s = c in
     let end = start-inside s.args.p.now s.requires.0 s.args.code in
     (s.requires.0, s.requires.1, omega (arith, end, n.ensures), omega (arith, n.ensures), s.requires.2)
 
-returns-4 : tie.Need-returns-4
+returns-4 : tie.Need-returns
 returns-4 c = search rules
 
-pub codes-below-spec : {M : Type 1} → statement M
-codes-below-spec =
+pub codes_below_spec : {M : Type 1} → statement M
+codes_below_spec =
     tie.close
     (tie.spec
     count-entries-requires

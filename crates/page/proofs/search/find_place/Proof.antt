@@ -13,45 +13,42 @@ use borrow.Author.Rules.{rules}
 use Rattle.page.proofs.search.find_place.Statement.{statement}
 use Rattle.page.proofs.search.find_place.Tie as tie
 
-place : (c : tie.After-place-in-run)
-    → let s = c.before.before.before.before in
-    c.before.before.entries-before.result + c.place-in-run.result
-    ≡ place_of s.args.x (entries_of s.args.p.now)
+place : (c : tie.After-place_in_run)
+    →
+    c.entries_before-start.result + c.place_in_run.result
+    ≡ place_of c.args.x (entries_of c.args.p.now)
 unfolding order_ok
 place c =
-    let r = c.before.run-from in
-    let s = c.before.before.before.before in
-    let l = s.args.p.now in
-    let x = s.args.x in
-    let entries = run-entries l s.requires x.hash r.ensures in
+    let r = c.run_from in
+    let l = c.args.p.now in
+    let x = c.args.x in
+    let entries = run-entries l c.requires x.hash r.ensures in
     omega (
       arith,
-      c.before.before.entries-before.ensures,
-      c.place-in-run.ensures ∙ ap (place_of x) entries,
-      place-run x (entries_of l) s.requires.order,
+      c.entries_before-start.ensures,
+      c.place_in_run.ensures ∙ ap (place_of x) entries,
+      place-run x (entries_of l) c.requires.order,
     )
 
-entries-before-requires : tie.Need-entries-before-requires
+entries-before-requires : tie.Need-entries_before-start-requires
 entries-before-requires c κs = search rules
 
-run-from-requires : tie.Need-run-from-requires
+run-from-requires : tie.Need-run_from-requires
 run-from-requires c κs = search rules
 
-place-in-run-requires : tie.Need-place-in-run-requires
+place-in-run-requires : tie.Need-place_in_run-requires
 place-in-run-requires c κs =
-    let s = c.before.before.before in
-    run-one s.args.p.now s.requires s.args.x.hash c.run-from.ensures
+    run-one c.args.p.now c.requires c.args.x.hash c.run_from.ensures
 
-add-result : tie.Need-overflow-add-result
+add-result : tie.Need-overflow_add-result
 add-result c =
-    let s = c.before.before.before.before in
-    let l = s.args.p.now in
-    omega (arith, place c, place-le s.args.x (entries_of l), length-entries_of l, number-le l s.requires.number)
+    let l = c.args.p.now in
+    omega (arith, place c, place-le c.args.x (entries_of l), length-entries_of l, number-le l c.requires.number)
 
 returns : tie.Need-returns
 returns c = place c
 
-pub find-place-spec : {M : Type 1} → statement M
-find-place-spec =
+pub find_place_spec : {M : Type 1} → statement M
+find_place_spec =
     tie.close
     (tie.spec entries-before-requires run-from-requires place-in-run-requires add-result returns)

@@ -5,20 +5,19 @@ use Rattle.page.specs.RunPartLaws.{run-bytes}
 use Rattle.page.proofs.search.find_run.Statement.{statement}
 use Rattle.page.proofs.search.find_run.Tie as tie
 
-entries-before-requires : tie.Need-entries-before-requires
-entries-before-requires c κs = c.before.requires
+entries-before-requires : tie.Need-entries_before-start-requires
+entries-before-requires c κs = c.requires
 
-run-from-requires : tie.Need-run-from-requires
-run-from-requires c κs = (c.before.before.requires, c.entries-before.ensures)
+run-from-requires : tie.Need-run_from-requires
+run-from-requires c κs = (c.requires, c.entries_before-start.ensures)
 
 returns : tie.Need-returns
 returns c =
-    let f = c.before.before in
-    let s = f.before in
-    let bytes : Bytes s.args.p.now = λ i. omega (arith, f.shared-slice-known.given i) in (
-      c.run-from.ensures,
-      λ ok. c.run-from.ensures ∙ run-bytes s.args.p.now bytes s.requires.whole ok s.args.h,
+    let s = c in
+    let bytes : Bytes s.args.p.now = λ i. omega (arith, c.shared_slice_known-1.given i) in (
+      c.run_from.ensures,
+      λ ok. c.run_from.ensures ∙ run-bytes s.args.p.now bytes s.requires.whole ok s.args.h,
     )
 
-pub find-run-spec : {M : Type 1} → statement M
-find-run-spec = tie.close (tie.spec entries-before-requires run-from-requires returns)
+pub find_run_spec : {M : Type 1} → statement M
+find_run_spec = tie.close (tie.spec entries-before-requires run-from-requires returns)

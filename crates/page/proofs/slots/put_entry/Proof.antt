@@ -8,56 +8,55 @@ use Rattle.page.specs.EntryLaws.{sets-encode_entry}
 use Rattle.page.proofs.slots.put_entry.Statement.{statement}
 use Rattle.page.proofs.slots.put_entry.Tie as tie
 
-mul_at : tie.Need-overflow-mul-at
+mul_at : tie.Need-overflow_mul-at
 mul_at c = omega arith
 
-add_at : tie.Need-overflow-add-at
+add_at : tie.Need-overflow_add-at
 add_at c = omega arith
 
-put-u32-requires : tie.Need-put-u32-requires
+put-u32-requires : tie.Need-put_u32-requires
 put-u32-requires c κs = omega arith
 
-add-put-u32 : tie.Need-overflow-add-put-u32
+add-put-u32 : tie.Need-overflow_add-at-2
 add-put-u32 c = omega arith
 
-put-u32-requires-2 : tie.Need-put-u32-requires-2
+put-u32-requires-2 : tie.Need-put_u32-requires-2
 put-u32-requires-2 c κs = omega arith
 
-add-put-u16 : tie.Need-overflow-add-put-u16
+add-put-u16 : tie.Need-overflow_add-at-3
 add-put-u16 c = omega arith
 
-put-u16-requires : tie.Need-put-u16-requires
+put-u16-requires : tie.Need-put_u16-requires
 put-u16-requires c κs = omega arith
 
-add-put-u16-2 : tie.Need-overflow-add-put-u16-2
+add-put-u16-2 : tie.Need-overflow_add-at-4
 add-put-u16-2 c = omega arith
 
-entry-flags-requires : tie.Need-entry-flags-requires
+entry-flags-requires : tie.Need-entry_flags-requires
 entry-flags-requires c κs = omega arith
 
-put-u16-requires-2 : tie.Need-put-u16-requires-2
+put-u16-requires-2 : tie.Need-put_u16-requires-2
 put-u16-requires-2 c κs = omega arith
 
-same_length : tie.Need-same-length
+same_length : tie.Need-shape_of-p
 same_length c = omega arith
 
 returns : tie.Need-returns
 returns c =
-    let fourth = c.before.before in
-    let flags = fourth.before in
-    let third = flags.before.before.before.before in
-    let second = third.before.before.before.before in
-    let first = second.before.before.before.before in
-    let a = first.before.before.before.args in
+    let flags = c in
+    let third = flags in
+    let second = third in
+    let first = second in
+    let a = first.args in
     let at : ℕ = 4 + 12 * a.k in
-    let l₂ = second.put-u322.ensures ∙ ap (λ (l : List ℕ). sets l (at + 4) (le32 a.e.pair.block)) first.put-u32.ensures in
-    let l₃ = third.put-u16.ensures ∙ ap (λ (l : List ℕ). sets l (at + 8) (le16 a.e.pair.offset)) l₂ in
-    fourth.put-u162.ensures
-    ∙ ap₂ (λ (l : List ℕ) (v : ℕ). sets l (at + 10) (le16 v)) l₃ flags.entry-flags.ensures
+    let l₂ = second.put_u32-2.ensures ∙ ap (λ (l : List ℕ). sets l (at + 4) (le32 a.e.pair.block)) first.put_u32.ensures in
+    let l₃ = third.put_u16.ensures ∙ ap (λ (l : List ℕ). sets l (at + 8) (le16 a.e.pair.offset)) l₂ in
+    c.put_u16-2.ensures
+    ∙ ap₂ (λ (l : List ℕ) (v : ℕ). sets l (at + 10) (le16 v)) l₃ flags.entry_flags.ensures
     ∙ sets-encode_entry a.p.now at a.e
 
-pub put-entry-spec : {M : Type 1} → statement M
-put-entry-spec =
+pub put_entry_spec : {M : Type 1} → statement M
+put_entry_spec =
     tie.close
     (tie.spec
     mul_at
