@@ -4,16 +4,15 @@ use borrow.Author.Rules.{rules}
 use Rattle.journal.proofs.holds.count_of.Statement.{statement}
 use Rattle.journal.proofs.holds.count_of.Tie as tie
 
-block-at-requires : tie.Need-block-at-requires
+block-at-requires : tie.Need-block_at-requires
 block-at-requires c κs = search rules
 
-get-u32-requires : tie.Need-get-u32-requires
+get-u32-requires : tie.Need-get_u32-requires
 get-u32-requires c κs =
-    let s = c.before.before in
-    omega (arith, length-of-block _ s.args.journal.now 0 c.block_at.ensures (omega arith))
+    omega (arith, length-of-block _ c.args.journal.now 0 c.block_at.ensures (omega arith))
 
 returns : tie.Need-returns
 returns c = cc
 
-pub count-of-spec : {M : Type 1} → statement M
-count-of-spec = tie.close (tie.spec block-at-requires get-u32-requires returns)
+pub count_of_spec : {M : Type 1} → statement M
+count_of_spec = tie.close (tie.spec block-at-requires get-u32-requires returns)

@@ -11,57 +11,56 @@ use borrow.Author.Rules.{rules}
 use Rattle.journal.proofs.holds.end_named.Statement.{statement}
 use Rattle.journal.proofs.holds.end_named.Tie as tie
 
-number-of-requires : tie.Need-number-of-requires
+number-of-requires : tie.Need-number_of-number-requires
 number-of-requires c κs = search rules
 
-block-at-requires : tie.Need-block-at-requires
+block-at-requires : tie.Need-block_at-requires
 block-at-requires c κs = search rules
 
-check-block-requires : tie.Need-check-block-requires
+check-block-requires : tie.Need-check_block-requires
 check-block-requires c κs =
-    let s = c.before.before.before.before in
-    length-of-block _ s.args.journal.now 15 c.block_at.ensures (omega arith)
+    length-of-block _ c.args.journal.now 15 c.block_at.ensures (omega arith)
 
-returns : tie.Need-returns
+returns : tie.Need-returns-then-not-check_block
 returns c =
-    let j = c.before.before.before.before.before.before.args.journal.now in
-    and_no (checks (number_in j) 15 (end_of j)) _ c.before.check-block.result
-    (c.before.check-block.ensures
-    ∙ ap₂ (λ (y : ℕ) (x : List ℕ). checks y 15 x) c.before.before.before.number_of_lem.ensures
-    c.before.before.block_at.ensures)
-    (not-true _ c.if1.true)
+    let j = c.args.journal.now in
+    and_no (checks (number_in j) 15 (end_of j)) _ c.check_block.result
+    (c.check_block.ensures
+    ∙ ap₂ (λ (y : ℕ) (x : List ℕ). checks y 15 x) c.number_of-number.ensures
+    c.block_at.ensures)
+    (not-true _ c.if-not-check_block.true-raw)
 
-end-copies-requires : tie.Need-end-copies-requires
+end-copies-requires : tie.Need-end_copies-requires
 end-copies-requires c κs = search rules
 
-returns-2 : tie.Need-returns-2
+returns-2 : tie.Need-returns-then-not-end_copies
 returns-2 c =
-    let j = c.before.before.before.before.before.before.before.before.args.journal.now in
-    and_yes (checks (number_in j) 15 (end_of j)) _ c.before.before.before.check-block.result _
-    (c.before.before.before.check-block.ensures
-    ∙ ap₂ (λ (y : ℕ) (x : List ℕ). checks y 15 x) c.before.before.before.before.before.number_of_lem.ensures
-    c.before.before.before.before.block_at.ensures)
-    (not-false _ c.before.before.if1.false)
-    (and_no (end_copies j) _ c.before.end-copies.result c.before.end-copies.ensures
-    (not-true _ c.if2.true))
+    let j = c.args.journal.now in
+    and_yes (checks (number_in j) 15 (end_of j)) _ c.check_block.result _
+    (c.check_block.ensures
+    ∙ ap₂ (λ (y : ℕ) (x : List ℕ). checks y 15 x) c.number_of-number.ensures
+    c.block_at.ensures)
+    (not-false _ c.if-not-check_block.false-raw)
+    (and_no (end_copies j) _ c.end_copies.result c.end_copies.ensures
+    (not-true _ c.if-not-end_copies.true-raw))
 
-images-named-requires : tie.Need-images-named-requires
+images-named-requires : tie.Need-images_named-requires
 images-named-requires c κs = search rules
 
-returns-3 : tie.Need-returns-3
+returns-3 : tie.Need-returns
 returns-3 c =
-    let j = c.before.before.before.before.before.before.before.before.before.args.journal.now in
-    and_yes (checks (number_in j) 15 (end_of j)) _ c.before.before.before.before.check-block.result _
-    (c.before.before.before.before.check-block.ensures
+    let j = c.args.journal.now in
+    and_yes (checks (number_in j) 15 (end_of j)) _ c.check_block.result _
+    (c.check_block.ensures
     ∙ ap₂ (λ (y : ℕ) (x : List ℕ). checks y 15 x)
-    c.before.before.before.before.before.before.number_of_lem.ensures
-    c.before.before.before.before.before.block_at.ensures)
-    (not-false _ c.before.before.before.if1.false)
-    (and_yes (end_copies j) _ c.before.before.end-copies.result _ c.before.before.end-copies.ensures
-    (not-false _ c.before.if2.false) c.images-named.ensures)
+    c.number_of-number.ensures
+    c.block_at.ensures)
+    (not-false _ c.if-not-check_block.false-raw)
+    (and_yes (end_copies j) _ c.end_copies.result _ c.end_copies.ensures
+    (not-false _ c.if-not-end_copies.false-raw) c.images_named.ensures)
 
-pub end-named-spec : {M : Type 1} → statement M
-end-named-spec =
+pub end_named_spec : {M : Type 1} → statement M
+end_named_spec =
     tie.close
     (tie.spec
     number-of-requires

@@ -8,29 +8,28 @@ use borrow.Author.Rules.{rules}
 use Rattle.journal.proofs.holds.head_wiped.Statement.{statement}
 use Rattle.journal.proofs.holds.head_wiped.Tie as tie
 
-wiped-head-requires : tie.Need-wiped-head-requires
+wiped-head-requires : tie.Need-wiped_head-wiped-requires
 wiped-head-requires c κs = search rules
 
-block-at-requires : tie.Need-block-at-requires
+block-at-requires : tie.Need-block_at-requires
 block-at-requires c κs = search rules
 
-slice-aggregate-same-bytes : tie.Need-slice-aggregate-same-bytes
+slice-aggregate-same-bytes : tie.Need-slice_bounds-same_bytes-end
 slice-aggregate-same-bytes c = search rules
 
-same-bytes-requires : tie.Need-same-bytes-requires
+same-bytes-requires : tie.Need-same_bytes-requires
 same-bytes-requires c κs =
-    let s = c.before.before.before.before in
-    length-of-block _ s.args.journal.now 0 c.before.block_at.ensures (omega arith)
-    ∙ sym (ap length c.before.before.wiped-head.ensures ∙ length-wiped)
+    length-of-block _ c.args.journal.now 0 c.block_at.ensures (omega arith)
+    ∙ sym (ap length c.wiped_head-wiped.ensures ∙ length-wiped)
 
 returns : tie.Need-returns
 unfolding head_wiped
 returns c =
     c.same_bytes.ensures
-    ∙ ap₂ equal c.before.before.block_at.ensures c.before.before.before.wiped-head.ensures
+    ∙ ap₂ equal c.block_at.ensures c.wiped_head-wiped.ensures
 
-pub head-wiped-spec : {M : Type 1} → statement M
-head-wiped-spec =
+pub head_wiped_spec : {M : Type 1} → statement M
+head_wiped_spec =
     tie.close
     (tie.spec
     wiped-head-requires

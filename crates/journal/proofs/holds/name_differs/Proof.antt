@@ -14,52 +14,52 @@ use Rattle.journal.proofs.holds.name_differs.Tie as tie
 abbrev test : (journal : List ℕ) → (j i : ℕ) → Bool
 test journal j i = not (eqb (name_in journal i) (name_in journal j))
 
-abbrev invariant-loop : tie.invariant-loop
+abbrev invariant-loop : tie.invariant-loop-i
 invariant-loop journal j i₀ i = (i ≤ j) × Passed (test journal j) i
 
-abbrev decreases-loop : tie.decreases-loop
+abbrev decreases-loop : tie.decreases-loop-i
 decreases-loop journal j i₀ i = j - i
 
-loop-holds : tie.Need-loop-init invariant-loop decreases-loop
+loop-holds : tie.Need-loop-i-init invariant-loop decreases-loop
 loop-holds c = (omega arith, λ k h. absurd (omega arith))
 
-name-of-requires : tie.Need-name-of-requires invariant-loop decreases-loop
+name-of-requires : tie.Need-name_of-requires invariant-loop decreases-loop
 name-of-requires c κs = search rules
 
-name-of-requires-2 : tie.Need-name-of-requires-2 invariant-loop decreases-loop
+name-of-requires-2 : tie.Need-name_of-requires-in-loop-i invariant-loop decreases-loop
 name-of-requires-2 c κs = search rules
 
-returns : tie.Need-returns invariant-loop decreases-loop
+returns : tie.Need-returns-then-name_of invariant-loop decreases-loop
 returns c =
-    let a = c.before.before.before.before.before.before.args in
-    let l = c.before.before.before.before.loop in
+    let a = c.args in
+    let l = c.loop-i in
     all-no (test a.journal.now a.j) a.j l.i (omega arith)
     (ap not (eq-eqb (name_in a.journal.now l.i) (name_in a.journal.now a.j) (cc)))
 
-add-i : tie.Need-overflow-add-i invariant-loop decreases-loop
+add-i : tie.Need-overflow_add-i invariant-loop decreases-loop
 add-i c = search rules
 
-loop-less : tie.Need-loop-smaller invariant-loop decreases-loop
+loop-less : tie.Need-loop-i-smaller invariant-loop decreases-loop
 loop-less c = search rules
 
-loop-again : tie.Need-loop-preserved invariant-loop decreases-loop
+loop-again : tie.Need-loop-i-preserved invariant-loop decreases-loop
 loop-again c =
-    let a = c.before.before.before.before.before.before.args in
-    let l = c.before.before.before.before.loop in (
+    let a = c.args in
+    let l = c.loop-i in (
       omega arith,
       passed-more (test a.journal.now a.j) l.i l.invariant.1
           (ap not
           (ne_eqb (name_in a.journal.now l.i) (name_in a.journal.now a.j)
-          (λ q. c.if1.false (c.before.before.name_of.ensures ∙ q ∙ sym c.before.name-of2.ensures)))),
+          (λ q. c.if-name_of.false (c.name_of.ensures ∙ q ∙ sym c.name_of-in-loop-i.ensures)))),
     )
 
-returns-2 : tie.Need-returns-2 invariant-loop decreases-loop
+returns-2 : tie.Need-returns invariant-loop decreases-loop
 returns-2 c =
-    let a = c.before.before.before.args in
-    all_yes (test a.journal.now a.j) a.j (λ k h. c.before.loop.invariant.1 k (omega arith))
+    let a = c.args in
+    all_yes (test a.journal.now a.j) a.j (λ k h. c.loop-i.invariant.1 k (omega arith))
 
-pub name-differs-spec : {M : Type 1} → statement M
-name-differs-spec =
+pub name_differs_spec : {M : Type 1} → statement M
+name_differs_spec =
     tie.close
     (tie.spec
     invariant-loop

@@ -4,23 +4,22 @@ use borrow.Author.Rules.{rules}
 use Rattle.journal.proofs.holds.name_of.Statement.{statement}
 use Rattle.journal.proofs.holds.name_of.Tie as tie
 
-block-at-requires : tie.Need-block-at-requires
+block-at-requires : tie.Need-block_at-requires
 block-at-requires c κs = search rules
 
-mul-get-u32 : tie.Need-overflow-mul-get-u32
+mul-get-u32 : tie.Need-overflow_mul-i
 mul-get-u32 c = search rules
 
-add-get-u32 : tie.Need-overflow-add-get-u32
+add-get-u32 : tie.Need-overflow_add-i
 add-get-u32 c = search rules
 
-get-u32-requires : tie.Need-get-u32-requires
+get-u32-requires : tie.Need-get_u32-requires
 get-u32-requires c κs =
-    let s = c.before.before in
-    omega (arith, length-of-block _ s.args.journal.now 0 c.block_at.ensures (omega arith))
+    omega (arith, length-of-block _ c.args.journal.now 0 c.block_at.ensures (omega arith))
 
 returns : tie.Need-returns
 returns c = cc
 
-pub name-of-spec : {M : Type 1} → statement M
-name-of-spec =
+pub name_of_spec : {M : Type 1} → statement M
+name_of_spec =
     tie.close (tie.spec block-at-requires mul-get-u32 add-get-u32 get-u32-requires returns)

@@ -13,52 +13,52 @@ use Rattle.journal.proofs.holds.names_below.Tie as tie
 abbrev test : (journal : List ℕ) → (size i : ℕ) → Bool
 test journal size i = ltb (name_in journal i) size
 
-abbrev invariant-loop : tie.invariant-loop
+abbrev invariant-loop : tie.invariant-loop-i
 invariant-loop journal size count i₀ i = (i ≤ count) × Passed (test journal size) i
 
-abbrev decreases-loop : tie.decreases-loop
+abbrev decreases-loop : tie.decreases-loop-i
 decreases-loop journal size count i₀ i = count - i
 
-loop-holds : tie.Need-loop-init invariant-loop decreases-loop
+loop-holds : tie.Need-loop-i-init invariant-loop decreases-loop
 loop-holds c = (omega arith, λ k h. absurd (omega arith))
 
-name-of-requires : tie.Need-name-of-requires invariant-loop decreases-loop
+name-of-requires : tie.Need-name_of-name-requires invariant-loop decreases-loop
 name-of-requires c κs = search rules
 
-cast-name : tie.Need-overflow-cast-name invariant-loop decreases-loop
+cast-name : tie.Need-overflow_cast-name invariant-loop decreases-loop
 cast-name c = search rules
 
-returns : tie.Need-returns invariant-loop decreases-loop
+returns : tie.Need-returns-then-name-size invariant-loop decreases-loop
 returns c =
-    let a = c.before.before.before.before.before.args in
-    let l = c.before.before.before.loop in
-    let e = c.before.name_of.ensures in
+    let a = c.args in
+    let l = c.loop-i in
+    let e = c.name_of-name.ensures in
     all-no (test a.journal.now a.size) a.count l.i (omega arith)
-    (le-ltb (name_in a.journal.now l.i) a.size (omega (arith, c.if1.true)))
+    (le-ltb (name_in a.journal.now l.i) a.size (omega (arith, c.if-name-size.true)))
 
-add-i : tie.Need-overflow-add-i invariant-loop decreases-loop
+add-i : tie.Need-overflow_add-i invariant-loop decreases-loop
 add-i c = search rules
 
-loop-less : tie.Need-loop-smaller invariant-loop decreases-loop
+loop-less : tie.Need-loop-i-smaller invariant-loop decreases-loop
 loop-less c = search rules
 
-loop-again : tie.Need-loop-preserved invariant-loop decreases-loop
+loop-again : tie.Need-loop-i-preserved invariant-loop decreases-loop
 loop-again c =
-    let a = c.before.before.before.before.before.args in
-    let l = c.before.before.before.loop in
-    let e = c.before.name_of.ensures in (
+    let a = c.args in
+    let l = c.loop-i in
+    let e = c.name_of-name.ensures in (
       omega arith,
       passed-more (test a.journal.now a.size) l.i l.invariant.1
-          (lt-ltb (name_in a.journal.now l.i) a.size (omega (arith, c.if1.false))),
+          (lt-ltb (name_in a.journal.now l.i) a.size (omega (arith, c.if-name-size.false))),
     )
 
-returns-2 : tie.Need-returns-2 invariant-loop decreases-loop
+returns-2 : tie.Need-returns invariant-loop decreases-loop
 returns-2 c =
-    let a = c.before.before.before.args in
-    all_yes (test a.journal.now a.size) a.count (λ k h. c.before.loop.invariant.1 k (omega arith))
+    let a = c.args in
+    all_yes (test a.journal.now a.size) a.count (λ k h. c.loop-i.invariant.1 k (omega arith))
 
-pub names-below-spec : {M : Type 1} → statement M
-names-below-spec =
+pub names_below_spec : {M : Type 1} → statement M
+names_below_spec =
     tie.close
     (tie.spec
     invariant-loop

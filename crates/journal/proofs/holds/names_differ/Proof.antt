@@ -15,45 +15,45 @@ use Rattle.journal.proofs.holds.names_differ.Tie as tie
 abbrev test : (journal : List ℕ) → (j : ℕ) → Bool
 test journal j = all (λ i. not (eqb (name_in journal i) (name_in journal j))) (up_from 0 j)
 
-abbrev invariant-loop : tie.invariant-loop
+abbrev invariant-loop : tie.invariant-loop-j
 invariant-loop journal count j₀ j = (j ≤ count) × Passed (test journal) j
 
-abbrev decreases-loop : tie.decreases-loop
+abbrev decreases-loop : tie.decreases-loop-j
 decreases-loop journal count j₀ j = count - j
 
-loop-holds : tie.Need-loop-init invariant-loop decreases-loop
+loop-holds : tie.Need-loop-j-init invariant-loop decreases-loop
 loop-holds c = (omega arith, λ k h. absurd (omega arith))
 
-name-differs-requires : tie.Need-name-differs-requires invariant-loop decreases-loop
-name-differs-requires c κs = let s = c.before.before.before in (s.requires.0, omega arith)
+name-differs-requires : tie.Need-name_differs-requires invariant-loop decreases-loop
+name-differs-requires c κs = (c.requires.0, omega arith)
 
-returns : tie.Need-returns invariant-loop decreases-loop
+returns : tie.Need-returns-then-not-name_differs invariant-loop decreases-loop
 returns c =
-    let a = c.before.before.before.before.before.args in
-    let l = c.before.before.before.loop in
-    let f : c.before.name-differs.result ≡ false = not-true _ c.if1.true in
-    all-no (test a.journal.now) a.count l.j (omega arith) (sym c.before.name-differs.ensures ∙ f)
+    let a = c.args in
+    let l = c.loop-j in
+    let f : c.name_differs.result ≡ false = not-true _ c.if-not-name_differs.true-raw in
+    all-no (test a.journal.now) a.count l.j (omega arith) (sym c.name_differs.ensures ∙ f)
 
-add-j : tie.Need-overflow-add-j invariant-loop decreases-loop
+add-j : tie.Need-overflow_add-j invariant-loop decreases-loop
 add-j c = search rules
 
-loop-less : tie.Need-loop-smaller invariant-loop decreases-loop
+loop-less : tie.Need-loop-j-smaller invariant-loop decreases-loop
 loop-less c = search rules
 
-loop-again : tie.Need-loop-preserved invariant-loop decreases-loop
+loop-again : tie.Need-loop-j-preserved invariant-loop decreases-loop
 loop-again c =
-    let a = c.before.before.before.before.before.args in
-    let l = c.before.before.before.loop in
-    let f : c.before.name-differs.result ≡ true = not-false _ c.if1.false in
-    (omega arith, passed-more (test a.journal.now) l.j l.invariant.1 (sym c.before.name-differs.ensures ∙ f))
+    let a = c.args in
+    let l = c.loop-j in
+    let f : c.name_differs.result ≡ true = not-false _ c.if-not-name_differs.false-raw in
+    (omega arith, passed-more (test a.journal.now) l.j l.invariant.1 (sym c.name_differs.ensures ∙ f))
 
-returns-2 : tie.Need-returns-2 invariant-loop decreases-loop
+returns-2 : tie.Need-returns invariant-loop decreases-loop
 returns-2 c =
-    let a = c.before.before.before.args in
-    all_yes (test a.journal.now) a.count (λ k h. c.before.loop.invariant.1 k (omega arith))
+    let a = c.args in
+    all_yes (test a.journal.now) a.count (λ k h. c.loop-j.invariant.1 k (omega arith))
 
-pub names-differ-spec : {M : Type 1} → statement M
-names-differ-spec =
+pub names_differ_spec : {M : Type 1} → statement M
+names_differ_spec =
     tie.close
     (tie.spec
     invariant-loop

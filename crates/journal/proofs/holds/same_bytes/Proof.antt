@@ -8,46 +8,45 @@ use Rattle.journal.specs.LoopLaws.{same-yes, same-no}
 use Rattle.journal.proofs.holds.same_bytes.Statement.{statement}
 use Rattle.journal.proofs.holds.same_bytes.Tie as tie
 
-abbrev invariant-loop : tie.invariant-loop
+abbrev invariant-loop : tie.invariant-loop-i
 invariant-loop a b i₀ i = (i ≤ length a) × ((k : ℕ) → k < i → get_or a k 0 ≡ get_or b k 0)
 
-abbrev decreases-loop : tie.decreases-loop
+abbrev decreases-loop : tie.decreases-loop-i
 decreases-loop a b i₀ i = length a - i
 
-loop-holds : tie.Need-loop-init invariant-loop decreases-loop
+loop-holds : tie.Need-loop-i-init invariant-loop decreases-loop
 loop-holds c = (omega arith, λ k h. absurd (omega arith))
 
-shared-slice-read-if1 : tie.Need-shared-slice-read-if1 invariant-loop decreases-loop
+shared-slice-read-if1 : tie.Need-bounds-a-i invariant-loop decreases-loop
 shared-slice-read-if1 c = search rules
 
-shared-slice-read-if1-2 : tie.Need-shared-slice-read-if1-2 invariant-loop decreases-loop
+shared-slice-read-if1-2 : tie.Need-bounds-b-i invariant-loop decreases-loop
 shared-slice-read-if1-2 c = search rules
 
-returns : tie.Need-returns invariant-loop decreases-loop
+returns : tie.Need-returns-then-a-i invariant-loop decreases-loop
 returns c =
-    let l = c.before.before.before.before.loop in
-    let a = c.before.before.before.before.before.args in
-    same-no a.a.now a.b.now l.i c.if1.true
+    let l = c.loop-i in
+    let a = c.args in
+    same-no a.a.now a.b.now l.i c.if-a-i.true
 
-add-i : tie.Need-overflow-add-i invariant-loop decreases-loop
+add-i : tie.Need-overflow_add-i invariant-loop decreases-loop
 add-i c = search rules
 
-loop-less : tie.Need-loop-smaller invariant-loop decreases-loop
+loop-less : tie.Need-loop-i-smaller invariant-loop decreases-loop
 loop-less c = search rules
 
-loop-again : tie.Need-loop-preserved invariant-loop decreases-loop
+loop-again : tie.Need-loop-i-preserved invariant-loop decreases-loop
 loop-again c =
-    let l = c.before.before.before.before.loop in
-    let a = c.before.before.before.before.before.args in
-    (omega arith, below_more (λ k. get_or a.a.now k 0 ≡ get_or a.b.now k 0) l.i l.invariant.1 c.if1.false)
+    let l = c.loop-i in
+    let a = c.args in
+    (omega arith, below_more (λ k. get_or a.a.now k 0 ≡ get_or a.b.now k 0) l.i l.invariant.1 c.if-a-i.false)
 
-returns-2 : tie.Need-returns-2 invariant-loop decreases-loop
+returns-2 : tie.Need-returns invariant-loop decreases-loop
 returns-2 c =
-    let s = c.before.before in
-    same-yes s.args.a.now s.args.b.now s.requires (λ i h. c.before.loop.invariant.1 i (omega arith))
+    same-yes c.args.a.now c.args.b.now c.requires (λ i h. c.loop-i.invariant.1 i (omega arith))
 
-pub same-bytes-spec : {M : Type 1} → statement M
-same-bytes-spec =
+pub same_bytes_spec : {M : Type 1} → statement M
+same_bytes_spec =
     tie.close
     (tie.spec
     invariant-loop

@@ -13,78 +13,77 @@ use borrow.Author.Rules.{rules}
 use Rattle.journal.proofs.plan.work_out.Statement.{statement}
 use Rattle.journal.proofs.plan.work_out.Tie as tie
 
-sub-seal-change : tie.Need-overflow-sub-seal-change
+sub-seal-change : tie.Need-slice_bounds-seal_change-count
 sub-seal-change c = search rules
 
-part-seal-change-start : tie.Need-slice-bounds-seal-change-start
+part-seal-change-start : tie.Need-slice_bounds-seal_change-start
 part-seal-change-start c = search rules
 
-part-seal-change-end : tie.Need-slice-bounds-seal-change-end
+part-seal-change-end : tie.Need-slice_bounds-seal_change-end
 part-seal-change-end c = search rules
 
-seal-change-requires : tie.Need-seal-change-requires
+seal-change-requires : tie.Need-seal_change-requires
 seal-change-requires c κs = search rules
 
-head-as-requires : tie.Need-head-as-requires
+head-as-requires : tie.Need-head_as-head-requires
 head-as-requires c κs = search rules
 
-head-as-requires-2 : tie.Need-head-as-requires-2
+head-as-requires-2 : tie.Need-head_as-end-requires
 head-as-requires-2 c κs = search rules
 
-wiped-head-requires : tie.Need-wiped-head-requires
+wiped-head-requires : tie.Need-wiped_head-wiped-requires
 wiped-head-requires c κs = search rules
 
-slice-aggregate-put-block : tie.Need-slice-aggregate-put-block
+slice-aggregate-put-block : tie.Need-slice_bounds-put_block-end
 slice-aggregate-put-block c = search rules
 
-put-block-requires : tie.Need-put-block-requires
+put-block-requires : tie.Need-put_block-requires
 put-block-requires c κs = search rules
 
-slice-aggregate-put-block-2 : tie.Need-slice-aggregate-put-block-2
+slice-aggregate-put-block-2 : tie.Need-slice_bounds-put_block-end-2
 slice-aggregate-put-block-2 c = search rules
 
-put-block-requires-2 : tie.Need-put-block-requires-2
+put-block-requires-2 : tie.Need-put_block-requires-2
 put-block-requires-2 c κs = search rules
 
-slice-aggregate-put-block-3 : tie.Need-slice-aggregate-put-block-3
+slice-aggregate-put-block-3 : tie.Need-slice_bounds-put_block-end-3
 slice-aggregate-put-block-3 c = search rules
 
-put-block-requires-3 : tie.Need-put-block-requires-3
+put-block-requires-3 : tie.Need-put_block-requires-3
 put-block-requires-3 c κs = search rules
 
-same_length : tie.Need-same-length
+same_length : tie.Need-shape_of-plan
 same_length c = search rules
 
 returns : tie.Need-returns
 returns c =
-    let third = c.before.before in
-    let second = third.before.before.before.before.before in
-    let first = second.before.before.before.before.before in
-    let w = first.before.before.before in
-    let e = w.before in
-    let h = e.before in
-    let l = h.before.before.before in
-    let s = l.before.before.before in
+    let second = c in
+    let first = second in
+    let w = first in
+    let e = w in
+    let h = e in
+    let l = h in
+    let s = l in
     let a = s.args in
     let inside : 1536 ≤ length a.plan.now = omega (arith, s.requires.0) in
-    third.put-block3.ensures
-    ∙ ap (λ (y : List ℕ). set_block y 2 w.wiped-head.result)
-    (second.put-block2.ensures
-    ∙ ap (λ (y : List ℕ). set_block y 1 e.head-as2.result) first.put-block.ensures)
+    c.put_block-3.ensures
+    ∙ ap (λ (y : List ℕ). set_block y 2 w.wiped_head-wiped.result)
+    (second.put_block-2.ensures
+    ∙ ap (λ (y : List ℕ). set_block y 1 e.head_as-end.result) first.put_block.ensures)
     ∙ plan-written a.number a.change.numbers a.change.count
-    (put_mid 1536 (length a.plan.now - 1536) a.plan.now l.seal-change.new.1.0) h.head_as.result
-    e.head-as2.result w.wiped-head.result h.head_as.ensures e.head-as2.ensures w.wiped-head.ensures
+    (put_mid 1536 (length a.plan.now - 1536) a.plan.now l.seal_change.new.images) h.head_as-head.result
+    e.head_as-end.result w.wiped_head-wiped.result h.head_as-head.ensures e.head_as-end.ensures w.wiped_head-wiped.ensures
     ∙ ap
     (λ (y : List ℕ).
     head a.number a.change.numbers a.change.count
     ++ (ending a.number a.change.numbers a.change.count ++ (wiped ++ y)))
-    (rest_back a.plan.now 1536 inside l.seal-change.new.1.0
-    ∙ l.seal-change.ensures
+    (rest_back a.plan.now 1536 inside l.seal_change.new.images
+    ∙ l.seal_change.ensures
     ∙ ap (λ (y : List ℕ). seals a.number a.change.numbers y a.change.count)
     (rest-lent a.plan.now 1536 inside))
 
-pub work-out-spec : {M : Type 1} → statement M
-work-out-spec =
+pub work_out_spec : {M : Type 1} → statement M
+work_out_spec =
     tie.close
     (tie.spec
     sub-seal-change

@@ -9,56 +9,52 @@ use borrow.Author.Rules.{rules}
 use Rattle.journal.proofs.recovery.recover_store.Statement.{statement}
 use Rattle.journal.proofs.recovery.recover_store.Tie as tie
 
-journal-holds-requires : tie.Need-journal-holds-requires
+journal-holds-requires : tie.Need-journal_holds-requires
 journal-holds-requires c κs = search rules
 
-copy-images-requires : tie.Need-copy-images-requires
+copy-images-requires : tie.Need-copy_images-requires
 copy-images-requires c κs =
-    let s = c.before.before.before.before.before.before.before.before in
-    let d : Disk = record { store = s.args.store.now; journal = s.args.journal.now } in
-    let r = c.before.before in
-    let h : holds d ≡ true = sym r.before.journal-holds.ensures ∙ r.if1.true in (
-      (s.requires.0, (holds-held d h).few),
-      copying {m = blocks d.store} {d = d} (record { store = s.requires.1; journal = s.requires.0 }) h,
+    let d : Disk = record { store = c.args.store.now; journal = c.args.journal.now } in
+    let h : holds d ≡ true = sym c.journal_holds.ensures ∙ c.if-journal_holds.true in (
+      (c.requires.0, (holds-held d h).few),
+      copying {m = blocks d.store} {d = d} (record { store = c.requires.1; journal = c.requires.0 }) h,
     )
 
-wipe-head-requires : tie.Need-wipe-head-requires
+wipe-head-requires : tie.Need-wipe_head-requires
 wipe-head-requires c κs = search rules
 
-same_length : tie.Need-same-length
+same_length : tie.Need-shape_of-store-then-journal_holds
 same_length c = search rules
 
-same-length-2 : tie.Need-same-length-2
+same-length-2 : tie.Need-shape_of-journal-then-journal_holds
 same-length-2 c = search rules
 
-returns : tie.Need-returns
+returns : tie.Need-returns-then-journal_holds
 returns c =
-    let r = c.before.before.before.before.before.before.before.before.before in
-    let a = r.before.before.before.before.before.before.args in
+    let a = c.args in
     let d : Disk = record { store = a.store.now; journal = a.journal.now } in
-    recover-yes d (sym r.before.journal-holds.ensures ∙ r.if1.true)
-    ∙ disk-eq _ _ _ _ (sym c.before.before.before.before.before.before.copy-images.ensures)
-    (sym c.before.before.wipe-head.ensures)
+    recover-yes d (sym c.journal_holds.ensures ∙ c.if-journal_holds.true)
+    ∙ disk-eq _ _ _ _ (sym c.copy_images.ensures)
+    (sym c.wipe_head.ensures)
 
-wipe-head-requires-2 : tie.Need-wipe-head-requires-2
+wipe-head-requires-2 : tie.Need-wipe_head-requires-2
 wipe-head-requires-2 c κs = search rules
 
-same-length-3 : tie.Need-same-length-3
+same-length-3 : tie.Need-shape_of-store
 same-length-3 c = search rules
 
-same-length-4 : tie.Need-same-length-4
+same-length-4 : tie.Need-shape_of-journal
 same-length-4 c = search rules
 
-returns-2 : tie.Need-returns-2
+returns-2 : tie.Need-returns
 returns-2 c =
-    let r = c.before.before.before.before in
-    let a = r.before.before.before.before.before.before.args in
+    let a = c.args in
     let d : Disk = record { store = a.store.now; journal = a.journal.now } in
-    recover-no d (sym r.before.journal-holds.ensures ∙ r.if1.false)
-    ∙ disk-eq _ _ _ _ refl (sym c.before.before.wipe-head2.ensures)
+    recover-no d (sym c.journal_holds.ensures ∙ c.if-journal_holds.false)
+    ∙ disk-eq _ _ _ _ refl (sym c.wipe_head-2.ensures)
 
-pub recover-store-spec : {M : Type 1} → statement M
-recover-store-spec =
+pub recover_store_spec : {M : Type 1} → statement M
+recover_store_spec =
     tie.close
     (tie.spec
     journal-holds-requires
