@@ -17,105 +17,102 @@ use Rattle.meta.proofs.check_meta.Tie as tie
 sixteen : (c : tie.Start) → length c.args.m.spares ≡ 16
 sixteen c = search rules
 
-cast-check-fill : tie.Need-overflow-cast-check-fill
+cast-check-fill : tie.Need-overflow_cast-m
 cast-check-fill c = search rules
 
-check-fill-requires : tie.Need-check-fill-requires
+check-fill-requires : tie.Need-check_fill-requires
 check-fill-requires c κs = search rules
 
-returns : tie.Need-returns
+returns : tie.Need-returns-then-not-check_fill
 unfolding meta_ok
 returns c =
-    let m = c.before.before.before.args.m in
-    let t : fill_ok m.fill ≡ false = cc (not-true c.before.check-fill.result c.if1.true) in
+    let m = c.args.m in
+    let t : fill_ok m.fill ≡ false = cc (not-true c.check_fill.result c.if-not-check_fill.true-raw) in
     simp t
 
-returns-2 : tie.Need-returns-2
+returns-2 : tie.Need-returns-then-m-lt1
 unfolding meta_ok
 returns-2 c =
-    let m = c.before.before.before.before.before.args.m in
-    simp (lt-leb 1 m.max c.if2.true, and-false)
+    let m = c.args.m in
+    simp (lt-leb 1 m.max c.if-m-lt1.true, and-false)
 
-high-mask-requires : tie.Need-high-mask-requires
+high-mask-requires : tie.Need-high_mask-requires
 high-mask-requires c κs = search rules
 
-returns-3 : tie.Need-returns-3
+returns-3 : tie.Need-returns-then-m-high_mask
 unfolding meta_ok
 returns-3 c =
-    let m = c.before.before.before.before.before.before.before.before.args.m in
-    let e = c.before.before.high-mask.ensures in
-    simp (ne_eqb m.high (high_mask m.max) (λ p. c.if3.true (p ∙ sym e)), and-false)
+    let m = c.args.m in
+    let e = c.high_mask.ensures in
+    simp (ne_eqb m.high (high_mask m.max) (λ p. c.if-m-high_mask.true (p ∙ sym e)), and-false)
 
-low-mask-requires : tie.Need-low-mask-requires
+low-mask-requires : tie.Need-low_mask-requires
 low-mask-requires c κs = search rules
 
-returns-4 : tie.Need-returns-4
+returns-4 : tie.Need-returns-then-m-low_mask
 unfolding meta_ok
 returns-4 c =
-    let m = c.before.before.before.before.before.before.before.before.before.before.before.args.m in
-    let e = c.before.before.low_mask.ensures in
-    simp (ne_eqb m.low (low_mask m.max) (λ p. c.if4.true (p ∙ sym e)), and-false)
+    let m = c.args.m in
+    let e = c.low_mask.ensures in
+    simp (ne_eqb m.low (low_mask m.max) (λ p. c.if-m-low_mask.true (p ∙ sym e)), and-false)
 
-point-of-requires : tie.Need-point-of-requires
+point-of-requires : tie.Need-point_of-s-requires
 point-of-requires c κs = search rules
 
-returns-5 : tie.Need-returns-5
+returns-5 : tie.Need-returns-then-m-s
 unfolding meta_ok
 returns-5 c =
-    let m = c.before.before.before.before.before.before.before.before.before.before.before.before.before.before.args.m in
-    let e = c.before.before.point-of.ensures in
-    simp (ne_eqb m.point (point m.max) (λ p. c.if5.true (p ∙ sym e)), and-false)
+    let m = c.args.m in
+    let e = c.point_of-s.ensures in
+    simp (ne_eqb m.point (point m.max) (λ p. c.if-m-s.true (p ∙ sym e)), and-false)
 
-returns-6 : tie.Need-returns-6
+returns-6 : tie.Need-returns-then-s-gt15
 unfolding meta_ok
 returns-6 c =
-    let h = c.before.before.before.before.before.before.before in
-    let s = h.before.before.before.before.before.before.before.before in
+    let s = c in
     let m = s.args.m in
-    let e = c.before.before.before.point-of.ensures in
-    simp (point-high (point m.max) m.spares (sixteen s) (omega (arith, c.if6.true)), and-false)
+    let e = c.point_of-s.ensures in
+    simp (point-high (point m.max) m.spares (sixteen s.before.before.before.before.before.before.before.before.before.before.before.before.before.before.before) (omega (arith, c.if-s-gt15.true)), and-false)
 
-check-spares-requires : tie.Need-check-spares-requires
+check-spares-requires : tie.Need-check_spares-requires
 check-spares-requires c κs = search rules
 
-returns-7 : tie.Need-returns-7
+returns-7 : tie.Need-returns-then-not-check_spares
 unfolding meta_ok
 returns-7 c =
-    let h = c.before.before.before.before.before.before.before.before.before in
-    let m = h.before.before.before.before.before.before.before.before.before.args.m in
+    let m = c.args.m in
     let t : spares_ok (point m.max) m.spares ≡ false =
-    cc (not-true c.before.check-spares.result c.if7.true) in
+    cc (not-true c.check_spares.result c.if-not-check_spares.true-raw) in
     simp (t, and-false)
 
-made-blocks-requires : tie.Need-made-blocks-requires
+made-blocks-requires : tie.Need-made_blocks-requires
 made-blocks-requires c κs = search rules
 
-returns-8 : tie.Need-returns-8
+returns-8 : tie.Need-returns
 unfolding meta_ok
 returns-8 c =
-    let e₇ = c.before in
-    let e₅ = e₇.before.before.before.before in
-    let e₄ = e₅.before.before.before in
-    let e₃ = e₄.before.before.before in
-    let e₂ = e₃.before.before.before in
-    let e₁ = e₂.before.before in
-    let a = e₁.before.before.before.args in
+    let e₅ = c in
+    let e₄ = e₅ in
+    let e₃ = e₄ in
+    let e₂ = e₃ in
+    let e₁ = e₂ in
+    let a = e₁.args in
     let m = a.m in
-    let r = e₇.before.check-spares in
-    let p = e₅.before.before.point-of.ensures in
+    let r = c.check_spares in
+    let p = e₅.point_of-s.ensures in
     let t₁ : fill_ok m.fill ≡ true =
-    sym e₁.before.check-fill.ensures ∙ not-false e₁.before.check-fill.result e₁.if1.false in
-    let t₂ = le-leb 1 m.max e₂.if2.false in
-    let t₃ = eq-eqb m.high (high_mask m.max) (e₃.if3.false ∙ e₃.before.before.high-mask.ensures) in
-    let t₄ = eq-eqb m.low (low_mask m.max) (e₄.if4.false ∙ e₄.before.before.low_mask.ensures) in
-    let t₅ = eq-eqb m.point (point m.max) (e₅.if5.false ∙ p) in
+    sym e₁.check_fill.ensures ∙ not-false e₁.check_fill.result e₁.if-not-check_fill.false-raw in
+    let t₂ = le-leb 1 m.max e₂.if-m-lt1.false in
+    let t₃ = eq-eqb m.high (high_mask m.max) (e₃.if-m-high_mask.false ∙ e₃.high_mask.ensures) in
+    let t₄ = eq-eqb m.low (low_mask m.max) (e₄.if-m-low_mask.false ∙ e₄.low_mask.ensures) in
+    let t₅ = eq-eqb m.point (point m.max) (e₅.if-m-s.false ∙ p) in
     let t₆ : spares_ok (point m.max) m.spares ≡ true =
-    ap (λ (s : ℕ). spares_ok s m.spares) (sym p) ∙ sym r.ensures ∙ not-false r.result e₇.if7.false in
+    ap (λ (s : ℕ). spares_ok s m.spares) (sym p) ∙ sym r.ensures ∙ not-false r.result c.if-not-check_spares.false-raw in
     rw (t₁, t₂, t₃, t₄, t₅, t₆)
-    (ap (λ (x : ℕ). leb x a.size) (c.made-blocks.ensures ∙ ap (made m.spares) p))
+    (ap (λ (x : ℕ). leb x a.size) (c.made_blocks.ensures ∙ ap (made m.spares) p))
 
-pub check-meta-spec : {M : Type 1} → statement M
-check-meta-spec =
+pub check_meta_spec : {M : Type 1} → statement M
+check_meta_spec =
     tie.close
     (tie.spec
     cast-check-fill
