@@ -7,35 +7,33 @@ use borrow.Author.Rules.{rules}
 use Rattle.chain.proofs.along.find_along.Statement.{statement}
 use Rattle.chain.proofs.along.find_along.Tie as tie
 
-find-pair-requires : tie.Need-find-pair-requires
+find-pair-requires : tie.Need-find_pair-found-requires
 find-pair-requires c κs = search rules
 
-enum_told : tie.Need-enum-told
+enum_told : tie.Need-enum_told-1
 enum_told c = search rules
 
-returns : tie.Need-returns
+returns : tie.Need-returns-in-At
 returns c =
-    let f = c.before.before in
-    let a = f.before.before.args in
+    let a = c.args in
     let own : Found = find_in a.store.now (take a.n a.own.now) a.pair in
-    let e = c.enum_told.given.1 in
-    e ∙ ap (λ (g : Found). or_else g own) (sym e ∙ f.find-pair.ensures)
+    let e = c.in-At.is in
+    e ∙ ap (λ (g : Found). or_else g own) (sym e ∙ c.find_pair-found.ensures)
 
-enum-told-2 : tie.Need-enum-told-2
+enum-told-2 : tie.Need-enum_told-in_default
 enum-told-2 c = search rules
 
-find-pair-requires-2 : tie.Need-find-pair-requires-2
+find-pair-requires-2 : tie.Need-find_pair-requires
 find-pair-requires-2 c κs = search rules
 
-returns-2 : tie.Need-returns-2
+returns-2 : tie.Need-returns
 returns-2 c =
-    let f = c.before.before.before in
-    let a = f.before.before.args in
+    let a = c.args in
     let own : Found = find_in a.store.now (take a.n a.own.now) a.pair in
-    c.find-pair2.ensures
-    ∙ ap (λ (g : Found). or_else g own) (sym c.before.enum-told2.given.1 ∙ f.find-pair.ensures)
+    c.find_pair.ensures
+    ∙ ap (λ (g : Found). or_else g own) (sym c.in_default.is ∙ c.find_pair-found.ensures)
 
-pub find-along-spec : {M : Type 1} → statement M
-find-along-spec =
+pub find_along_spec : {M : Type 1} → statement M
+find_along_spec =
     tie.close
     (tie.spec find-pair-requires enum_told returns enum-told-2 find-pair-requires-2 returns-2)

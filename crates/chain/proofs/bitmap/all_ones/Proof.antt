@@ -6,81 +6,76 @@ use Rattle.chain.specs.BitmapLaws.{ones-broken, ones-later, ones-byte}
 use Rattle.chain.proofs.bitmap.all_ones.Statement.{statement}
 use Rattle.chain.proofs.bitmap.all_ones.Tie as tie
 
-abbrev invariant-loop : tie.invariant-loop
+abbrev invariant-loop : tie.invariant-loop-n
 invariant-loop map from end n₀ n = (n ≤ end) × (ones_from map from ≡ ones_from map n)
 
-abbrev decreases-loop : tie.decreases-loop
+abbrev decreases-loop : tie.decreases-loop-n
 decreases-loop map from end n₀ n = end - n
 
-ones-end-requires : tie.Need-ones-end-requires invariant-loop decreases-loop
-ones-end-requires c κs = c.before.requires
+ones-end-requires : tie.Need-ones_end-end-requires invariant-loop decreases-loop
+ones-end-requires c κs = c.requires
 
-loop-holds : tie.Need-loop-init invariant-loop decreases-loop
-loop-holds c = (c.ones-end.ensures.0, refl)
+loop-holds : tie.Need-loop-n-init invariant-loop decreases-loop
+loop-holds c = (c.ones_end-end.ensures.0, refl)
 
-cast-if1 : tie.Need-overflow-cast-if1 invariant-loop decreases-loop
+cast-if1 : tie.Need-overflow_cast-n invariant-loop decreases-loop
 cast-if1 c = omega arith
 
-shared-slice-read-if1 : tie.Need-shared-slice-read-if1 invariant-loop decreases-loop
+shared-slice-read-if1 : tie.Need-bounds-map-n invariant-loop decreases-loop
 shared-slice-read-if1 c = omega arith
 
-mul-n : tie.Need-overflow-mul-n invariant-loop decreases-loop
+mul-n : tie.Need-overflow_mul-n invariant-loop decreases-loop
 mul-n c = omega arith
 
-add-n : tie.Need-overflow-add-n invariant-loop decreases-loop
+add-n : tie.Need-overflow_add-n invariant-loop decreases-loop
 add-n c = omega arith
 
-loop-less : tie.Need-loop-smaller invariant-loop decreases-loop
+loop-less : tie.Need-loop-n-smaller-then-map-n invariant-loop decreases-loop
 loop-less c = omega arith
 
-loop-again : tie.Need-loop-preserved invariant-loop decreases-loop
+loop-again : tie.Need-loop-n-preserved-then-map-n invariant-loop decreases-loop
 loop-again c =
-    let l = c.before.before.before in
-    let map = l.before.before.before.args.map.now in
-    (omega arith, l.loop.invariant.1 ∙ ones-byte map l.loop.n (omega arith) c.if1.true)
+    let map = c.args.map.now in
+    (omega arith, c.loop-n.invariant.1 ∙ ones-byte map c.loop-n.n (omega arith) c.if-map-n.true)
 
-bit-of-requires : tie.Need-bit-of-requires invariant-loop decreases-loop
+bit-of-requires : tie.Need-bit_of-requires invariant-loop decreases-loop
 bit-of-requires c κs =
-    let i = c.before.before in
-    let e = i.before.before in
-    (e.before.before.requires.0, omega (arith, i.loop-test.true, e.ones-end.ensures.1))
+    let e = c in
+    (e.requires.0, omega (arith, c.loop-n-test.true, e.ones_end-end.ensures.1))
 
-returns : tie.Need-returns invariant-loop decreases-loop
+returns : tie.Need-returns-then-bit_of-eq0 invariant-loop decreases-loop
 returns c =
-    let b = c.before in
-    let i = b.before.before.before in
-    let l = i.before in
-    let map = l.before.before.before.args.map.now in
-    sym (l.loop.invariant.1 ∙ ones-broken map l.loop.n (omega arith) (sym b.bit-of.ensures
-    ∙ c.if2.true))
+    let i = c in
+    let l = i in
+    let map = l.args.map.now in
+    sym (l.loop-n.invariant.1 ∙ ones-broken map l.loop-n.n (omega arith) (sym c.bit_of.ensures
+    ∙ c.if-bit_of-eq0.true))
 
-add-n-2 : tie.Need-overflow-add-n-2 invariant-loop decreases-loop
+add-n-2 : tie.Need-overflow_add-n-else-map-n invariant-loop decreases-loop
 add-n-2 c = omega arith
 
-loop-less-2 : tie.Need-loop-smaller-2 invariant-loop decreases-loop
+loop-less-2 : tie.Need-loop-n-smaller invariant-loop decreases-loop
 loop-less-2 c = omega arith
 
-loop-again-2 : tie.Need-loop-preserved-2 invariant-loop decreases-loop
+loop-again-2 : tie.Need-loop-n-preserved invariant-loop decreases-loop
 loop-again-2 c =
-    let b = c.before in
-    let i = b.before.before.before in
-    let l = i.before in
-    let map = l.before.before.before.args.map.now in (
+    let i = c in
+    let l = i in
+    let map = l.args.map.now in (
       omega arith,
-      l.loop.invariant.1
-          ∙ ones-later map l.loop.n (omega arith) (λ e. c.if2.false (b.bit-of.ensures ∙ e)),
+      l.loop-n.invariant.1
+          ∙ ones-later map l.loop-n.n (omega arith) (λ e. c.if-bit_of-eq0.false (c.bit_of.ensures ∙ e)),
     )
 
-returns-2 : tie.Need-returns-2 invariant-loop decreases-loop
+returns-2 : tie.Need-returns invariant-loop decreases-loop
 returns-2 c =
-    let l = c.before in
-    let map = l.before.before.before.args.map.now in
-    let o = l.before.ones-end in
-    let e : l.loop.n ≡ o.result = omega arith in
-    sym (l.loop.invariant.1 ∙ ap (ones_from map) e ∙ o.ensures.3)
+    let map = c.args.map.now in
+    let o = c.ones_end-end in
+    let e : c.loop-n.n ≡ o.result = omega arith in
+    sym (c.loop-n.invariant.1 ∙ ap (ones_from map) e ∙ o.ensures.3)
 
-pub all-ones-spec : {M : Type 1} → statement M
-all-ones-spec =
+pub all_ones_spec : {M : Type 1} → statement M
+all_ones_spec =
     tie.close
     (tie.spec
     invariant-loop

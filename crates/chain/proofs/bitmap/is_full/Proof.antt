@@ -20,41 +20,41 @@ ones-more l at i ones e k h less = go (dec_lt k i)
     go (yes before) = ones k h before
     go (no late) = let here : k ≡ i = omega arith in ap (λ (j : ℕ). get_or l j 0) here ∙ e
 
-abbrev invariant-loop : tie.invariant-loop
+abbrev invariant-loop : tie.invariant-loop-i
 invariant-loop map at full₀ i₀ full i = (at ≤ i) × (i ≤ 256) × (full ≡ true → Ones map at i)
 
-abbrev decreases-loop : tie.decreases-loop
+abbrev decreases-loop : tie.decreases-loop-i
 decreases-loop map at full₀ i₀ full i = 256 - i
 
-loop-holds : tie.Need-loop-init invariant-loop decreases-loop
+loop-holds : tie.Need-loop-i-init invariant-loop decreases-loop
 loop-holds c = (omega arith, omega arith, λ e k h less. absurd (omega arith))
 
-shared-slice-read-if1 : tie.Need-shared-slice-read-if1 invariant-loop decreases-loop
+shared-slice-read-if1 : tie.Need-bounds-map-i invariant-loop decreases-loop
 shared-slice-read-if1 c = omega arith
 
-add-i : tie.Need-overflow-add-i invariant-loop decreases-loop
+add-i : tie.Need-overflow_add-i invariant-loop decreases-loop
 add-i c = omega arith
 
-loop-less : tie.Need-loop-smaller invariant-loop decreases-loop
+loop-less : tie.Need-loop-i-smaller invariant-loop decreases-loop
 loop-less c = omega arith
 
-loop-again : tie.Need-loop-preserved invariant-loop decreases-loop
+loop-again : tie.Need-loop-i-preserved invariant-loop decreases-loop
 loop-again c =
-    let l = c.before.before.before.loop in
-    let a = c.before.before.before.before.args in (
+    let l = c.loop-i in
+    let a = c.args in (
       omega arith,
       omega arith,
       ⊎_elim
           (λ w e. absurd (false≢true (sym w.1 ∙ e)))
           (λ w e. ones-more a.map.now a.at l.i (l.invariant.2 (sym w.1 ∙ e)) w.0.left)
-          c.if1.branch,
+          c.if-map-i.branch,
     )
 
 returns : tie.Need-returns invariant-loop decreases-loop
 returns c =
-    let l = c.before.loop in
+    let l = c.loop-i in
     λ e k h less. l.invariant.2 e k h (omega arith)
 
-pub is-full-spec : {M : Type 1} → statement M
-is-full-spec =
+pub is_full_spec : {M : Type 1} → statement M
+is_full_spec =
     tie.close (tie.spec invariant-loop decreases-loop loop-holds shared-slice-read-if1 add-i loop-less loop-again returns)

@@ -13,75 +13,71 @@ use Rattle.chain.proofs.Tallies.{unmoved, count-few, fresh_start, fresh-turn, fr
 use Rattle.chain.proofs.counting.count_fresh.Statement.{statement}
 use Rattle.chain.proofs.counting.count_fresh.Tie as tie
 
-abbrev invariant-loop : tie.invariant-loop
+abbrev invariant-loop : tie.invariant-loop-i
 invariant-loop page hash run count n₀ i₀ n i =
     tally (is_match hash true) (entries_of page) ≡ n + tally unmoved (drop i (run_entries run))
 
-abbrev decreases-loop : tie.decreases-loop
+abbrev decreases-loop : tie.decreases-loop-i
 decreases-loop page hash run count n₀ i₀ n i = count - i
 
-more : (c : tie.In-loop invariant-loop decreases-loop)
-    → c.before.loop.i < length (run_entries c.before.before.before.find-run.result.now)
-more c = omega (arith, c.loop-test.true, c.before.before.count-run.ensures)
+more : (c : tie.In-loop-i invariant-loop decreases-loop)
+    → c.loop-i.i < length (run_entries c.find_run-run.result.now)
+more c = omega (arith, c.loop-i-test.true, c.count_run-count.ensures)
 
-turn : (c : tie.After-count-unmoved invariant-loop decreases-loop)
-    → let l = c.before.before.before in
-    let f = l.before.before in
-    let a = f.before.before.args in
+turn : (c : tie.After-count_unmoved-n invariant-loop decreases-loop)
+    →
+    let f = c in
+    let a = f.args in
     tally (is_match a.hash true) (entries_of a.page.now)
-    ≡ (l.loop.n + c.count-unmoved.result)
-    + tally unmoved (drop (l.loop.i + 1) (run_entries f.find-run.result.now))
+    ≡ (c.loop-i.n + c.count_unmoved-n.result)
+    + tally unmoved (drop (c.loop-i.i + 1) (run_entries f.find_run-run.result.now))
 turn c =
-    let i = c.before.before in
-    let l = i.before in
-    let f = l.before.before in
-    fresh-turn f.find-run.result.now l.loop.i l.loop.n _ l.loop.invariant (more i) c.count-unmoved.result
-    (c.count-unmoved.ensures ∙ ap (λ (e : Entry). b2n (not e.moved)) c.before.run-entry.ensures)
+    let l = c in
+    let f = l in
+    fresh-turn f.find_run-run.result.now l.loop-i.i l.loop-i.n _ l.loop-i.invariant (more c.before.before) c.count_unmoved-n.result
+    (c.count_unmoved-n.ensures ∙ ap (λ (e : Entry). b2n (not e.moved)) c.run_entry.ensures)
 
-find-run-requires : tie.Need-find-run-requires invariant-loop decreases-loop
-find-run-requires c κs = c.before.requires
+find-run-requires : tie.Need-find_run-run-requires invariant-loop decreases-loop
+find-run-requires c κs = c.requires
 
-count-run-requires : tie.Need-count-run-requires invariant-loop decreases-loop
+count-run-requires : tie.Need-count_run-count-requires invariant-loop decreases-loop
 count-run-requires c κs = tt
 
-loop-holds : tie.Need-loop-init invariant-loop decreases-loop
+loop-holds : tie.Need-loop-i-init invariant-loop decreases-loop
 loop-holds c =
-    let f = c.before in
-    let s = f.before.before in
-    omega (arith, fresh_start s.requires s.args.hash f.find-run.ensures.0)
+    let s = c in
+    omega (arith, fresh_start s.requires s.args.hash c.find_run-run.ensures.0)
 
-run-entry-requires : tie.Need-run-entry-requires invariant-loop decreases-loop
+run-entry-requires : tie.Need-run_entry-requires invariant-loop decreases-loop
 run-entry-requires c κs =
-    omega (arith, more c, length-run_entries c.before.before.before.find-run.result.now)
+    omega (arith, more c, length-run_entries c.find_run-run.result.now)
 
-count-unmoved-requires : tie.Need-count-unmoved-requires invariant-loop decreases-loop
+count-unmoved-requires : tie.Need-count_unmoved-n-requires invariant-loop decreases-loop
 count-unmoved-requires c κs = tt
 
-add-n : tie.Need-overflow-add-n invariant-loop decreases-loop
+add-n : tie.Need-overflow_add-n invariant-loop decreases-loop
 add-n c =
-    let s = c.before.before.before.before.before.before.before in
-    omega (arith, turn c, count-few s.requires (is_match s.args.hash true))
+    omega (arith, turn c, count-few c.requires (is_match c.args.hash true))
 
-add-i : tie.Need-overflow-add-i invariant-loop decreases-loop
-add-i c = omega (arith, c.before.before.loop-test.true)
+add-i : tie.Need-overflow_add-i invariant-loop decreases-loop
+add-i c = omega (arith, c.loop-i-test.true)
 
-loop-less : tie.Need-loop-smaller invariant-loop decreases-loop
+loop-less : tie.Need-loop-i-smaller invariant-loop decreases-loop
 loop-less c = omega arith
 
-loop-again : tie.Need-loop-preserved invariant-loop decreases-loop
+loop-again : tie.Need-loop-i-preserved invariant-loop decreases-loop
 loop-again c = turn c
 
 returns : tie.Need-returns invariant-loop decreases-loop
 returns c =
-    let l = c.before in
-    let f = l.before.before in
-    let s = f.before.before in
-    let past : length (run_entries f.find-run.result.now) ≤ l.loop.i =
-    omega (arith, c.loop-test.false, l.before.count-run.ensures) in
-    sym (fresh-end f.find-run.result.now l.loop.i l.loop.n _ l.loop.invariant past)
+    let f = c in
+    let s = f in
+    let past : length (run_entries f.find_run-run.result.now) ≤ c.loop-i.i =
+    omega (arith, c.loop-i-test.false, c.count_run-count.ensures) in
+    sym (fresh-end f.find_run-run.result.now c.loop-i.i c.loop-i.n _ c.loop-i.invariant past)
 
-pub count-fresh-spec : {M : Type 1} → statement M
-count-fresh-spec =
+pub count_fresh_spec : {M : Type 1} → statement M
+count_fresh_spec =
     tie.close
     (tie.spec
     invariant-loop

@@ -10,74 +10,70 @@ use Rattle.chain.proofs.Tallies.{count-few, count_turn, count-end}
 use Rattle.chain.proofs.counting.count_in_walk.Statement.{statement}
 use Rattle.chain.proofs.counting.count_in_walk.Tie as tie
 
-abbrev invariant-loop : tie.invariant-loop
+abbrev invariant-loop : tie.invariant-loop-i
 invariant-loop store blocks count hash fresh n₀ i₀ n i =
     (i ≤ count) × (n ≤ 40 * i)
     × (tally (is_match hash fresh) (bind (take count blocks) (entries_on store))
     ≡ n + tally (is_match hash fresh) (bind (drop i (take count blocks)) (entries_on store)))
 
-abbrev decreases-loop : tie.decreases-loop
+abbrev decreases-loop : tie.decreases-loop-i
 decreases-loop store blocks count hash fresh n₀ i₀ n i = count - i
 
-loop-holds : tie.Need-loop-init invariant-loop decreases-loop
+loop-holds : tie.Need-loop-i-init invariant-loop decreases-loop
 loop-holds c = (omega arith, omega arith, omega arith)
 
-page-on-requires : tie.Need-page-on-requires invariant-loop decreases-loop
-page-on-requires c κs = (c.before.before.before.requires.0, c.loop-test.true)
+page-on-requires : tie.Need-page_on-requires invariant-loop decreases-loop
+page-on-requires c κs = (c.requires.0, c.loop-i-test.true)
 
-page-sorted : (c : tie.After-page-on invariant-loop decreases-loop) → Sorted c.page-on.result.now
-page-sorted c = c.page-on.ensures.sorted c.before.before.before.before.requires.1
+page-sorted : (c : tie.After-page_on invariant-loop decreases-loop) → Sorted c.page_on.result.now
+page-sorted c = c.page_on.ensures.sorted c.requires.1
 
-count-in-page-requires : tie.Need-count-in-page-requires invariant-loop decreases-loop
+count-in-page-requires : tie.Need-count_in_page-n-requires invariant-loop decreases-loop
 count-in-page-requires c κs = page-sorted c
 
 -- a page adds at most 40
-bound : (c : tie.After-count-in-page invariant-loop decreases-loop)
-    → c.before.before.before.loop.n + c.count-in-page.result ≤ 40 * (c.before.before.before.loop.i + 1)
+bound : (c : tie.After-count_in_page-n invariant-loop decreases-loop)
+    → c.loop-i.n + c.count_in_page-n.result ≤ 40 * (c.loop-i.i + 1)
 bound c =
-    let b = c.before in
-    let l = b.before.before in
-    let s = l.before.before in
+    let l = c in
+    let s = l in
     omega (
       arith,
-      c.count-in-page.ensures,
-      count-few (page-sorted b) (is_match s.args.hash s.args.fresh),
-      l.loop.invariant.1,
+      c.count_in_page-n.ensures,
+      count-few (page-sorted c.before) (is_match s.args.hash s.args.fresh),
+      l.loop-i.invariant.1,
     )
 
-add-n : tie.Need-overflow-add-n invariant-loop decreases-loop
+add-n : tie.Need-overflow_add-n invariant-loop decreases-loop
 add-n c =
-    let l = c.before.before.before in
-    omega (arith, bound c, c.before.before.loop-test.true, l.before.before.requires.0.few)
+    omega (arith, bound c, c.loop-i-test.true, c.requires.0.few)
 
-add-i : tie.Need-overflow-add-i invariant-loop decreases-loop
+add-i : tie.Need-overflow_add-i invariant-loop decreases-loop
 add-i c = omega arith
 
-loop-less : tie.Need-loop-smaller invariant-loop decreases-loop
+loop-less : tie.Need-loop-i-smaller invariant-loop decreases-loop
 loop-less c = omega arith
 
-loop-again : tie.Need-loop-preserved invariant-loop decreases-loop
+loop-again : tie.Need-loop-i-preserved invariant-loop decreases-loop
 loop-again c =
-    let b = c.before in
-    let l = b.before.before in
-    let s = l.before.before in (
-      omega (arith, b.before.loop-test.true),
+    let l = c in
+    let s = l in (
+      omega (arith, c.loop-i-test.true),
       bound c,
-      count_turn s.requires.0 (is_match s.args.hash s.args.fresh) l.loop.i l.loop.n l.loop.invariant.2
-          b.before.loop-test.true b.page-on.ensures c.count-in-page.result c.count-in-page.ensures,
+      count_turn s.requires.0 (is_match s.args.hash s.args.fresh) l.loop-i.i l.loop-i.n l.loop-i.invariant.2
+          c.loop-i-test.true c.page_on.ensures c.count_in_page-n.result c.count_in_page-n.ensures,
     )
 
 returns : tie.Need-returns invariant-loop decreases-loop
 returns c =
-    let l = c.before in
-    let s = l.before.before in (
-      sym (count-end s.requires.0 (is_match s.args.hash s.args.fresh) l.loop.i l.loop.n l.loop.invariant.2
-          c.loop-test.false),
-      omega (arith, l.loop.invariant.0, l.loop.invariant.1),
+    let s = c in (
+      sym (count-end s.requires.0 (is_match s.args.hash s.args.fresh) c.loop-i.i c.loop-i.n c.loop-i.invariant.2
+          c.loop-i-test.false),
+      omega (arith, c.loop-i.invariant.0, c.loop-i.invariant.1),
     )
 
-pub count-in-walk-spec : {M : Type 1} → statement M
-count-in-walk-spec =
+pub count_in_walk_spec : {M : Type 1} → statement M
+count_in_walk_spec =
     tie.close
     (tie.spec
     invariant-loop

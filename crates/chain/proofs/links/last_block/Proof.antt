@@ -10,63 +10,59 @@ use Rattle.chain.proofs.Searching.{last-here, last-later, left_less, left-bounde
 use Rattle.chain.proofs.links.last_block.Statement.{statement}
 use Rattle.chain.proofs.links.last_block.Tie as tie
 
-abbrev invariant-loop : tie.invariant-loop
+abbrev invariant-loop : tie.invariant-loop-first
 invariant-loop store first block₀ block =
     (Bounded store block) × (last_of (walk store block) ≡ last_of (walk store first))
 
-abbrev decreases-loop : tie.decreases-loop
+abbrev decreases-loop : tie.decreases-loop-first
 decreases-loop store first block₀ block = length (walk store block)
 
-loop-holds : tie.Need-loop-init invariant-loop decreases-loop
-loop-holds c = (c.before.requires, refl)
+loop-holds : tie.Need-loop-first-init invariant-loop decreases-loop
+loop-holds c = (c.requires, refl)
 
 -- the block is one of the store's
-whole : (c : tie.At-loop invariant-loop decreases-loop) → 512 * c.loop.block + 512 ≤ length c.before.before.args.store.now
+whole : (c : tie.At-loop-first invariant-loop decreases-loop) → 512 * c.loop-first.block + 512 ≤ length c.args.store.now
 unfolding blocks
-whole c = omega (arith, bounded-first c.before.before.args.store.now c.loop.block c.loop.invariant.0)
+whole c = omega (arith, bounded-first c.args.store.now c.loop-first.block c.loop-first.invariant.0)
 
-cast-block-at : tie.Need-overflow-cast-block-at invariant-loop decreases-loop
+cast-block-at : tie.Need-overflow_cast-block invariant-loop decreases-loop
 cast-block-at c = omega (arith, whole c)
 
-block-at-requires : tie.Need-block-at-requires invariant-loop decreases-loop
+block-at-requires : tie.Need-block_at-requires invariant-loop decreases-loop
 block-at-requires c κs = whole c
 
-next-at-requires : tie.Need-next-at-requires invariant-loop decreases-loop
+next-at-requires : tie.Need-next_at-next-requires invariant-loop decreases-loop
 next-at-requires c κs =
-    let l = c.before in
-    ap length c.block_at.ensures ∙ length-block l.before.before.args.store.now l.loop.block (whole l)
+    ap length c.block_at.ensures ∙ length-block c.args.store.now c.loop-first.block (whole c.before)
 
-returns : tie.Need-returns invariant-loop decreases-loop
+returns : tie.Need-returns-then-next invariant-loop decreases-loop
 returns c =
-    let x = c.before in
-    let p = x.before in
-    let l = p.before in
-    sym (last-here l.before.before.args.store.now l.loop.block p.block_at.ensures x.next-at.ensures
-    c.if1.true)
-    ∙ l.loop.invariant.1
+    let p = c in
+    let l = p in
+    sym (last-here l.args.store.now l.loop-first.block p.block_at.ensures c.next_at-next.ensures
+    c.if-next.true)
+    ∙ l.loop-first.invariant.1
 
-loop-less : tie.Need-loop-smaller invariant-loop decreases-loop
+loop-less : tie.Need-loop-first-smaller invariant-loop decreases-loop
 loop-less c =
-    let x = c.before in
-    let p = x.before in
-    let l = p.before in
-    left_less l.before.before.args.store.now l.loop.block p.block_at.ensures x.next-at.ensures
-    c.if1.false l.loop.invariant.0
+    let p = c in
+    let l = p in
+    left_less l.args.store.now l.loop-first.block p.block_at.ensures c.next_at-next.ensures
+    c.if-next.false l.loop-first.invariant.0
 
-loop-again : tie.Need-loop-preserved invariant-loop decreases-loop
+loop-again : tie.Need-loop-first-preserved invariant-loop decreases-loop
 loop-again c =
-    let x = c.before in
-    let p = x.before in
-    let l = p.before in
-    let s = l.before.before.args.store.now in
-    let k = l.loop.block in
-    let i = l.loop.invariant in (
-      left-bounded s k p.block_at.ensures x.next-at.ensures c.if1.false i.0,
-      sym (last-later s k p.block_at.ensures x.next-at.ensures c.if1.false i.0) ∙ i.1,
+    let p = c in
+    let l = p in
+    let s = l.args.store.now in
+    let k = l.loop-first.block in
+    let i = l.loop-first.invariant in (
+      left-bounded s k p.block_at.ensures c.next_at-next.ensures c.if-next.false i.0,
+      sym (last-later s k p.block_at.ensures c.next_at-next.ensures c.if-next.false i.0) ∙ i.1,
     )
 
-pub last-block-spec : {M : Type 1} → statement M
-last-block-spec =
+pub last_block_spec : {M : Type 1} → statement M
+last_block_spec =
     tie.close
     (tie.spec
     invariant-loop

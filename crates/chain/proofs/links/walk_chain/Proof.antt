@@ -11,79 +11,75 @@ use Rattle.chain.proofs.Walking.{begin, turn, ended, spent}
 use Rattle.chain.proofs.links.walk_chain.Statement.{statement}
 use Rattle.chain.proofs.links.walk_chain.Tie as tie
 
-abbrev invariant-loop : tie.invariant-loop
+abbrev invariant-loop : tie.invariant-loop-count
 invariant-loop store blocks₀ first n last₀ count₀ blocks last count =
     (1 ≤ count) × (count ≤ n + 1) × (length blocks ≡ suc max_blocks)
     × (take count blocks ++ follow store (n + 1 - count) last ≡ walk store first)
 
-abbrev decreases-loop : tie.decreases-loop
+abbrev decreases-loop : tie.decreases-loop-count
 decreases-loop store blocks₀ first n last₀ count₀ blocks last count = n + 1 - count
 
-element-write-blocks : tie.Need-element-write-blocks invariant-loop decreases-loop
+element-write-blocks : tie.Need-bounds-blocks-0 invariant-loop decreases-loop
 element-write-blocks c = omega arith
 
-loop-holds : tie.Need-loop-init invariant-loop decreases-loop
+loop-holds : tie.Need-loop-count-init invariant-loop decreases-loop
 unfolding blocks
 loop-holds c =
-    let s = c.before in
-    let a = s.args in (
+    let a = c.args in (
       omega arith,
       omega arith,
-      length-set a.blocks.now 0 a.first ∙ s.requires.1,
-      begin a.store.now a.blocks.now a.first (omega (arith, s.requires.1)),
+      length-set a.blocks.now 0 a.first ∙ c.requires.1,
+      begin a.store.now a.blocks.now a.first (omega (arith, c.requires.1)),
     )
 
-next-block-requires : tie.Need-next-block-requires invariant-loop decreases-loop
-next-block-requires c κs = c.before.before.before.requires.0
+next-block-requires : tie.Need-next_block-next-requires invariant-loop decreases-loop
+next-block-requires c κs = c.requires.0
 
-mul-blocks : tie.Need-overflow-mul-blocks invariant-loop decreases-loop
+mul-blocks : tie.Need-offset_bounds-blocks-count invariant-loop decreases-loop
 unfolding blocks
-mul-blocks c = omega (arith, c.before.before.before.before.before.requires.0.few)
+mul-blocks c = omega (arith, c.requires.0.few)
 
-element-write-blocks-2 : tie.Need-element-write-blocks-2 invariant-loop decreases-loop
+element-write-blocks-2 : tie.Need-bounds-blocks-count invariant-loop decreases-loop
 unfolding blocks
-element-write-blocks-2 c = omega (arith, c.before.before.before.before.before.requires.0.few)
+element-write-blocks-2 c = omega (arith, c.requires.0.few)
 
-add-count : tie.Need-overflow-add-count invariant-loop decreases-loop
+add-count : tie.Need-overflow_add-count invariant-loop decreases-loop
 add-count c = omega arith
 
-loop-less : tie.Need-loop-smaller invariant-loop decreases-loop
+loop-less : tie.Need-loop-count-smaller invariant-loop decreases-loop
 loop-less c = omega arith
 
-loop-again : tie.Need-loop-preserved invariant-loop decreases-loop
+loop-again : tie.Need-loop-count-preserved invariant-loop decreases-loop
 unfolding blocks
 loop-again c =
-    let s = c.before.before.before.before.before in
-    let l = c.before.before.before.loop in
-    let r = c.before.next-block in
-    let few : l.count < suc max_blocks = omega (arith, s.requires.0.few) in (
+    let l = c.loop-count in
+    let r = c.next_block-next in
+    let few : l.count < suc max_blocks = omega (arith, c.requires.0.few) in (
       omega arith,
       omega arith,
       length-set l.blocks l.count r.result ∙ l.invariant.2,
-      turn s.args.store.now l.blocks l.count l.last r.result (omega arith) (omega arith) r.ensures
-          c.if1.false
+      turn c.args.store.now l.blocks l.count l.last r.result (omega arith) (omega arith) r.ensures
+          c.if-next.false
           ∙ l.invariant.3,
     )
 
-returns : tie.Need-returns invariant-loop decreases-loop
+returns : tie.Need-returns-after-loop-count invariant-loop decreases-loop
 unfolding blocks
 returns c =
-    let s = c.before.before.before in
-    let l = c.before.loop in
-    spent s.args.store.now l.blocks l.count l.last s.args.first l.invariant.2
-    (omega (arith, s.requires.0.few)) l.invariant.3 (omega arith)
+    let l = c.loop-count in
+    spent c.args.store.now l.blocks l.count l.last c.args.first l.invariant.2
+    (omega (arith, c.requires.0.few)) l.invariant.3 (omega arith)
 
-returns-2 : tie.Need-returns-2 invariant-loop decreases-loop
+returns-2 : tie.Need-returns-then-next invariant-loop decreases-loop
 unfolding blocks
 returns-2 c =
-    let s = c.before.before.before.before.before in
-    let l = c.before.before.before.loop in
-    let r = c.before.next-block in
-    ended s.args.store.now l.blocks l.count l.last s.args.first l.invariant.2
-    (omega (arith, s.requires.0.few)) l.invariant.3 r.result r.ensures c.if1.true
+    let l = c.loop-count in
+    let r = c.next_block-next in
+    ended c.args.store.now l.blocks l.count l.last c.args.first l.invariant.2
+    (omega (arith, c.requires.0.few)) l.invariant.3 r.result r.ensures c.if-next.true
 
-pub walk-chain-spec : {M : Type 1} → statement M
-walk-chain-spec =
+pub walk_chain_spec : {M : Type 1} → statement M
+walk_chain_spec =
     tie.close
     (tie.spec
     invariant-loop

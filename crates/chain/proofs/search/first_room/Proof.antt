@@ -11,82 +11,77 @@ use Rattle.chain.proofs.Searching.{room-here, room-last, room-later, left_less, 
 use Rattle.chain.proofs.search.first_room.Statement.{statement}
 use Rattle.chain.proofs.search.first_room.Tie as tie
 
-abbrev invariant-loop : tie.invariant-loop
+abbrev invariant-loop : tie.invariant-loop-page
 invariant-loop store first block₀ block =
     (Bounded store block) × (room_in store (walk store block) ≡ room_in store (walk store first))
 
-abbrev decreases-loop : tie.decreases-loop
+abbrev decreases-loop : tie.decreases-loop-page
 decreases-loop store first block₀ block = length (walk store block)
 
-loop-holds : tie.Need-loop-init invariant-loop decreases-loop
-loop-holds c = (c.before.requires, refl)
+loop-holds : tie.Need-loop-page-init invariant-loop decreases-loop
+loop-holds c = (c.requires, refl)
 
 -- the block is one of the store's
-whole : (c : tie.At-loop invariant-loop decreases-loop) → 512 * c.loop.block + 512 ≤ length c.before.before.args.store.now
+whole : (c : tie.At-loop-page invariant-loop decreases-loop) → 512 * c.loop-page.block + 512 ≤ length c.args.store.now
 unfolding blocks
-whole c = omega (arith, bounded-first c.before.before.args.store.now c.loop.block c.loop.invariant.0)
+whole c = omega (arith, bounded-first c.args.store.now c.loop-page.block c.loop-page.invariant.0)
 
-cast-block-at : tie.Need-overflow-cast-block-at invariant-loop decreases-loop
+cast-block-at : tie.Need-overflow_cast-block invariant-loop decreases-loop
 cast-block-at c = omega (arith, whole c)
 
-block-at-requires : tie.Need-block-at-requires invariant-loop decreases-loop
+block-at-requires : tie.Need-block_at-page-requires invariant-loop decreases-loop
 block-at-requires c κs = whole c
 
-page : (c : tie.After-block-at invariant-loop decreases-loop) → length c.block_at.result.now ≡ 512
+page : (c : tie.After-block_at-page invariant-loop decreases-loop) → length c.block_at-page.result.now ≡ 512
 page c =
-    let l = c.before in
-    ap length c.block_at.ensures ∙ length-block l.before.before.args.store.now l.loop.block (whole l)
+    ap length c.block_at-page.ensures ∙ length-block c.args.store.now c.loop-page.block (whole c.before)
 
-count-entries-requires : tie.Need-count-entries-requires invariant-loop decreases-loop
+count-entries-requires : tie.Need-count_entries-requires invariant-loop decreases-loop
 count-entries-requires c κs = page c
 
-returns : tie.Need-returns invariant-loop decreases-loop
+returns : tie.Need-returns-then-count_entries-lt40 invariant-loop decreases-loop
 returns c =
-    let n = c.before in
-    let p = n.before in
-    let l = p.before in
-    sym (room-here l.before.before.args.store.now l.loop.block p.block_at.ensures
-    (omega (arith, n.count_entries.ensures, c.if1.true)))
-    ∙ l.loop.invariant.1
+    let p = c in
+    let l = p in
+    sym (room-here l.args.store.now l.loop-page.block p.block_at-page.ensures
+    (omega (arith, c.count_entries.ensures, c.if-count_entries-lt40.true)))
+    ∙ l.loop-page.invariant.1
 
-next-at-requires : tie.Need-next-at-requires invariant-loop decreases-loop
+next-at-requires : tie.Need-next_at-next-requires invariant-loop decreases-loop
 next-at-requires c κs = page c.before.before
 
-returns-2 : tie.Need-returns-2 invariant-loop decreases-loop
+returns-2 : tie.Need-returns-then-next invariant-loop decreases-loop
 returns-2 c =
-    let x = c.before in
-    let n = x.before.before in
-    let p = n.before in
-    let l = p.before in
-    sym (room-last l.before.before.args.store.now l.loop.block p.block_at.ensures x.next-at.ensures
-    c.if2.true (omega (arith, n.count_entries.ensures, x.before.if1.false)))
-    ∙ l.loop.invariant.1
+    let n = c in
+    let p = n in
+    let l = p in
+    sym (room-last l.args.store.now l.loop-page.block p.block_at-page.ensures c.next_at-next.ensures
+    c.if-next.true (omega (arith, n.count_entries.ensures, c.if-count_entries-lt40.false)))
+    ∙ l.loop-page.invariant.1
 
-loop-less : tie.Need-loop-smaller invariant-loop decreases-loop
+loop-less : tie.Need-loop-page-smaller invariant-loop decreases-loop
 loop-less c =
-    let x = c.before in
-    let p = x.before.before.before in
-    let l = p.before in
-    left_less l.before.before.args.store.now l.loop.block p.block_at.ensures x.next-at.ensures
-    c.if2.false l.loop.invariant.0
+    let p = c in
+    let l = p in
+    left_less l.args.store.now l.loop-page.block p.block_at-page.ensures c.next_at-next.ensures
+    c.if-next.false l.loop-page.invariant.0
 
-loop-again : tie.Need-loop-preserved invariant-loop decreases-loop
+loop-again : tie.Need-loop-page-preserved invariant-loop decreases-loop
 loop-again c =
-    let x = c.before in
-    let n = x.before.before in
-    let p = n.before in
-    let l = p.before in
-    let s = l.before.before.args.store.now in
-    let k = l.loop.block in
-    let i = l.loop.invariant in (
-      left-bounded s k p.block_at.ensures x.next-at.ensures c.if2.false i.0,
-      sym (room-later s k p.block_at.ensures x.next-at.ensures c.if2.false i.0
-          (omega (arith, n.count_entries.ensures, x.before.if1.false)))
+    let n = c in
+    let p = n in
+    let l = p in
+    let s = l.args.store.now in
+    let k = l.loop-page.block in
+    let i = l.loop-page.invariant in (
+      left-bounded s k p.block_at-page.ensures c.next_at-next.ensures c.if-next.false i.0,
+      sym (room-later s k p.block_at-page.ensures c.next_at-next.ensures c.if-next.false i.0
+          (omega (arith, n.count_entries.ensures, c.if-count_entries-lt40.false)))
           ∙ i.1,
     )
 
-pub first-room-spec : {M : Type 1} → statement M
-first-room-spec =
+pub first_room_spec : {M : Type 1} → statement M
+first_room_spec =
     tie.close
     (tie.spec
     invariant-loop
