@@ -100,13 +100,13 @@ loop-again : tie.Need-loop-k-preserved invariant-loop decreases-loop
 loop-again c = go g.is_ahead.result refl
   where
     p : tie.After-pick-page invariant-loop decreases-loop
-    p = c.before
+    p = c.before.before
 
     g : tie.After-is_ahead invariant-loop decreases-loop
     g = p.before
 
     v : tie.In-loop-k invariant-loop decreases-loop
-    v = g.before.before
+    v = g.before.before.before
 
     l : tie.At-loop-k invariant-loop decreases-loop
     l = v.before
@@ -115,13 +115,13 @@ loop-again c = go g.is_ahead.result refl
     q = get_or l.loop-k.tree (4 * (l.loop-k.k / 2) + 1 - l.loop-k.k) 0
 
     keys : List ℕ
-    keys = l.before.before.args.keys.now
+    keys = l.args.keys.now
 
     tails : List ℕ
-    tails = l.before.before.args.tails.now
+    tails = l.args.tails.now
 
     n : ℕ
-    n = l.before.before.args.n
+    n = l.args.n
 
     up : ℕ
     up = l.loop-k.k / 2
@@ -130,15 +130,15 @@ loop-again c = go g.is_ahead.result refl
     risen-by : ℕ → Type 0
     risen-by x = Rising keys tails n (set l.loop-k.tree up x) up x (get_or keys x 0)
 
-    go : (b : Bool) → g.is_ahead.result ≡ b → risen-by p.pick.result
+    go : (b : Bool) → g.is_ahead.result ≡ b → risen-by p.pick-page.result
     go true e =
-        subst risen-by (sym (p.pick.ensures ∙ ap (λ (b : Bool). cond b l.loop-k.page q) e))
-        (subst (Rising keys tails n (set l.loop-k.tree up l.loop-k.page) up l.loop-k.page) l.loop-k.inv.key
-        (rise-here l.before.before.pre.1 l.loop-k.inv v.loop-test.taken q refl
+        subst risen-by (sym (p.pick-page.ensures ∙ ap (λ (b : Bool). cond b l.loop-k.page q) e))
+        (subst (Rising keys tails n (set l.loop-k.tree up l.loop-k.page) up l.loop-k.page) l.loop-k.invariant.key
+        (rise-here l.requires.1 l.loop-k.invariant v.loop-k-test.true q refl
         (sym g.is_ahead.ensures ∙ e)))
     go false e =
-        subst risen-by (sym (p.pick.ensures ∙ ap (λ (b : Bool). cond b l.loop-k.page q) e))
-        (rise-side l.before.before.pre.1 l.loop-k.inv v.loop-test.taken q refl
+        subst risen-by (sym (p.pick-page.ensures ∙ ap (λ (b : Bool). cond b l.loop-k.page q) e))
+        (rise-side l.requires.1 l.loop-k.invariant v.loop-k-test.true q refl
         (sym g.is_ahead.ensures ∙ e))
 
 returns : tie.Need-returns invariant-loop decreases-loop

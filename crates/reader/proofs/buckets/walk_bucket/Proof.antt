@@ -15,7 +15,7 @@ walk-chain-requires c κs = (sized c.requires.0, c.requires.2)
 returns : tie.Need-returns
 returns c =
     let k = c.requires.0 in
-    let home = c.Home-of.ensures ∙ bucket-is k c.args.b (omega (arith, c.requires.1, max-is k)) in
+    let home = c.home_of.ensures ∙ bucket-is k c.args.b (omega (arith, c.requires.1, max-is k)) in
     subst (λ (j : ℕ). Walked c.args.store.now j c.walk_chain.new.blocks c.walk_chain.result) home
     c.walk_chain.ensures
 
