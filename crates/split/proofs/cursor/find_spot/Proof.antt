@@ -20,9 +20,9 @@ skip-pages-requires : tie.Need-skip_pages-requires
 skip-pages-requires c κs =
     let r = c.requires.0 in
     let store = c.args.store.now in
-    let first = c.old_Home.result in
+    let first = c.old_home-first.result in
     let b = old_bucket (decode store) in
-    let at = c.old_Home.ensures in (
+    let at = c.old_home-first.ensures in (
       (read-within r b (old-made r) at, read-pages r b (old-made r) at, read_short r b (old-made r) at),
       subst (λ (g : Spot). SpotOn store (walk store first) g c.args.from.place) (sym c.or_first-spot.ensures)
           (first-spot store first c.args.from.page c.args.from.place (λ i. spot_on r at (c.requires.1 i))),
@@ -30,7 +30,7 @@ skip-pages-requires c κs =
 
 returns : tie.Need-returns
 returns c =
-    spot_in c.requires.0 c.old_Home.ensures c.skip_pages.ensures
+    spot_in c.requires.0 c.old_home-first.ensures c.skip_pages.ensures
 
 pub find_spot_spec : {M : Type 1} → statement M
 find_spot_spec = tie.close (tie.spec old-home-requires or-first-requires skip-pages-requires returns)

@@ -30,17 +30,17 @@ walk-copies-requires c κs =
 -- the entries from there on are the old chain's
 entries : (c : tie.After-old_home-first)
     → let s = c.args.store.now in
-    bind (walk s c.old_Home.result) (entries_on s) ≡ entries_at (decode s) (old_bucket (decode s))
+    bind (walk s c.old_home-first.result) (entries_on s) ≡ entries_at (decode s) (old_bucket (decode s))
 entries c =
     let r = c.requires.0 in
-    read-entries r (old_bucket (decode c.args.store.now)) (old-made r) c.old_Home.ensures
+    read-entries r (old_bucket (decode c.args.store.now)) (old-made r) c.old_home-first.ensures
 
 first-in-chain-requires : tie.Need-first_in_chain-requires
 first-in-chain-requires c κs =
     let r = c.requires.0 in
     let x = decode c.args.store.now in
     let b = old_bucket x in
-    let at = c.old_Home.ensures in
+    let at = c.old_home-first.ensures in
     let q = c.requires.1 in (
       (
         read-within r b (old-made r) at,
@@ -63,9 +63,9 @@ returns c =
     let e = c.first_in_chain.ensures in (
       subst (λ (es : List Entry). Seeks (movable a.copying x) es c.first_in_chain.result) (entries c.before.before.before.before.before) e.0,
       (
-        located-as {f = find_in a.store.now (walk a.store.now c.old_Home.result)} e.1.0
+        located-as {f = find_in a.store.now (walk a.store.now c.old_home-first.result)} e.1.0
             (find_at x (old_bucket x))
-            (read_found c.requires.0 (old_bucket x) (old-made c.requires.0) c.old_Home.ensures),
+            (read_found c.requires.0 (old_bucket x) (old-made c.requires.0) c.old_home-first.ensures),
         e.1.1,
       ),
     )
