@@ -1,5 +1,6 @@
 pub mod Gauge
 pub mod Ones
+pub mod OnesLaws
 pub mod PagesLaws
 pub mod QuotientLaws
 pub mod GaugeLaws
