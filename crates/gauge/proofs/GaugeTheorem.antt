@@ -33,7 +33,7 @@ use Rattle.journal.specs.Cut.{Ready}
 use Rattle.cuts.specs.Demand3Theorem.{Covered}
 use Rattle.gauge.specs.declared.GaugeAnswer.{GaugeAnswer}
 use Rattle.gauge.specs.Gauge.{quotient, pages, gauge_of, zeros, shows, gauge_on, gauge_outcome}
-use Rattle.gauge.specs.GaugeLaws.{half, half_full, empty-zero}
+use Rattle.gauge.proofs.GaugeLaws.{half, half_full, empty-zero}
 
 -- ---- of sound stores
 
