@@ -1,12 +1,19 @@
 // Cases that a program reads from its input, one on a line, with bytes in hexadecimal; every input is taken.
 #![tactic(auto)]
 
-ghost use Rattle.std.specs.Prelude.{◌+◌, ◌≤◌, ◌<◌, IfOk, length};
+ghost use Rattle.std.specs.Prelude.{◌≡◌, ◌+◌, ◌≤◌, ◌<◌, IfOk, length};
 ghost use Rattle.cases.specs.Counts.{IsPrefixLen};
 ghost use Rattle.cases.specs.Within.{Within};
 
 use std::io;
 use std::io::Read;
+
+// Zeros to read into. The contract gives their number alone: a proof above that saw each of them would spell them out.
+pub fn zeros<const N: usize>() -> [u8; N]
+    ensures { N ≡ length result }
+{
+    [0; N]
+}
 
 // Reads until `out` is full or the input ends, and answers how many bytes it put at the start of `out`.
 pub fn read_full<R: Read>(input: &mut R, out: &mut [u8]) -> io::Result<usize>

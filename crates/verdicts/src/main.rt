@@ -2,7 +2,7 @@
 #![tactic(auto)]
 
 use address::limits::MAX_BLOCKS;
-use cases::{line_end, read_bytes, read_full};
+use cases::{line_end, read_bytes, read_full, zeros};
 use image::Verdict;
 use std::io;
 use verify::verify;
@@ -22,8 +22,10 @@ fn show_verdict(rt: &impl Print, verdict: Verdict) -> io::Result<()> {
 }
 
 // A line is cut one block past the largest N, which is too many already.
+const STORE_MAX: usize = 512 * (MAX_BLOCKS + 1);
+
 fn show_store(rt: &impl Print, line: &[u8]) -> io::Result<()> {
-    let mut store = [0u8; 512 * (MAX_BLOCKS + 1)];
+    let mut store = zeros::<STORE_MAX>();
     let n = read_bytes(line, 0, &mut store);
     show_verdict(rt, verify(&store[..n]))
 }
@@ -39,7 +41,7 @@ fn run_lines(rt: &impl Print, text: &[u8]) -> io::Result<()> {
 }
 
 fn main(rt: HostRuntime) -> io::Result<()> {
-    let mut text = [0u8; 524288];
+    let mut text = zeros::<524288>();
     let n = read_full(&mut rt.stdin(), &mut text)?;
     run_lines(&rt, &text[..n])
 }
