@@ -5,7 +5,7 @@ use Rattle.std.specs.Int.Bits.{bit_xor, xor_zero_r}
 use Rattle.std.proofs.lemmas.Nat.{xor_lt, xor_shr}
 use Rattle.lists.specs.Bytes.{Bytes}
 use Rattle.endian.specs.Endian.{le32}
-use Rattle.endian.specs.EndianLaws.{Bytes-le32}
+use Rattle.endian.proofs.EndianLaws.{Bytes-le32}
 use Rattle.crc32c.specs.Crc.{polynomial, crc_bit, crc_bits, crc_byte, crc_bytes, crc_of}
 use Rattle.crc32c.specs.CrcLaws.{crc_bits-lt, crc_byte-lt, crc_bytes-lt, crc_of-append}
 use Rattle.crc32c.specs.XorLaws.{xor-cancel-left, xor-cancel-right}

@@ -5,7 +5,7 @@ use Rattle.std.proofs.Common.{sym, ap, ◌∙◌, subst, arith}
 use Rattle.lists.specs.Bytes.{Bytes}
 use Rattle.lists.specs.Block.{blocks, block}
 use Rattle.endian.specs.Endian.{u32_at}
-use Rattle.endian.specs.EndianLaws.{u32_at-take}
+use Rattle.endian.proofs.EndianLaws.{u32_at-take}
 use Rattle.model.specs.Index.{Index}
 use Rattle.model.specs.Held.{count}
 use Rattle.model.specs.WellFormed.{WF}

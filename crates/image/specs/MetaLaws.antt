@@ -15,7 +15,7 @@ use Rattle.lists.specs.Bytes.{Bytes, part, all_zero}
 use Rattle.lists.specs.BytesLaws.{Bytes-append, part_at, part-part, length_part, all_zero-replicate, replicate-all_zero}
 use Rattle.lists.specs.BytesLaws.{Bytes-replicate}
 use Rattle.endian.specs.Endian.{le16, le32, u16_at, u32_at}
-use Rattle.endian.specs.EndianLaws.{
+use Rattle.endian.proofs.EndianLaws.{
   length-le32,
   u32_at-le32,
   u16_at-le16,

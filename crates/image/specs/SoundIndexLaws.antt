@@ -9,7 +9,7 @@ use Rattle.lists.specs.ListsLaws.{and_left, and_right}
 use Rattle.lists.specs.RunLaws.{length_run}
 use Rattle.lists.specs.Block.{blocks, block}
 use Rattle.lists.specs.BlockLaws.{blocks-ext, Bytes-block}
-use Rattle.endian.specs.EndianLaws.{u32_at-lt}
+use Rattle.endian.proofs.EndianLaws.{u32_at-lt}
 use Rattle.page.specs.declared.Pair.{Pair}
 use Rattle.page.specs.declared.Entry.{Entry}
 use Rattle.page.specs.Entries.{entries_of}

@@ -9,7 +9,7 @@ use Rattle.lists.specs.Lists.{up_from}
 use Rattle.lists.specs.TestLaws.{map-run}
 use Rattle.lists.specs.Block.{block, set_block}
 use Rattle.endian.specs.Endian.{u32_at}
-use Rattle.endian.specs.EndianLaws.{u32_at-front}
+use Rattle.endian.proofs.EndianLaws.{u32_at-front}
 use Rattle.store.specs.Store.{sealed}
 use Rattle.journal.specs.Journal.{BlockStore, image, mark, page, head_bytes, head, ending, wiped, wipe}
 use Rattle.journal.specs.Journal.{image_stores, page_stores, stores}

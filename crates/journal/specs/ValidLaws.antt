@@ -7,7 +7,7 @@ use Rattle.lists.specs.ListsLaws.{and_left, and_right, and_both, eqb_yes, eqb-eq
 use Rattle.lists.specs.RunLaws.{all-get, all-put}
 use Rattle.lists.specs.Block.{blocks}
 use Rattle.endian.specs.Endian.{u32_at}
-use Rattle.endian.specs.EndianLaws.{u32_at-take}
+use Rattle.endian.proofs.EndianLaws.{u32_at-take}
 use Rattle.store.specs.Store.{checks}
 use Rattle.journal.specs.Journal.{Disk, head_of, end_of, number_in, count_in, name_in, image_in, equal, wiped}
 use Rattle.journal.specs.Journal.{head_wiped, images_good, names_below, names_differ, end_copies, holds_in, holds}

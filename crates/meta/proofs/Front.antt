@@ -8,7 +8,7 @@ use lib.Seq.{sets, sets-eq}
 use Rattle.lists.specs.Lists.{bind}
 use Rattle.lists.specs.BytesLaws.{sets-append}
 use Rattle.endian.specs.Endian.{le16, le32}
-use Rattle.endian.specs.EndianLaws.{le32-split}
+use Rattle.endian.proofs.EndianLaws.{le32-split}
 use Rattle.image.specs.declared.Meta.{Meta}
 use Rattle.image.specs.Layout.{meta_front}
 use Rattle.image.specs.MetaLaws.{length-meta_front}

@@ -11,7 +11,7 @@ use lib.ListN.{length, get_or}
 use Rattle.lists.specs.Lists.{b2n}
 use Rattle.lists.specs.Bytes.{Bytes}
 use Rattle.endian.specs.Endian.{u16_at}
-use Rattle.endian.specs.EndianLaws.{u16_at-lt}
+use Rattle.endian.proofs.EndianLaws.{u16_at-lt}
 use Rattle.page.specs.declared.Pair.{Pair}
 use Rattle.page.specs.declared.Entry.{Entry}
 use Rattle.page.specs.Pair.{before}

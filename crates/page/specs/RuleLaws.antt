@@ -14,7 +14,7 @@ use Rattle.lists.specs.RunLaws.{all-put}
 use Rattle.lists.specs.Bytes.{Bytes, part, all_zero}
 use Rattle.lists.specs.BytesLaws.{length_part, part_at, all_zero-replicate, replicate-all_zero}
 use Rattle.endian.specs.Endian.{le16, u16_at}
-use Rattle.endian.specs.EndianLaws.{length-le16, le16-read}
+use Rattle.endian.proofs.EndianLaws.{length-le16, le16-read}
 use Rattle.page.specs.declared.Entry.{Entry}
 use Rattle.page.specs.Pair.{bad_pair}
 use Rattle.page.specs.Entries.{entry_flags, encode_page, entry_at, entries_from, entries_of}

@@ -13,7 +13,7 @@ use Rattle.lists.specs.BytesLaws.{Bytes-append, Bytes-take}
 use Rattle.lists.specs.Block.{block}
 use Rattle.lists.specs.BlockLaws.{length-block, Bytes-block}
 use Rattle.endian.specs.Endian.{le32, u16_at, u32_at}
-use Rattle.endian.specs.EndianLaws.{
+use Rattle.endian.proofs.EndianLaws.{
   length-le32,
   u16_at-take,
   u32_at-shift,
