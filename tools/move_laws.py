@@ -15,7 +15,11 @@ import subprocess
 
 # crate: its modules that move.
 MOVES = {
+    "address": ["BucketLaws"],
+    "crc32c": ["InjectiveLaws"],
     "endian": ["EndianLaws"],
+    "page": ["RuleLaws", "RunPartLaws"],
+    "store": ["CheckLaws", "ChangeLaws", "FinishLaws"],
 }
 
 # Pages that tell what was so at their time, and the scripts that ran once.

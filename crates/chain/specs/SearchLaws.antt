@@ -18,7 +18,7 @@ use Rattle.page.specs.Places.{place_of}
 use Rattle.page.specs.SublistLaws.{all-each}
 use Rattle.page.specs.PlaceLaws.{place-any}
 use Rattle.page.specs.Rule.{order_ok, page_ok}
-use Rattle.page.specs.RuleLaws.{page_ok-parts}
+use Rattle.page.proofs.RuleLaws.{page_ok-parts}
 use Rattle.chain.specs.declared.Slot.{Slot}
 use Rattle.chain.specs.declared.Found.{Found}
 use Rattle.chain.specs.declared.Room.{Room}

@@ -6,7 +6,7 @@ use Rattle.lists.specs.Lists.{Each}
 use Rattle.lists.specs.Block.{block}
 use Rattle.store.specs.Store.{sealed}
 use Rattle.store.specs.Change.{Fits, commits}
-use Rattle.store.specs.ChangeLaws.{commits-ext}
+use Rattle.store.proofs.ChangeLaws.{commits-ext}
 use Rattle.model.specs.Index.{Index}
 use Rattle.model.specs.WellFormed.{Laid}
 use Rattle.image.specs.Layout.{encode_block, sealed_block, encode}

@@ -24,7 +24,7 @@ use Rattle.page.specs.declared.Entry.{Entry}
 use Rattle.page.specs.Entries.{encode_page}
 use Rattle.page.specs.PageLaws.{Bytes-encode_page}
 use Rattle.store.specs.Store.{covered, checks, number_at, checked}
-use Rattle.store.specs.CheckLaws.{covered_whole, length-sealed, covered-sealed, checks-sealed, Bytes-sealed}
+use Rattle.store.proofs.CheckLaws.{covered_whole, length-sealed, covered-sealed, checks-sealed, Bytes-sealed}
 use Rattle.model.specs.Index.{Page, Chain, no_chain, Index, chain, top_bit}
 use Rattle.model.specs.Pages.{bits_of, is_free}
 use Rattle.model.specs.WellFormed.{PageOk, MoreOk, ChainOk, Laid}

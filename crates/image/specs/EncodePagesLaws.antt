@@ -21,7 +21,7 @@ use Rattle.page.specs.declared.Entry.{Entry}
 use Rattle.page.specs.Entries.{encode_page, entries_of}
 use Rattle.page.specs.PageLaws.{number-encode_page, entries_of-encode_page}
 use Rattle.page.specs.Rule.{page_ok}
-use Rattle.page.specs.RuleLaws.{page_ok-encode_page}
+use Rattle.page.proofs.RuleLaws.{page_ok-encode_page}
 use Rattle.store.specs.Store.{prev_at, next_at, bucket_at, flags_at, id_at, covered}
 use Rattle.model.specs.Index.{Page, Index, chain, top_bit}
 use Rattle.model.specs.WellFormed.{PageOk, Laid, WF}

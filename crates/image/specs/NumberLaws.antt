@@ -21,7 +21,7 @@ use Rattle.lists.specs.BlockLaws.{length-block, length-set_block, block_same, bl
 use Rattle.endian.specs.Endian.{u32_at}
 use Rattle.endian.proofs.EndianLaws.{u32_at-lt}
 use Rattle.store.specs.Store.{check_of, checks, number_at, checked}
-use Rattle.store.specs.CheckLaws.{checks-elsewhere}
+use Rattle.store.proofs.CheckLaws.{checks-elsewhere}
 use Rattle.store.specs.InjectiveLaws.{check_of-number-inj, check_of-place-inj}
 use Rattle.image.specs.Decode.{read_meta, decode}
 use Rattle.image.specs.Rules.{damaged, judge, lowest_damaged, verdict}

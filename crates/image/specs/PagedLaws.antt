@@ -25,7 +25,7 @@ use Rattle.store.specs.TrailerLaws.{
   id_at-trailer,
   trailer-read,
 }
-use Rattle.store.specs.CheckLaws.{u16_at-covered}
+use Rattle.store.proofs.CheckLaws.{u16_at-covered}
 use Rattle.image.specs.Layout.{paged, blank}
 use Rattle.image.specs.Rules.{unused}
 

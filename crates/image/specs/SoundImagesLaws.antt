@@ -17,7 +17,7 @@ use Rattle.address.specs.Address.{last_split, point, bit_block}
 use Rattle.address.specs.Role.{Role, meta, bucket_page, bit_page, unmade, RoleIs}
 use Rattle.page.specs.Entries.{encode_page}
 use Rattle.store.specs.Store.{prev_at, next_at, bucket_at, flags_at, id_at, covered, number_at}
-use Rattle.store.specs.CheckLaws.{sealed-body, block-checked}
+use Rattle.store.proofs.CheckLaws.{sealed-body, block-checked}
 use Rattle.model.specs.Index.{Chain, Index, chain}
 use Rattle.model.specs.Held.{count}
 use Rattle.model.specs.WellFormed.{uses}

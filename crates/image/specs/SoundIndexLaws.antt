@@ -15,7 +15,7 @@ use Rattle.page.specs.declared.Entry.{Entry}
 use Rattle.page.specs.Entries.{entries_of}
 use Rattle.page.specs.EntriesLaws.{length-entries_of}
 use Rattle.page.specs.Rule.{page_ok}
-use Rattle.page.specs.RuleLaws.{page_ok-allowed}
+use Rattle.page.proofs.RuleLaws.{page_ok-allowed}
 use Rattle.model.specs.Index.{no_chain, Index, chain, entries_at, bucket, new_bucket, old_bucket}
 use Rattle.model.specs.WellFormed.{PageOk, MoreOk, ChainOk, Laid, PlacedIn, WF}
 use Rattle.model.specs.ChainOkLaws.{no_chain-ok}

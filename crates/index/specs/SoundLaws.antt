@@ -7,7 +7,7 @@ use Rattle.lists.specs.Block.{block}
 use Rattle.store.specs.declared.Change.{Change}
 use Rattle.store.specs.Change.{Fits}
 use Rattle.store.specs.Finish.{finished}
-use Rattle.store.specs.FinishLaws.{finished-none}
+use Rattle.store.proofs.FinishLaws.{finished-none}
 use Rattle.model.specs.declared.Answer.{Answer}
 use Rattle.model.specs.declared.Stop.{Stop}
 use Rattle.model.specs.declared.WorkAnswer.{WorkAnswer}

@@ -10,8 +10,8 @@ use Rattle.store.specs.declared.Change.{Change}
 use Rattle.store.specs.Store.{number_at}
 use Rattle.store.specs.Change.{commits, seals}
 use Rattle.store.specs.Finish.{finished_as, finished}
-use Rattle.store.specs.ChangeLaws.{length-seals, length-commits}
-use Rattle.store.specs.FinishLaws.{finished-none}
+use Rattle.store.proofs.ChangeLaws.{length-seals, length-commits}
+use Rattle.store.proofs.FinishLaws.{finished-none}
 use Rattle.journal.specs.Journal.{Disk, disk, BlockStore, head, ending, wiped, run}
 use Rattle.journal.specs.Altered.{altered, stores_to, written}
 use Rattle.journal.specs.Planned.{plan_in, plan_to, plan_over, plan_count, plan_name, plan_stores}

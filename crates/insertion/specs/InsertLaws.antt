@@ -6,7 +6,7 @@ use Rattle.std.proofs.Math.Option.{Option, some}
 use Rattle.lists.specs.Lists.{any}
 use Rattle.lists.specs.ListsLaws.{zero-any}
 use Rattle.address.specs.Address.{bucket_of}
-use Rattle.address.specs.BucketLaws.{bucket-le}
+use Rattle.address.proofs.BucketLaws.{bucket-le}
 use Rattle.page.specs.declared.Pair.{Pair}
 use Rattle.page.specs.Pair.{is}
 use Rattle.store.specs.declared.Change.{Change}

@@ -15,7 +15,7 @@ use Rattle.lists.specs.BlockLaws.{length-block}
 use Rattle.store.specs.Store.{number_at}
 use Rattle.store.specs.Change.{commits}
 use Rattle.store.specs.CopyLaws.{Copying, copies-ext}
-use Rattle.store.specs.ChangeLaws.{commits-zero}
+use Rattle.store.proofs.ChangeLaws.{commits-zero}
 use Rattle.journal.specs.Journal.{Disk, BlockStore, image, mark, page, equal, run}
 use Rattle.journal.specs.Journal.{head, ending, wipe, image_stores, page_stores, stores}
 use Rattle.journal.specs.Altered.{altered, images_of, stores_in, stores_to, written}

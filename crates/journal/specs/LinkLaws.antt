@@ -13,7 +13,7 @@ use Rattle.endian.specs.Endian.{le32}
 use Rattle.store.specs.Store.{sealed}
 use Rattle.store.specs.Change.{commits, Fits}
 use Rattle.store.specs.CopyLaws.{find_at_lem}
-use Rattle.store.specs.ChangeLaws.{block-commits, block-commits-rest, length-commits}
+use Rattle.store.proofs.ChangeLaws.{block-commits, block-commits-rest, length-commits}
 use Rattle.journal.specs.Journal.{head_bytes, head, ending, wiped, stores}
 use Rattle.journal.specs.Altered.{altered, images_of}
 use Rattle.journal.specs.Planned.{plan_to}

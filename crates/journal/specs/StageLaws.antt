@@ -10,7 +10,7 @@ use Rattle.lists.specs.Block.{blocks, block, set_block}
 use Rattle.lists.specs.BlockLaws.{length-block, length-set_block, block_same, block-other}
 use Rattle.store.specs.Store.{checks}
 use Rattle.store.specs.Change.{copies, commits}
-use Rattle.store.specs.CheckLaws.{checks-sealed}
+use Rattle.store.proofs.CheckLaws.{checks-sealed}
 use Rattle.store.specs.CopyLaws.{Copying, length-copies, block-copies, block-copies-rest}
 use Rattle.journal.specs.Journal.{Disk, run, head_of, end_of, number_in, count_in, name_in, image_in}
 use Rattle.journal.specs.Journal.{head_bytes, head, ending, wiped, image_stores, holds, recover}

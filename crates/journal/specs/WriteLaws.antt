@@ -15,7 +15,7 @@ use Rattle.endian.specs.Endian.{le32}
 use Rattle.endian.proofs.EndianLaws.{length-le32}
 use Rattle.crc32c.specs.Crc.{crc_of}
 use Rattle.store.specs.Store.{covered, check_of, sealed}
-use Rattle.store.specs.CheckLaws.{sealed-body, sets-check}
+use Rattle.store.proofs.CheckLaws.{sealed-body, sets-check}
 use Rattle.journal.specs.Journal.{head_bytes, wiped}
 
 -- a wiped head: zeros, and their check, computed

@@ -6,7 +6,7 @@ use Rattle.lists.specs.Lists.{b2n, any, tally, keep, find}
 use Rattle.lists.specs.ListsLaws.{eqb_yes, eqb-eq, tally-append, tally-keep, tally-cong, tally-le, any-no, any-yes}
 use Rattle.lists.specs.ListsLaws.{zero-any, find-no, find-yes}
 use Rattle.address.specs.MaskLaws.{split-lt}
-use Rattle.address.specs.BucketLaws.{bucket-le}
+use Rattle.address.proofs.BucketLaws.{bucket-le}
 use Rattle.page.specs.declared.Pair.{Pair}
 use Rattle.page.specs.declared.Entry.{Entry}
 use Rattle.page.specs.Pair.{is}

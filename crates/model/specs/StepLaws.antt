@@ -7,7 +7,7 @@ use Prim.Native.Nat.{ℕ, suc, ◌+◌, ◌≤◌, ◌<◌}
 use Rattle.lists.specs.Lists.{b2n, any, tally, find}
 use Rattle.lists.specs.ListsLaws.{and_left, and_right, not_yes, eqb-eq, any-no, find-yes}
 use Rattle.address.specs.Address.{bucket_of, split_from}
-use Rattle.address.specs.BucketLaws.{bucket-le, bucket-stays, bucket-splits}
+use Rattle.address.proofs.BucketLaws.{bucket-le, bucket-stays, bucket-splits}
 use Rattle.page.specs.declared.Pair.{Pair}
 use Rattle.page.specs.declared.Entry.{Entry}
 use Rattle.page.specs.Pair.{same, is}

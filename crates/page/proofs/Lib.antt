@@ -1,2 +1,4 @@
 pub mod Bisect
 pub mod Turns
+pub mod RuleLaws
+pub mod RunPartLaws

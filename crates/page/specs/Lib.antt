@@ -17,7 +17,5 @@ pub mod GapLaws
 pub mod EditLaws
 pub mod Rule
 pub mod Allowed
-pub mod RuleLaws
-pub mod RunPartLaws
 pub mod RunExamples
 pub mod AllowedLaws

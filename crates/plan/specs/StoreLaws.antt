@@ -9,7 +9,7 @@ use Rattle.address.specs.Address.{last_split}
 use Rattle.page.specs.Entries.{encode_page}
 use Rattle.store.specs.Store.{covered, checked}
 use Rattle.store.specs.Finish.{Sealed}
-use Rattle.store.specs.FinishLaws.{sealed-checked}
+use Rattle.store.proofs.FinishLaws.{sealed-checked}
 use Rattle.model.specs.Index.{Page, Chain, Index, chain}
 use Rattle.model.specs.WellFormed.{MoreOk, ChainOk}
 use Rattle.image.specs.declared.Meta.{Meta}

@@ -12,7 +12,7 @@ use Rattle.page.specs.Pair.{is}
 use Rattle.page.specs.Entries.{entries_of}
 use Rattle.page.specs.Rule.{page_ok}
 use Rattle.page.specs.Allowed.{Sorted}
-use Rattle.page.specs.RuleLaws.{page_ok-sorted}
+use Rattle.page.proofs.RuleLaws.{page_ok-sorted}
 use Rattle.page.specs.SublistLaws.{all-each, each-get_or}
 use Rattle.store.specs.Flags.{no_link}
 use Rattle.model.specs.Index.{Page, Chain, Index, chain, entries_at}

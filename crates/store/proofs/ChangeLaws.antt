@@ -8,7 +8,7 @@ use Rattle.lists.specs.Block.{block, set_block}
 use Rattle.lists.specs.BlockLaws.{length-block}
 use Rattle.store.specs.Store.{sealed}
 use Rattle.store.specs.Change.{Fits, commits, stored, seals}
-use Rattle.store.specs.CheckLaws.{length-sealed}
+use Rattle.store.proofs.CheckLaws.{length-sealed}
 use Rattle.store.specs.CopyLaws.{
   Copying,
   find_at_lem,

@@ -12,8 +12,8 @@ use Rattle.lists.specs.BlockLaws.{length-block, length-bind, block-bind}
 use Rattle.store.specs.declared.Change.{Change}
 use Rattle.store.specs.Store.{sealed, number_at, checked}
 use Rattle.store.specs.Change.{commits, seals}
-use Rattle.store.specs.CheckLaws.{length-sealed, block-checked}
-use Rattle.store.specs.ChangeLaws.{commits-zero}
+use Rattle.store.proofs.CheckLaws.{length-sealed, block-checked}
+use Rattle.store.proofs.ChangeLaws.{commits-zero}
 use Rattle.store.specs.Finish.{finished_as, finished, resealed, Sealed}
 
 -- ---- n images, one after the other

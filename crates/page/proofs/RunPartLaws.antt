@@ -27,7 +27,7 @@ use Rattle.page.specs.SublistLaws.{sublist-keep, each_keep}
 use Rattle.page.specs.AscendingLaws.{ascending-sublist}
 use Rattle.page.specs.PageLaws.{encode_entries}
 use Rattle.page.specs.Rule.{flags_ok, numbers_ok, order_ok, page_ok}
-use Rattle.page.specs.RuleLaws.{page_ok-parts, page_ok-sorted, number-le, encode-entries_from}
+use Rattle.page.proofs.RuleLaws.{page_ok-parts, page_ok-sorted, number-le, encode-entries_from}
 use Rattle.page.specs.Allowed.{Sorted, OneCode}
 
 -- ---- the entries of a run, by number
