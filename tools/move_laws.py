@@ -18,7 +18,7 @@ MOVES = {
     "address": ["BucketLaws"],
     "crc32c": ["InjectiveLaws"],
     "endian": ["EndianLaws"],
-    "page": ["RuleLaws", "RunPartLaws"],
+    "page": ["RuleLaws", "RunPartLaws", "RunLaws"],
     "store": ["CheckLaws", "ChangeLaws", "FinishLaws"],
 }
 

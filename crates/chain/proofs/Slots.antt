@@ -15,7 +15,7 @@ use Rattle.page.specs.Entries.{read_entry, entries_of}
 use Rattle.page.specs.Places.{place_of, run_entries}
 use Rattle.page.specs.Run.{has_code, run_start, run_of}
 use Rattle.page.specs.PlaceLaws.{place-any}
-use Rattle.page.specs.RunLaws.{place-run, any-run}
+use Rattle.page.proofs.RunLaws.{place-run, any-run}
 use Rattle.page.proofs.RunPartLaws.{get_or-run_entries, run-entries, run-one}
 use Rattle.page.specs.Rule.{order_ok}
 use Rattle.page.specs.Allowed.{Sorted}

@@ -22,7 +22,7 @@ use Rattle.page.specs.EntriesLaws.{length-entries_of, get_or-entries_of}
 use Rattle.page.specs.PairLaws.{Order, less, equal, more, order, before-hash}
 use Rattle.page.specs.PlaceLaws.{place-le, place-above, place-below}
 use Rattle.page.specs.SublistLaws.{each-get_or}
-use Rattle.page.specs.RunLaws.{lowest, run_start-place, run_end, before-place}
+use Rattle.page.proofs.RunLaws.{lowest, run_start-place, run_end, before-place}
 use Rattle.page.proofs.RunPartLaws.{get_or-run_entries}
 use Rattle.page.specs.Rule.{order_ok}
 use Rattle.page.specs.Allowed.{Sorted, OneCode}

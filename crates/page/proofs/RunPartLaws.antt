@@ -22,7 +22,7 @@ use Rattle.page.specs.EntriesLaws.{length-entries_from, get_or-entries_from, len
 use Rattle.page.specs.Run.{has_code, run_start, run_length, run_of, bytes_with_code}
 use Rattle.page.specs.Places.{run_entries}
 use Rattle.page.specs.EntryLaws.{read_entry-part}
-use Rattle.page.specs.RunLaws.{run-le, run-get_or}
+use Rattle.page.proofs.RunLaws.{run-le, run-get_or}
 use Rattle.page.specs.SublistLaws.{sublist-keep, each_keep}
 use Rattle.page.specs.AscendingLaws.{ascending-sublist}
 use Rattle.page.specs.PageLaws.{encode_entries}

@@ -11,7 +11,6 @@ pub mod EntriesLaws
 pub mod PageLaws
 pub mod SlotLaws
 pub mod PlaceLaws
-pub mod RunLaws
 pub mod Gap
 pub mod GapLaws
 pub mod EditLaws
