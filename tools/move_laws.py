@@ -18,6 +18,10 @@ MOVES = {
     "address": ["BucketLaws"],
     "crc32c": ["InjectiveLaws"],
     "endian": ["EndianLaws"],
+    "journal": [
+        "LoopLaws", "PlanLaws", "ValidLaws", "RecoverLaws", "LookLaws", "StageLaws", "CrashLaws", "WholeLaws", "AlteredLaws",
+        "PlannedLaws", "LinkLaws", "BecomesLaws", "CrashTheorem", "WrittenLaws",
+    ],
     "page": ["RuleLaws", "RunPartLaws", "RunLaws"],
     "store": ["CheckLaws", "ChangeLaws", "FinishLaws"],
 }

@@ -16,7 +16,7 @@ use Rattle.outcomes.specs.OutcomeMachineLaws.{simulates}
 use Rattle.outcomes.specs.Demand3Theorem.{demand3-stores}
 use Rattle.journal.specs.Journal.{Disk}
 use Rattle.journal.specs.Cut.{Ready}
-use Rattle.journal.specs.RecoverLaws.{recover-store}
+use Rattle.journal.proofs.RecoverLaws.{recover-store}
 use Rattle.cuts.specs.Journalled.{run_disk}
 use Rattle.cuts.specs.Events.{recovered, Happens}
 use Rattle.cuts.specs.EventLaws.{after_calls, after-sound, Follows, follows-ready, follows_same, last-state}

@@ -20,10 +20,10 @@ use Rattle.outcomes.specs.OutcomeHistoryLaws.{keeps-call}
 use Rattle.journal.specs.Journal.{Disk, BlockStore, copy_stores, wipe, run, recover, recovery_stores}
 use Rattle.journal.specs.Altered.{change_stores}
 use Rattle.journal.specs.Cut.{Cut, Whole, Ready, Becomes}
-use Rattle.journal.specs.ValidLaws.{equal-eq, equal-yes, wiped-fails}
+use Rattle.journal.proofs.ValidLaws.{equal-eq, equal-yes, wiped-fails}
 use Rattle.journal.specs.CutLaws.{cut_keeps}
-use Rattle.journal.specs.RecoverLaws.{recover-ready, recover-store, mend, whole-stores}
-use Rattle.journal.specs.BecomesLaws.{Leaves, leaves}
+use Rattle.journal.proofs.RecoverLaws.{recover-ready, recover-store, mend, whole-stores}
+use Rattle.journal.proofs.BecomesLaws.{Leaves, leaves}
 use Rattle.cuts.specs.Journalled.{run_disk}
 use Rattle.cuts.specs.Events.{OneChange, recovered, landed, steps_done, Goes, ran, waited, cut, cut_step, recovers}
 use Rattle.cuts.specs.Events.{cut_recovery, wipes, cut_wipe, Happens, over, and}

@@ -18,9 +18,9 @@ use Rattle.journal.specs.Altered.{altered, images_of, change_stores, written}
 use Rattle.journal.specs.Cut.{Cut, Torn, between, inside, later, Whole, Ready, Becomes}
 use Rattle.journal.specs.Planned.{plan_to, plan_over, plan_count, plan_store}
 use Rattle.journal.specs.CopyLaws.{each-run}
-use Rattle.journal.specs.AlteredLaws.{altered-below, stores_to-none, stores_to-some, length-stores_to}
-use Rattle.journal.specs.PlannedLaws.{length-plan_over, count-plan_over, plan_stores-to}
-use Rattle.journal.specs.BecomesLaws.{leaves}
+use Rattle.journal.proofs.AlteredLaws.{altered-below, stores_to-none, stores_to-some, length-stores_to}
+use Rattle.journal.proofs.PlannedLaws.{length-plan_over, count-plan_over, plan_stores-to}
+use Rattle.journal.proofs.BecomesLaws.{leaves}
 use Rattle.cuts.specs.Halves.{place_of, place_ok, store_ok, store_in, Stored, store_outcome}
 use Rattle.cuts.specs.InOrder.{do_stores, AllDone, InOrder}
 

@@ -23,7 +23,7 @@ use Rattle.outcomes.specs.OutcomeIndexLaws.{step-alike}
 use Rattle.outcomes.specs.OutcomeSoundLaws.{passed-encodes}
 use Rattle.journal.specs.Journal.{Disk}
 use Rattle.journal.specs.Cut.{Ready, Becomes}
-use Rattle.journal.specs.CrashTheorem.{whole}
+use Rattle.journal.proofs.CrashTheorem.{whole}
 use Rattle.cuts.specs.Journalled.{Journalled, journalled, change_on, insert_journalled}
 use Rattle.cuts.specs.Journalled.{remove_journalled, step_to, step_journalled, WorkJournalled, work_on}
 use Rattle.cuts.specs.Journalled.{work_journalled}

@@ -14,8 +14,8 @@ use Rattle.outcomes.specs.OutcomeMachineLaws.{simulates}
 use Rattle.journal.specs.Journal.{Disk}
 use Rattle.journal.specs.Altered.{altered, change_stores}
 use Rattle.journal.specs.Cut.{Becomes}
-use Rattle.journal.specs.AlteredLaws.{altered-none}
-use Rattle.journal.specs.CrashTheorem.{count}
+use Rattle.journal.proofs.AlteredLaws.{altered-none}
+use Rattle.journal.proofs.CrashTheorem.{count}
 use Rattle.cuts.specs.Events.{OneChange}
 use Rattle.cuts.specs.EightTheorem.{change-touches, step-touches-store}
 use Rattle.cuts.specs.BecomesLaws.{becomes-call, becomes-step}

@@ -16,7 +16,7 @@ use Rattle.outcomes.specs.Refusals.{call_numbers_ok, refused_as}
 use Rattle.outcomes.specs.OutcomeLaws.{tested-length, tested-number, refusal-leaves}
 use Rattle.journal.specs.Journal.{Disk, sixteen, head_wiped}
 use Rattle.journal.specs.Cut.{Ready}
-use Rattle.journal.specs.ValidLaws.{head_wiped-yes, head_wiped-eq}
+use Rattle.journal.proofs.ValidLaws.{head_wiped-yes, head_wiped-eq}
 use Rattle.cuts.specs.Journalled.{tested_in, tested_with, change_on, insert_journalled, remove_journalled}
 use Rattle.cuts.specs.Journalled.{step_journalled, work_on, work_journalled, squeeze_journalled, run_disk}
 use Rattle.cuts.specs.Events.{Kept}

@@ -28,7 +28,7 @@ use Rattle.outcomes.specs.OutcomeLaws.{step-read}
 use Rattle.plan.specs.declared.Advance.{Advance}
 use Rattle.journal.specs.Journal.{Disk, disk}
 use Rattle.journal.specs.Altered.{written}
-use Rattle.journal.specs.CrashTheorem.{idle}
+use Rattle.journal.proofs.CrashTheorem.{idle}
 use Rattle.cuts.specs.Journalled.{journalled, step_to, step_journalled, worked_by}
 use Rattle.plan.specs.Plan.{Plans, Settles, accepted, declined, Advances, advanced, halted}
 use Rattle.plan.specs.PlanLaws.{fits-none}

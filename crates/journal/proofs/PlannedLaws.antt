@@ -10,8 +10,8 @@ use Rattle.journal.specs.Altered.{altered, images_of, stores_to}
 use Rattle.journal.specs.Planned.{plan_in, plan_to, plan_over, plan_count, plan_name, plan_stores}
 use Rattle.journal.specs.PartLaws.{block-front}
 use Rattle.journal.specs.HeadLaws.{length-head, length-ending, length-wiped}
-use Rattle.journal.specs.AlteredLaws.{altered-below, length-images_of, stores_to-some}
-use Rattle.journal.specs.PlanLaws.{count-plan, name-plan, plan_stores-plan, stores-cong}
+use Rattle.journal.proofs.AlteredLaws.{altered-below, length-images_of, stores_to-some}
+use Rattle.journal.proofs.PlanLaws.{count-plan, name-plan, plan_stores-plan, stores-cong}
 
 pub plan_to-some : (number : ℕ) (s t : List ℕ) → 1 ≤ length (altered s t)
     → plan_to number s t

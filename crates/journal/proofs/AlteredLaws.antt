@@ -20,7 +20,7 @@ use Rattle.journal.specs.Journal.{Disk, BlockStore, image, mark, page, equal, ru
 use Rattle.journal.specs.Journal.{head, ending, wipe, image_stores, page_stores, stores}
 use Rattle.journal.specs.Altered.{altered, images_of, stores_in, stores_to, written}
 use Rattle.journal.specs.PartLaws.{block-first, block-next}
-use Rattle.journal.specs.ValidLaws.{equal-eq, equal-yes}
+use Rattle.journal.proofs.ValidLaws.{equal-eq, equal-yes}
 
 -- ---- the numbers of a run that pass a test
 

@@ -10,7 +10,7 @@ use Rattle.journal.specs.Journal.{Disk, disk, BlockStore, image, mark, do_store,
 use Rattle.journal.specs.Journal.{image_stores, page_stores, stores}
 use Rattle.journal.specs.Altered.{altered, images_of, stores_to, written}
 use Rattle.journal.specs.CopyLaws.{run-append, run-pages}
-use Rattle.journal.specs.AlteredLaws.{commits-to, altered-none, stores_to-none, stores_to-some}
+use Rattle.journal.proofs.AlteredLaws.{commits-to, altered-none, stores_to-none, stores_to-some}
 
 -- images leave the store
 images-leave : (images : List ℕ) (i n : ℕ) (d : Disk) → (run (image_stores images i n) d).store ≡ d.store

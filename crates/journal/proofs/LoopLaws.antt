@@ -4,7 +4,7 @@ use Rattle.std.proofs.Common.{sym, ap, arith, below_more, ext_get_or}
 use Rattle.lists.specs.Lists.{all, up_from}
 use Rattle.lists.specs.RunLaws.{all-get, all-put}
 use Rattle.journal.specs.Journal.{equal}
-use Rattle.journal.specs.ValidLaws.{equal-eq, equal-yes}
+use Rattle.journal.proofs.ValidLaws.{equal-eq, equal-yes}
 
 abbrev pub Passed : (ℕ → Bool) → ℕ → Type 0
 Passed t i = (k : ℕ) → k < i → t k ≡ true

@@ -18,8 +18,8 @@ use Rattle.journal.specs.Journal.{head, ending, wiped, wipe, image_stores, page_
 use Rattle.journal.specs.Cut.{Cut, between, inside, later, Ready}
 use Rattle.journal.specs.CopyLaws.{Agree, agree_refl, agree-put, agree-copies, run-pages, each-run}
 use Rattle.journal.specs.CutLaws.{Keeps, cut_keeps, Either, first, second, cut-append}
-use Rattle.journal.specs.ValidLaws.{head-fails, end-fails}
-use Rattle.journal.specs.RecoverLaws.{
+use Rattle.journal.proofs.ValidLaws.{head-fails, end-fails}
+use Rattle.journal.proofs.RecoverLaws.{
   recover-no,
   recover-store,
   Ends,
@@ -30,7 +30,7 @@ use Rattle.journal.specs.RecoverLaws.{
   Pending,
   pending-recovers,
 }
-use Rattle.journal.specs.StageLaws.{
+use Rattle.journal.proofs.StageLaws.{
   Changes,
   with_images,
   with_head,

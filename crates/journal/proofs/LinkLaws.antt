@@ -18,8 +18,8 @@ use Rattle.journal.specs.Journal.{head_bytes, head, ending, wiped, stores}
 use Rattle.journal.specs.Altered.{altered, images_of}
 use Rattle.journal.specs.Planned.{plan_to}
 use Rattle.journal.specs.PartLaws.{block-take}
-use Rattle.journal.specs.AlteredLaws.{altered-below, altered-ascending, altered-differs, altered-missed, length-images_of, block-images_of}
-use Rattle.journal.specs.PlannedLaws.{plan_to-some}
+use Rattle.journal.proofs.AlteredLaws.{altered-below, altered-ascending, altered-differs, altered-missed, length-images_of, block-images_of}
+use Rattle.journal.proofs.PlannedLaws.{plan_to-some}
 
 -- ---- two ascending lists of the same numbers are one
 

@@ -25,8 +25,8 @@ use Rattle.journal.specs.HeadLaws.{
   length-head,
   length-ending,
 }
-use Rattle.journal.specs.ValidLaws.{Held, held-holds}
-use Rattle.journal.specs.RecoverLaws.{recover-no, recover-yes}
+use Rattle.journal.proofs.ValidLaws.{Held, held-holds}
+use Rattle.journal.proofs.RecoverLaws.{recover-no, recover-yes}
 
 -- a change of the first n of `numbers`, ascending, with its images, of a store of m blocks
 pub record Changes (d : Disk) (m number : ℕ) (numbers images : List ℕ) (n : ℕ) : Type 0 where

@@ -30,7 +30,7 @@ use Rattle.journal.specs.CopyLaws.{
 }
 use Rattle.journal.specs.CutLaws.{Keeps, cut_keeps, Either, first, second, cut-append}
 use Rattle.journal.specs.HeadLaws.{length-wiped}
-use Rattle.journal.specs.ValidLaws.{Held, holds-held, held-holds, wiped-fails, head-fails}
+use Rattle.journal.proofs.ValidLaws.{Held, holds-held, held-holds, wiped-fails, head-fails}
 
 copied : Disk → List ℕ
 copied d = copies d.store (name_in d.journal) (image_in d.journal) (count_in d.journal)

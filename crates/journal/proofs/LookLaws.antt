@@ -11,7 +11,7 @@ use Rattle.store.specs.CopyLaws.{block-copies, block-copies-rest}
 use Rattle.journal.specs.Journal.{Disk, count_in, name_in, image_in, holds, recover, image_for, look_at, look}
 use Rattle.journal.specs.Cut.{Whole}
 use Rattle.journal.specs.CopyLaws.{find-misses}
-use Rattle.journal.specs.RecoverLaws.{recover-no, recover-yes, copying}
+use Rattle.journal.proofs.RecoverLaws.{recover-no, recover-yes, copying}
 
 -- a block is shown as recovery will leave it
 pub look-recovers : {m : ℕ} {d : Disk} → Whole m d → (k : ℕ) → k < m → look d k ≡ block (recover d).store k

@@ -8,10 +8,10 @@ use Rattle.store.specs.Store.{number_at}
 use Rattle.journal.specs.Journal.{Disk, recover, look}
 use Rattle.journal.specs.Altered.{altered, change_stores, written}
 use Rattle.journal.specs.Cut.{Cut, Tries, Whole, Ready, Becomes}
-use Rattle.journal.specs.RecoverLaws.{recover-ready, recover-twice, mends}
-use Rattle.journal.specs.LookLaws.{look-recovers}
-use Rattle.journal.specs.AlteredLaws.{stores_to-none, length-stores_to, written_same}
-use Rattle.journal.specs.BecomesLaws.{leaves, written-store, written-ready}
+use Rattle.journal.proofs.RecoverLaws.{recover-ready, recover-twice, mends}
+use Rattle.journal.proofs.LookLaws.{look-recovers}
+use Rattle.journal.proofs.AlteredLaws.{stores_to-none, length-stores_to, written_same}
+use Rattle.journal.proofs.BecomesLaws.{leaves, written-store, written-ready}
 
 -- A change of d's store to t, beside a journal with wiped head, is cut when k of its block stores are done. Then its
 -- recovery may be cut too, any number of times; g is what the last recovery leaves.

@@ -6,11 +6,11 @@ use Rattle.store.specs.Change.{commits}
 use Rattle.journal.specs.Journal.{Disk, BlockStore, run, stores, recover}
 use Rattle.journal.specs.Altered.{altered, images_of, change_stores, written}
 use Rattle.journal.specs.Cut.{Cut, between, Whole, Ready, Becomes}
-use Rattle.journal.specs.RecoverLaws.{recover-store}
-use Rattle.journal.specs.StageLaws.{Changes}
-use Rattle.journal.specs.CrashLaws.{cut-either, cut-late}
-use Rattle.journal.specs.WholeLaws.{cut-whole, run_store_lem, run-ready}
-use Rattle.journal.specs.AlteredLaws.{
+use Rattle.journal.proofs.RecoverLaws.{recover-store}
+use Rattle.journal.proofs.StageLaws.{Changes}
+use Rattle.journal.proofs.CrashLaws.{cut-either, cut-late}
+use Rattle.journal.proofs.WholeLaws.{cut-whole, run_store_lem, run-ready}
+use Rattle.journal.proofs.AlteredLaws.{
   altered-below,
   altered-ascending,
   length-images_of,

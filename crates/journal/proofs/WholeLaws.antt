@@ -16,7 +16,7 @@ use Rattle.journal.specs.Cut.{Cut, Whole, Ready}
 use Rattle.journal.specs.CopyLaws.{run-append, each-run}
 use Rattle.journal.specs.CutLaws.{Keeps, cut_keeps}
 use Rattle.journal.specs.HeadLaws.{length-wiped, length-head, length-ending}
-use Rattle.journal.specs.StageLaws.{
+use Rattle.journal.proofs.StageLaws.{
   Changes,
   with_head,
   with_end,
@@ -25,7 +25,7 @@ use Rattle.journal.specs.StageLaws.{
   length-filled,
   images-run,
 }
-use Rattle.journal.specs.CrashLaws.{pages-run}
+use Rattle.journal.proofs.CrashLaws.{pages-run}
 
 module _ {d : Disk} {m number : ℕ} {numbers images : List ℕ} {n : ℕ} (r : Ready d)
     (c : Changes d m number numbers images n) where
