@@ -40,15 +40,12 @@ loop-again c =
 
 bit-of-requires : tie.Need-bit_of-requires invariant-loop decreases-loop
 bit-of-requires c κs =
-    let e = c in
-    (e.requires.0, omega (arith, c.loop-n-test.true, e.ones_end-end.ensures.1))
+    (c.requires.0, omega (arith, c.loop-n-test.true, c.ones_end-end.ensures.1))
 
 returns : tie.Need-returns-then-bit_of-eq0 invariant-loop decreases-loop
 returns c =
-    let i = c in
-    let l = i in
-    let map = l.args.map.now in
-    sym (l.loop-n.invariant.1 ∙ ones-broken map l.loop-n.n (omega arith) (sym c.bit_of.ensures
+    let map = c.args.map.now in
+    sym (c.loop-n.invariant.1 ∙ ones-broken map c.loop-n.n (omega arith) (sym c.bit_of.ensures
     ∙ c.if-bit_of-eq0.true))
 
 add-n-2 : tie.Need-overflow_add-n-else-map-n invariant-loop decreases-loop
@@ -59,12 +56,10 @@ loop-less-2 c = omega arith
 
 loop-again-2 : tie.Need-loop-n-preserved invariant-loop decreases-loop
 loop-again-2 c =
-    let i = c in
-    let l = i in
-    let map = l.args.map.now in (
+    let map = c.args.map.now in (
       omega arith,
-      l.loop-n.invariant.1
-          ∙ ones-later map l.loop-n.n (omega arith) (λ e. c.if-bit_of-eq0.false (c.bit_of.ensures ∙ e)),
+      c.loop-n.invariant.1
+          ∙ ones-later map c.loop-n.n (omega arith) (λ e. c.if-bit_of-eq0.false (c.bit_of.ensures ∙ e)),
     )
 
 returns-2 : tie.Need-returns invariant-loop decreases-loop

@@ -1,5 +1,4 @@
 use mathlib.Core.Path.{◌≡◌, sym, ap, ◌∙◌}
-use mathlib.Core.Logic.{⊎_elim}
 use mathlib.Core.Bool.{true, false≢true}
 use mathlib.Core.List.{List}
 use Prim.Native.Nat.{ℕ, ◌+◌, ◌-◌, ◌≤◌, ◌<◌}
@@ -7,6 +6,7 @@ use native.Mathlib.Decide.{dec_lt}
 use native.Mathlib.Omega.{arith}
 use lib.ListN.{get_or}
 use Rattle.chain.proofs.bitmap.is_full.Statement.{statement}
+use Rattle.chain.proofs.bitmap.is_full.Lts.{then-map-i, else-map-i}
 use Rattle.chain.proofs.bitmap.is_full.Tie as tie
 
 -- the bytes from place at up to i are all ones
@@ -44,10 +44,10 @@ loop-again c =
     let a = c.args in (
       omega arith,
       omega arith,
-      ⊎_elim
-          (λ w e. absurd (false≢true (sym w.1 ∙ e)))
-          (λ w e. ones-more a.map.now a.at l.i (l.invariant.2 (sym w.1 ∙ e)) w.0.left)
-          c.if-map-i.branch,
+      elim c.if-map-i.branch [
+        then-map-i w ↦ λ e. absurd (false≢true (sym w.full-is ∙ e))
+      | else-map-i w ↦ λ e. ones-more a.map.now a.at l.i (l.invariant.2 (sym w.full-is ∙ e)) w.if-map-i.false
+      ],
     )
 
 returns : tie.Need-returns invariant-loop decreases-loop

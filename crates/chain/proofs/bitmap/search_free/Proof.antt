@@ -1,11 +1,11 @@
 use mathlib.Core.Path.{◌≡◌, sym, ap, ◌∙◌}
-use mathlib.Core.Logic.{⊎_elim}
 use Prim.Native.Nat.{◌+◌, ◌*◌, ◌-◌, ◌≤◌}
 use native.Mathlib.Nat.{add_assoc}
 use native.Mathlib.Omega.{arith}
 use Rattle.chain.specs.Bitmap.{lowest_free}
 use Rattle.chain.specs.BitmapLaws.{bit_of-byte, free_from, free-start, free-here, free-later, free-byte, free-none}
 use Rattle.chain.proofs.bitmap.search_free.Statement.{statement}
+use Rattle.chain.proofs.bitmap.search_free.Lts.{then-map-i+else-loop-j-test, else-map-i}
 use Rattle.chain.proofs.bitmap.search_free.Tie as tie
 
 abbrev invariant-loop2 : tie.invariant-loop-j
@@ -66,9 +66,8 @@ loop2-less c = omega arith
 
 loop2-again : tie.Need-loop-j-preserved invariant-loop2 decreases-loop2 invariant-loop decreases-loop invariant-search decreases-search
 loop2-again c =
-    let l = c in
-    let map = l.args.map.now in
-    let i = l.loop-i.i in
+    let map = c.args.map.now in
+    let i = c.loop-i.i in
     let j = c.loop-j.j in
     let bit = bit_of-byte map i j c.loop-j-test.true in (
       omega arith,
@@ -88,20 +87,19 @@ loop-again c =
     let map = c.args.map.now in
     let i = c.loop-i.i in
     let passed : free_from map (8 * i) ≡ free_from map (8 * i + 8) =
-    ⊎_elim
-    (λ b.
-    let e : 8 * i + b.1.j ≡ 8 * i + 8 = omega (arith, b.1.inv.0, b.2.left) in
-    sym c.loop-i.invariant.1 ∙ b.1.inv.1 ∙ ap (free_from map) e)
-    (λ b. free-byte map i (omega arith) (omega (arith, b.left)))
-    c.if-map-i.branch in
+    elim c.if-map-i.branch [
+      then-map-i+else-loop-j-test b ↦
+        let e : 8 * i + b.loop-j.j ≡ 8 * i + 8 = omega (arith, b.loop-j.invariant.0, b.loop-j-test.false) in
+        sym c.loop-i.invariant.1 ∙ b.loop-j.invariant.1 ∙ ap (free_from map) e
+    | else-map-i b ↦ free-byte map i (omega arith) (omega (arith, b.if-map-i.false))
+    ] in
     let e : 8 * i + 8 ≡ 8 * (i + 1) = omega arith in
     (omega arith, c.loop-i.invariant.1 ∙ passed ∙ ap (free_from map) e)
 
 returns : tie.Need-returns-then-map-i-eq0 invariant-loop2 decreases-loop2 invariant-loop decreases-loop invariant-search decreases-search
 returns c =
-    let l = c in
-    let map = l.args.map.now in
-    let i = l.loop-i.i in
+    let map = c.args.map.now in
+    let i = c.loop-i.i in
     let j = c.loop-j.j in
     let bit = bit_of-byte map i j c.loop-j-test.true in
     sym (c.loop-j.invariant.1 ∙ free-here map (8 * i + j) (omega arith) (bit ∙ c.if-map-i-eq0.true))

@@ -26,15 +26,12 @@ more c = omega (arith, c.loop-i-test.true, c.count_run-count.ensures)
 
 turn : (c : tie.After-count_unmoved-n invariant-loop decreases-loop)
     →
-    let f = c in
-    let a = f.args in
+    let a = c.args in
     tally (is_match a.hash true) (entries_of a.page.now)
     ≡ (c.loop-i.n + c.count_unmoved-n.result)
-    + tally unmoved (drop (c.loop-i.i + 1) (run_entries f.find_run-run.result.now))
+    + tally unmoved (drop (c.loop-i.i + 1) (run_entries c.find_run-run.result.now))
 turn c =
-    let l = c in
-    let f = l in
-    fresh-turn f.find_run-run.result.now l.loop-i.i l.loop-i.n _ l.loop-i.invariant (more c.before.before) c.count_unmoved-n.result
+    fresh-turn c.find_run-run.result.now c.loop-i.i c.loop-i.n _ c.loop-i.invariant (more c.before.before) c.count_unmoved-n.result
     (c.count_unmoved-n.ensures ∙ ap (λ (e : Entry). b2n (not e.moved)) c.run_entry.ensures)
 
 find-run-requires : tie.Need-find_run-run-requires invariant-loop decreases-loop
@@ -45,8 +42,7 @@ count-run-requires c κs = tt
 
 loop-holds : tie.Need-loop-i-init invariant-loop decreases-loop
 loop-holds c =
-    let s = c in
-    omega (arith, fresh_start s.requires s.args.hash c.find_run-run.ensures.0)
+    omega (arith, fresh_start c.requires c.args.hash c.find_run-run.ensures.0)
 
 run-entry-requires : tie.Need-run_entry-requires invariant-loop decreases-loop
 run-entry-requires c κs =
@@ -70,11 +66,9 @@ loop-again c = turn c
 
 returns : tie.Need-returns invariant-loop decreases-loop
 returns c =
-    let f = c in
-    let s = f in
-    let past : length (run_entries f.find_run-run.result.now) ≤ c.loop-i.i =
+    let past : length (run_entries c.find_run-run.result.now) ≤ c.loop-i.i =
     omega (arith, c.loop-i-test.false, c.count_run-count.ensures) in
-    sym (fresh-end f.find_run-run.result.now c.loop-i.i c.loop-i.n _ c.loop-i.invariant past)
+    sym (fresh-end c.find_run-run.result.now c.loop-i.i c.loop-i.n _ c.loop-i.invariant past)
 
 pub count_fresh_spec : {M : Type 1} → statement M
 count_fresh_spec =

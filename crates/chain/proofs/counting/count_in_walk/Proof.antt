@@ -35,13 +35,11 @@ count-in-page-requires c κs = page-sorted c
 bound : (c : tie.After-count_in_page-n invariant-loop decreases-loop)
     → c.loop-i.n + c.count_in_page-n.result ≤ 40 * (c.loop-i.i + 1)
 bound c =
-    let l = c in
-    let s = l in
     omega (
       arith,
       c.count_in_page-n.ensures,
-      count-few (page-sorted c.before) (is_match s.args.hash s.args.fresh),
-      l.loop-i.invariant.1,
+      count-few (page-sorted c.before) (is_match c.args.hash c.args.fresh),
+      c.loop-i.invariant.1,
     )
 
 add-n : tie.Need-overflow_add-n invariant-loop decreases-loop
@@ -56,18 +54,17 @@ loop-less c = omega arith
 
 loop-again : tie.Need-loop-i-preserved invariant-loop decreases-loop
 loop-again c =
-    let l = c in
-    let s = l in (
+    (
       omega (arith, c.loop-i-test.true),
       bound c,
-      count_turn s.requires.0 (is_match s.args.hash s.args.fresh) l.loop-i.i l.loop-i.n l.loop-i.invariant.2
+      count_turn c.requires.0 (is_match c.args.hash c.args.fresh) c.loop-i.i c.loop-i.n c.loop-i.invariant.2
           c.loop-i-test.true c.page_on.ensures c.count_in_page-n.result c.count_in_page-n.ensures,
     )
 
 returns : tie.Need-returns invariant-loop decreases-loop
 returns c =
-    let s = c in (
-      sym (count-end s.requires.0 (is_match s.args.hash s.args.fresh) c.loop-i.i c.loop-i.n c.loop-i.invariant.2
+    (
+      sym (count-end c.requires.0 (is_match c.args.hash c.args.fresh) c.loop-i.i c.loop-i.n c.loop-i.invariant.2
           c.loop-i-test.false),
       omega (arith, c.loop-i.invariant.0, c.loop-i.invariant.1),
     )

@@ -37,28 +37,22 @@ next-at-requires c κs =
 
 returns : tie.Need-returns-then-next invariant-loop decreases-loop
 returns c =
-    let p = c in
-    let l = p in
-    sym (last-here l.args.store.now l.loop-first.block p.block_at.ensures c.next_at-next.ensures
+    sym (last-here c.args.store.now c.loop-first.block c.block_at.ensures c.next_at-next.ensures
     c.if-next.true)
-    ∙ l.loop-first.invariant.1
+    ∙ c.loop-first.invariant.1
 
 loop-less : tie.Need-loop-first-smaller invariant-loop decreases-loop
 loop-less c =
-    let p = c in
-    let l = p in
-    left_less l.args.store.now l.loop-first.block p.block_at.ensures c.next_at-next.ensures
-    c.if-next.false l.loop-first.invariant.0
+    left_less c.args.store.now c.loop-first.block c.block_at.ensures c.next_at-next.ensures
+    c.if-next.false c.loop-first.invariant.0
 
 loop-again : tie.Need-loop-first-preserved invariant-loop decreases-loop
 loop-again c =
-    let p = c in
-    let l = p in
-    let s = l.args.store.now in
-    let k = l.loop-first.block in
-    let i = l.loop-first.invariant in (
-      left-bounded s k p.block_at.ensures c.next_at-next.ensures c.if-next.false i.0,
-      sym (last-later s k p.block_at.ensures c.next_at-next.ensures c.if-next.false i.0) ∙ i.1,
+    let s = c.args.store.now in
+    let k = c.loop-first.block in
+    let i = c.loop-first.invariant in (
+      left-bounded s k c.block_at.ensures c.next_at-next.ensures c.if-next.false i.0,
+      sym (last-later s k c.block_at.ensures c.next_at-next.ensures c.if-next.false i.0) ∙ i.1,
     )
 
 pub last_block_spec : {M : Type 1} → statement M

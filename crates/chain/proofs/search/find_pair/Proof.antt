@@ -36,12 +36,9 @@ element-copy-out-t13 c = omega (arith, c.requires.0.few)
 
 returns : tie.Need-returns-in-At invariant-loop decreases-loop
 returns c =
-    let f = c in
-    let l = f in
-    let s = l in
     sym
-    (pair-here s.requires.0 l.loop-i.i f.loop-i-test.true f.page_on.ensures
-    s.args.pair f.find_slot-found.result f.find_slot-found.ensures _ c.in-At.is l.loop-i.invariant)
+    (pair-here c.requires.0 c.loop-i.i c.loop-i-test.true c.page_on.ensures
+    c.args.pair c.find_slot-found.result c.find_slot-found.ensures _ c.in-At.is c.loop-i.invariant)
 
 enum_told : tie.Need-enum_told-1 invariant-loop decreases-loop
 enum_told c = search rules
@@ -54,16 +51,13 @@ loop-less c = omega arith
 
 loop-again : tie.Need-loop-i-preserved invariant-loop decreases-loop
 loop-again c =
-    let l = c in
-    let s = l in
-    l.loop-i.invariant
-    ∙ pair-later s.requires.0 l.loop-i.i c.loop-i-test.true c.page_on.ensures
-    s.args.pair c.find_slot-found.result c.find_slot-found.ensures c.in_default.is
+    c.loop-i.invariant
+    ∙ pair-later c.requires.0 c.loop-i.i c.loop-i-test.true c.page_on.ensures
+    c.args.pair c.find_slot-found.result c.find_slot-found.ensures c.in_default.is
 
 returns-2 : tie.Need-returns invariant-loop decreases-loop
 returns-2 c =
-    let s = c in
-    sym (pair-nowhere s.requires.0 c.loop-i.i c.loop-i-test.false s.args.pair c.loop-i.invariant)
+    sym (pair-nowhere c.requires.0 c.loop-i.i c.loop-i-test.false c.args.pair c.loop-i.invariant)
 
 pub find_pair_spec : {M : Type 1} → statement M
 find_pair_spec =

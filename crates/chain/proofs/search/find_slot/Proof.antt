@@ -22,17 +22,15 @@ below c = omega (arith, c.count_run.ensures)
 few : (c : tie.After-entries_before)
     → c.entries_before.result + c.place_in_run-k.result ≤ 40
 few c =
-    let f = c in
-    let s = f in
-    let l = s.args.page.now in
-    let h = s.args.pair.hash in
+    let l = c.args.page.now in
+    let h = c.args.pair.hash in
     omega (
       arith,
-      below c,
-      run_length_lem l s.requires h f.find_run-run.ensures.0,
+      below c.before.before.before.before.before,
+      run_length_lem l c.requires h c.find_run-run.ensures.0,
       c.entries_before.ensures,
-      run_inside l s.requires h,
-      number-le l s.requires.number,
+      run_inside l c.requires h,
+      number-le l c.requires.number,
     )
 
 find-run-requires : tie.Need-find_run-run-requires
@@ -56,30 +54,31 @@ is-same-requires c κs = search rules
 entries-before-requires : tie.Need-entries_before-requires
 entries-before-requires c κs = search rules
 
+add-t10 : tie.Need-overflow_add-result
+add-t10 c = omega (arith, few c)
+
+cast-t11 : tie.Need-overflow_cast-result
+cast-t11 c = omega (arith, few c)
+
 returns : tie.Need-returns-then-is_same
 returns c =
     let k = c.place_in_run-k in
-    let f = c in
-    let s = f in
-    let test : same s.args.pair (read_entry f.find_run-run.result.now (12 * k.result)).pair ≡ true = cc in
-    sym (slot_same s.requires s.args.pair f.find_run-run.ensures.0 k.result k.ensures (below c.before.before.before.before.before)
+    let test : same c.args.pair (read_entry c.find_run-run.result.now (12 * k.result)).pair ≡ true = cc in
+    sym (slot_same c.requires c.args.pair c.find_run-run.ensures.0 k.result k.ensures (below c.before.before.before.before.before)
     c.entries_before.result c.entries_before.ensures test)
 
 returns-2 : tie.Need-returns-else-is_same
 returns-2 c =
     let k = c.place_in_run-k in
-    let f = c in
-    let s = f in
-    let test : same s.args.pair (read_entry f.find_run-run.result.now (12 * k.result)).pair ≡ false = cc in
-    sym (slot-other s.requires s.args.pair f.find_run-run.ensures.0 k.result k.ensures (below c.before.before.before.before) test)
+    let test : same c.args.pair (read_entry c.find_run-run.result.now (12 * k.result)).pair ≡ false = cc in
+    sym (slot-other c.requires c.args.pair c.find_run-run.ensures.0 k.result k.ensures (below c.before.before.before.before) test)
 
 returns-3 : tie.Need-returns-else-k-count_run
 returns-3 c =
     let k = c.place_in_run-k in
-    let s = c in
     let past : length (run_entries c.find_run-run.result.now) ≤ k.result =
     omega (arith, c.count_run.ensures) in
-    sym (slot-past s.requires s.args.pair c.find_run-run.ensures.0 k.result k.ensures past)
+    sym (slot-past c.requires c.args.pair c.find_run-run.ensures.0 k.result k.ensures past)
 
 pub find_slot_spec : {M : Type 1} → statement M
 find_slot_spec =
@@ -91,6 +90,8 @@ find_slot_spec =
     run-entry-requires
     is-same-requires
     entries-before-requires
+    add-t10
+    cast-t11
     returns
     returns-2
     returns-3)

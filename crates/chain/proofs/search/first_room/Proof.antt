@@ -41,42 +41,32 @@ count-entries-requires c κs = page c
 
 returns : tie.Need-returns-then-count_entries-lt40 invariant-loop decreases-loop
 returns c =
-    let p = c in
-    let l = p in
-    sym (room-here l.args.store.now l.loop-page.block p.block_at-page.ensures
+    sym (room-here c.args.store.now c.loop-page.block c.block_at-page.ensures
     (omega (arith, c.count_entries.ensures, c.if-count_entries-lt40.true)))
-    ∙ l.loop-page.invariant.1
+    ∙ c.loop-page.invariant.1
 
 next-at-requires : tie.Need-next_at-next-requires invariant-loop decreases-loop
 next-at-requires c κs = page c.before.before
 
 returns-2 : tie.Need-returns-then-next invariant-loop decreases-loop
 returns-2 c =
-    let n = c in
-    let p = n in
-    let l = p in
-    sym (room-last l.args.store.now l.loop-page.block p.block_at-page.ensures c.next_at-next.ensures
-    c.if-next.true (omega (arith, n.count_entries.ensures, c.if-count_entries-lt40.false)))
-    ∙ l.loop-page.invariant.1
+    sym (room-last c.args.store.now c.loop-page.block c.block_at-page.ensures c.next_at-next.ensures
+    c.if-next.true (omega (arith, c.count_entries.ensures, c.if-count_entries-lt40.false)))
+    ∙ c.loop-page.invariant.1
 
 loop-less : tie.Need-loop-page-smaller invariant-loop decreases-loop
 loop-less c =
-    let p = c in
-    let l = p in
-    left_less l.args.store.now l.loop-page.block p.block_at-page.ensures c.next_at-next.ensures
-    c.if-next.false l.loop-page.invariant.0
+    left_less c.args.store.now c.loop-page.block c.block_at-page.ensures c.next_at-next.ensures
+    c.if-next.false c.loop-page.invariant.0
 
 loop-again : tie.Need-loop-page-preserved invariant-loop decreases-loop
 loop-again c =
-    let n = c in
-    let p = n in
-    let l = p in
-    let s = l.args.store.now in
-    let k = l.loop-page.block in
-    let i = l.loop-page.invariant in (
-      left-bounded s k p.block_at-page.ensures c.next_at-next.ensures c.if-next.false i.0,
-      sym (room-later s k p.block_at-page.ensures c.next_at-next.ensures c.if-next.false i.0
-          (omega (arith, n.count_entries.ensures, c.if-count_entries-lt40.false)))
+    let s = c.args.store.now in
+    let k = c.loop-page.block in
+    let i = c.loop-page.invariant in (
+      left-bounded s k c.block_at-page.ensures c.next_at-next.ensures c.if-next.false i.0,
+      sym (room-later s k c.block_at-page.ensures c.next_at-next.ensures c.if-next.false i.0
+          (omega (arith, c.count_entries.ensures, c.if-count_entries-lt40.false)))
           ∙ i.1,
     )
 

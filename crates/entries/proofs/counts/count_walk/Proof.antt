@@ -9,60 +9,54 @@ use Rattle.entries.proofs.Walking.{tally-turn, tally-done}
 use Rattle.entries.proofs.counts.count_walk.Statement.{statement}
 use Rattle.entries.proofs.counts.count_walk.Tie as tie
 
-abbrev invariant-loop : tie.invariant-loop
+abbrev invariant-loop : tie.invariant-loop-i
 invariant-loop store blocks count phase max b live₀ i₀ live i =
     (i ≤ count) × (live ≤ 40 * i)
     × (live + tally (live_in phase max b) (bind (drop i (take count blocks)) (entries_on store))
     ≡ tally (live_in phase max b) (bind (take count blocks) (entries_on store)))
 
-abbrev decreases-loop : tie.decreases-loop
+abbrev decreases-loop : tie.decreases-loop-i
 decreases-loop store blocks count phase max b live₀ i₀ live i = count - i
 
-loop-holds : tie.Need-loop-init invariant-loop decreases-loop
+loop-holds : tie.Need-loop-i-init invariant-loop decreases-loop
 loop-holds c = (omega arith, omega arith, omega arith)
 
-page-on-requires : tie.Need-page-on-requires invariant-loop decreases-loop
-page-on-requires c κs = (c.before.before.before.requires.0, c.loop-test.true)
+page-on-requires : tie.Need-page_on-requires invariant-loop decreases-loop
+page-on-requires c κs = (c.requires.0, c.loop-i-test.true)
 
-count-page-requires : tie.Need-count-page-requires invariant-loop decreases-loop
-count-page-requires c κs = c.page-on.ensures.sorted c.before.before.before.before.requires.1
+count-page-requires : tie.Need-count_page-live-requires invariant-loop decreases-loop
+count-page-requires c κs = c.page_on.ensures.sorted c.requires.1
 
-add-live : tie.Need-overflow-add-live invariant-loop decreases-loop
+add-live : tie.Need-overflow_add-live invariant-loop decreases-loop
 add-live c =
-    let l = c.before.before.before in
-    omega (arith, l.loop.invariant.0, l.loop.invariant.1, c.count-page.ensures.1, l.before.before.requires.0.few)
+    omega (arith, c.loop-i.invariant.0, c.loop-i.invariant.1, c.count_page-live.ensures.1, c.requires.0.few)
 
-add-i : tie.Need-overflow-add-i invariant-loop decreases-loop
+add-i : tie.Need-overflow_add-i invariant-loop decreases-loop
 add-i c = omega arith
 
-loop-less : tie.Need-loop-smaller invariant-loop decreases-loop
+loop-less : tie.Need-loop-i-smaller invariant-loop decreases-loop
 loop-less c = omega arith
 
-loop-again : tie.Need-loop-preserved invariant-loop decreases-loop
+loop-again : tie.Need-loop-i-preserved invariant-loop decreases-loop
 loop-again c =
-    let n = c.before in
-    let l = n.before.before in
-    let s = l.before.before in
-    let t = live_in s.args.phase s.args.max s.args.b in
+    let t = live_in c.args.phase c.args.max c.args.b in
     let turn =
-    tally-turn s.requires.0 t l.loop.i n.before.loop-test.true n.page-on.ensures c.count-page.result
-    c.count-page.ensures.0 in (
+    tally-turn c.requires.0 t c.loop-i.i c.loop-i-test.true c.page_on.ensures c.count_page-live.result
+    c.count_page-live.ensures.0 in (
       omega arith,
-      omega (arith, l.loop.invariant.1, c.count-page.ensures.1),
-      omega (arith, l.loop.invariant.2, turn),
+      omega (arith, c.loop-i.invariant.1, c.count_page-live.ensures.1),
+      omega (arith, c.loop-i.invariant.2, turn),
     )
 
 returns : tie.Need-returns invariant-loop decreases-loop
 returns c =
-    let l = c.before in
-    let s = l.before.before in
-    let t = live_in s.args.phase s.args.max s.args.b in (
-      omega (arith, l.loop.invariant.2, tally-done s.requires.0 t l.loop.i c.loop-test.false),
-      omega (arith, l.loop.invariant.0, l.loop.invariant.1, s.requires.0.few),
+    let t = live_in c.args.phase c.args.max c.args.b in (
+      omega (arith, c.loop-i.invariant.2, tally-done c.requires.0 t c.loop-i.i c.loop-i-test.false),
+      omega (arith, c.loop-i.invariant.0, c.loop-i.invariant.1, c.requires.0.few),
     )
 
-pub count-walk-spec : {M : Type 1} → statement M
-count-walk-spec =
+pub count_walk_spec : {M : Type 1} → statement M
+count_walk_spec =
     tie.close
     (tie.spec
     invariant-loop

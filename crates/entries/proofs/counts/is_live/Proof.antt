@@ -8,43 +8,41 @@ use borrow.Author.Rules.{rules}
 use Rattle.entries.proofs.counts.is_live.Statement.{statement}
 use Rattle.entries.proofs.counts.is_live.Tie as tie
 
-enum_told : tie.Need-enum-told
+enum_told : tie.Need-enum_told-1
 enum_told c = search rules
 
-enum-known-phase : tie.Need-enum-known-phase
+enum-known-phase : tie.Need-enum_known-phase
 enum-known-phase c = search rules
 
-enum-told-2 : tie.Need-enum-told-2
+enum-told-2 : tie.Need-enum_told-in-Clearing
 enum-told-2 c = search rules
 
-bucket-of-requires : tie.Need-bucket-of-requires
+bucket-of-requires : tie.Need-bucket_of-requires
 bucket-of-requires c κs = search rules
 
-returns : tie.Need-returns
+returns : tie.Need-returns-in-None
 returns c = search rules
 
-returns-2 : tie.Need-returns-2
+returns-2 : tie.Need-returns-then-b-new
 returns-2 c =
-    let p = c.before.before in
-    let a = p.before.before.args in
-    let other = ne_eqb a.b p.phase.given.0.1.0 c.if1.true in
-    rw other (sym (ap (λ (q : Phase). live_in q a.max a.b a.entry) p.phase.given.1 ∙ rw other))
+    let a = c.args in
+    let other = ne_eqb a.b c.in-Copying.new c.if-b-new.true in
+    rw other (sym (ap (λ (q : Phase). live_in q a.max a.b a.entry) c.in-Copying.is ∙ rw other))
 
-returns-3 : tie.Need-returns-3
+returns-3 : tie.Need-returns-else-b-new
 returns-3 c =
-    let p = c.before.before.before in
-    let a = p.before.before.args in
-    let same = eq-eqb a.b p.phase.given.0.1.0 c.before.if1.false in
-    sym (ap (λ (q : Phase). live_in q a.max a.b a.entry) p.phase.given.1 ∙ rw same)
+    let a = c.args in
+    let same = eq-eqb a.b c.in-Copying.new c.if-b-new.false in
+    sym (ap (λ (q : Phase). live_in q a.max a.b a.entry) c.in-Copying.is ∙ rw same)
 
-returns-4 : tie.Need-returns-4
+returns-4 : tie.Need-returns-in-Clearing
 returns-4 c =
-    let a = c.before.before.before.args in
-    ap (λ (x : ℕ). eqb x a.b) c.bucket-of.ensures
-    ∙ sym (ap (λ (q : Phase). live_in q a.max a.b a.entry) c.before.enum-told2.given.1)
+    let a = c.args in
+    ap (λ (x : ℕ). eqb x a.b) c.bucket_of.ensures
+    ∙ sym (ap (λ (q : Phase). live_in q a.max a.b a.entry) c.in-Clearing.is)
 
-pub is-live-spec : {M : Type 1} → statement M
-is-live-spec =
+pub is_live_spec : {M : Type 1} → statement M
+is_live_spec =
     tie.close
     (tie.spec
     enum_told

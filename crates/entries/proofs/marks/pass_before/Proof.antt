@@ -12,74 +12,60 @@ use Rattle.entries.proofs.Marking.{pass-end, pass_below, pass-turn}
 use Rattle.entries.proofs.marks.pass_before.Statement.{statement}
 use Rattle.entries.proofs.marks.pass_before.Tie as tie
 
-abbrev invariant-loop : tie.invariant-loop
+abbrev invariant-loop : tie.invariant-loop-keys
 invariant-loop store pages keys₀ tails₀ tree₀ n key offset keys tails tree =
     (Merging store pages n keys tails tree)
     × Kept (left_of store pages tails₀) (left_of store pages tails) n (pair_from key offset)
 
-abbrev decreases-loop : tie.decreases-loop
+abbrev decreases-loop : tie.decreases-loop-keys
 decreases-loop store pages keys₀ tails₀ tree₀ n key offset keys tails tree =
     tally (λ x. true) (joined (left_of store pages tails) 0 n)
 
-loop-holds : tie.Need-loop-init invariant-loop decreases-loop
-loop-holds c = (c.before.requires.0.0, λ x h. refl)
+loop-holds : tie.Need-loop-keys-init invariant-loop decreases-loop
+loop-holds c = (c.requires.0.0, λ x h. refl)
 
-is-next-before-requires : tie.Need-is-next-before-requires invariant-loop decreases-loop
+is-next-before-requires : tie.Need-is_next_before-requires invariant-loop decreases-loop
 is-next-before-requires c κs =
-    let l = c.before.before.before in
-    let m = l.loop.invariant.0 in
-    omega (arith, merging-upto m l.before.before.requires.0.1, m.pages.few)
+    let m = c.loop-keys.invariant.0 in
+    omega (arith, merging-upto m c.requires.0.1, m.pages.few)
 
-take-first-requires : tie.Need-take-first-requires invariant-loop decreases-loop
+take-first-requires : tie.Need-take_first-requires invariant-loop decreases-loop
 take-first-requires c κs =
-    let t = c.before.before.before in
-    let b = t.before in
-    let l = b.before.before.before.before in
-    let s = l.before.before in
-    let m = l.loop.invariant.0 in
+    let m = c.loop-keys.invariant.0 in
     let below =
-    pass_below m s.requires.0.1 s.args.key s.args.offset s.requires.1.0 s.requires.1.1
-    (sym b.is-next-before.ensures ∙ t.if1.true) in
-    ((m, s.requires.0.1), below)
+    pass_below m c.requires.0.1 c.args.key c.args.offset c.requires.1.0 c.requires.1.1
+    (sym c.is_next_before.ensures ∙ c.loop-keys-test.true) in
+    ((m, c.requires.0.1), below)
 
-loop-less : tie.Need-loop-smaller invariant-loop decreases-loop
+loop-less : tie.Need-loop-keys-smaller invariant-loop decreases-loop
 loop-less c =
-    let l = c.before.before.before.before.before.before.before.before.before in
-    let s = l.before.before in
-    let a = s.args in
-    taken-less (left_of a.store.now a.pages.now l.loop.tails)
-    (left_of a.store.now a.pages.now c.take-first.new.1.1.1.0) a.n c.take-first.ensures.taken
-    (merging-upto l.loop.invariant.0 s.requires.0.1)
+    let a = c.args in
+    taken-less (left_of a.store.now a.pages.now c.loop-keys.tails)
+    (left_of a.store.now a.pages.now c.take_first.new.tails) a.n c.take_first.ensures.taken
+    (merging-upto c.loop-keys.invariant.0 c.requires.0.1)
 
-loop-again : tie.Need-loop-preserved invariant-loop decreases-loop
+loop-again : tie.Need-loop-keys-preserved invariant-loop decreases-loop
 loop-again c =
-    let t = c.before.before.before.before in
-    let b = t.before in
-    let l = b.before.before.before.before in
-    let s = l.before.before in
-    let a = s.args in
-    let turn : Kept (left_of a.store.now a.pages.now l.loop.tails)
-    (left_of a.store.now a.pages.now c.take-first.new.1.1.1.0) a.n (pair_from a.key a.offset) =
-    pass-turn l.loop.invariant.0 s.requires.0.1 a.key a.offset s.requires.1.0 s.requires.1.1
-    (sym b.is-next-before.ensures ∙ t.if1.true) c.take-first.new.1.1.0 c.take-first.new.1.1.1.0
-    c.take-first.new.1.1.1.1.0 c.take-first.ensures in
-    (c.take-first.ensures.merging, λ x h. l.loop.invariant.1 x h ∙ turn x h)
+    let a = c.args in
+    let turn : Kept (left_of a.store.now a.pages.now c.loop-keys.tails)
+    (left_of a.store.now a.pages.now c.take_first.new.tails) a.n (pair_from a.key a.offset) =
+    pass-turn c.loop-keys.invariant.0 c.requires.0.1 a.key a.offset c.requires.1.0 c.requires.1.1
+    (sym c.is_next_before.ensures ∙ c.loop-keys-test.true) c.take_first.new.keys c.take_first.new.tails
+    c.take_first.new.tree c.take_first.ensures in
+    (c.take_first.ensures.merging, λ x h. c.loop-keys.invariant.1 x h ∙ turn x h)
 
 returns : tie.Need-returns invariant-loop decreases-loop
 returns c =
-    let b = c.before in
-    let l = b.before.before.before.before in
-    let s = l.before.before in
-    let a = s.args in
+    let a = c.args in
     record {
-      kept = l.loop.invariant.1;
-      none = pass-end l.loop.invariant.0 s.requires.0.1 a.key a.offset s.requires.1.0 s.requires.1.1
-          (sym b.is-next-before.ensures ∙ c.if1.false);
-      merging = l.loop.invariant.0;
+      kept = c.loop-keys.invariant.1;
+      none = pass-end c.loop-keys.invariant.0 c.requires.0.1 a.key a.offset c.requires.1.0 c.requires.1.1
+          (sym c.is_next_before.ensures ∙ c.loop-keys-test.false);
+      merging = c.loop-keys.invariant.0;
     }
 
-pub pass-before-spec : {M : Type 1} → statement M
-pass-before-spec =
+pub pass_before_spec : {M : Type 1} → statement M
+pass_before_spec =
     tie.close
     (tie.spec
     invariant-loop

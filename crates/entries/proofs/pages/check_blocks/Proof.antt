@@ -16,53 +16,45 @@ use Rattle.entries.proofs.pages.check_blocks.Tie as tie
 abbrev fine : List ℕ → ℕ → Bool
 fine s k = page_ok (block s k)
 
-abbrev invariant-loop : tie.invariant-loop
+abbrev invariant-loop : tie.invariant-loop-i
 invariant-loop store blocks count i₀ i = all (fine store) (drop i (take count blocks)) ≡ all (fine store) (take count blocks)
 
-abbrev decreases-loop : tie.decreases-loop
+abbrev decreases-loop : tie.decreases-loop-i
 decreases-loop store blocks count i₀ i = count - i
 
-loop-holds : tie.Need-loop-init invariant-loop decreases-loop
+loop-holds : tie.Need-loop-i-init invariant-loop decreases-loop
 loop-holds c = refl
 
-page-on-requires : tie.Need-page-on-requires invariant-loop decreases-loop
-page-on-requires c κs = (c.before.before.before.requires, c.loop-test.true)
+page-on-requires : tie.Need-page_on-requires invariant-loop decreases-loop
+page-on-requires c κs = (c.requires, c.loop-i-test.true)
 
-check-page-requires : tie.Need-check-page-requires invariant-loop decreases-loop
-check-page-requires c κs = c.page-on.ensures.whole
+check-page-requires : tie.Need-check_page-requires invariant-loop decreases-loop
+check-page-requires c κs = c.page_on.ensures.whole
 
-returns : tie.Need-returns invariant-loop decreases-loop
+returns : tie.Need-returns-then-not-check_page invariant-loop decreases-loop
 returns c =
-    let n = c.before in
-    let l = n.before.before.before in
-    let s = l.before.before in
-    let turn = ap (all (fine s.args.store.now)) (walk_turn s.requires l.loop.i n.before.before.loop-test.true) in
-    let test = sym (n.check-page.ensures ∙ ap page_ok n.before.page-on.ensures.page) in
-    sym (sym l.loop.invariant ∙ failed _ _ _ turn (test ∙ not-true n.check-page.result c.if1.true))
+    let turn = ap (all (fine c.args.store.now)) (walk_turn c.requires c.loop-i.i c.loop-i-test.true) in
+    let test = sym (c.check_page.ensures ∙ ap page_ok c.page_on.ensures.page) in
+    sym (sym c.loop-i.invariant ∙ failed _ _ _ turn (test ∙ not-true c.check_page.result c.if-not-check_page.true-raw))
 
-add-i : tie.Need-overflow-add-i invariant-loop decreases-loop
+add-i : tie.Need-overflow_add-i invariant-loop decreases-loop
 add-i c = omega arith
 
-loop-less : tie.Need-loop-smaller invariant-loop decreases-loop
+loop-less : tie.Need-loop-i-smaller invariant-loop decreases-loop
 loop-less c = omega arith
 
-loop-again : tie.Need-loop-preserved invariant-loop decreases-loop
+loop-again : tie.Need-loop-i-preserved invariant-loop decreases-loop
 loop-again c =
-    let n = c.before in
-    let l = n.before.before.before in
-    let s = l.before.before in
-    let turn = ap (all (fine s.args.store.now)) (walk_turn s.requires l.loop.i n.before.before.loop-test.true) in
-    let test = sym (n.check-page.ensures ∙ ap page_ok n.before.page-on.ensures.page) in
-    passed _ _ _ turn (test ∙ not-false n.check-page.result c.if1.false) ∙ l.loop.invariant
+    let turn = ap (all (fine c.args.store.now)) (walk_turn c.requires c.loop-i.i c.loop-i-test.true) in
+    let test = sym (c.check_page.ensures ∙ ap page_ok c.page_on.ensures.page) in
+    passed _ _ _ turn (test ∙ not-false c.check_page.result c.if-not-check_page.false-raw) ∙ c.loop-i.invariant
 
-returns-2 : tie.Need-returns-2 invariant-loop decreases-loop
+returns-2 : tie.Need-returns invariant-loop decreases-loop
 returns-2 c =
-    let l = c.before in
-    let s = l.before.before in
-    sym (sym l.loop.invariant ∙ ap (all (fine s.args.store.now)) (walk-done s.requires l.loop.i c.loop-test.false))
+    sym (sym c.loop-i.invariant ∙ ap (all (fine c.args.store.now)) (walk-done c.requires c.loop-i.i c.loop-i-test.false))
 
-pub check-blocks-spec : {M : Type 1} → statement M
-check-blocks-spec =
+pub check_blocks_spec : {M : Type 1} → statement M
+check_blocks_spec =
     tie.close
     (tie.spec
     invariant-loop

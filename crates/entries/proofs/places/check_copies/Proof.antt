@@ -20,59 +20,48 @@ new-made c = omega (arith, c.requires.1, max-is c.requires.0.known.known.known)
 old-made : (c : tie.Start) → c.args.old ≤ max_at c.args.store.now
 old-made c = omega (arith, c.requires.2, max-is c.requires.0.known.known.known)
 
-zero-walk-requires : tie.Need-zero-walk-requires
+zero-walk-requires : tie.Need-zero_walk-copies-requires
 zero-walk-requires c κs = tt
 
-zero-walk-requires-2 : tie.Need-zero-walk-requires-2
+zero-walk-requires-2 : tie.Need-zero_walk-originals-requires
 zero-walk-requires-2 c κs = tt
 
-walk-bucket-requires : tie.Need-walk-bucket-requires
+walk-bucket-requires : tie.Need-walk_bucket-n-requires
 walk-bucket-requires c κs =
-    let z = c.before.before in
-    let s = z.before.before in
-    (s.requires.0.known.known.known, s.requires.1, zero_room z.zero-walk.ensures)
+    (c.requires.0.known.known.known, c.requires.1, zero_room c.zero_walk-copies.ensures)
 
-walk-bucket-requires-2 : tie.Need-walk-bucket-requires-2
+walk-bucket-requires-2 : tie.Need-walk_bucket-k-requires
 walk-bucket-requires-2 c κs =
-    let z = c.before.before.before in
-    let s = z.before.before.before in
-    (s.requires.0.known.known.known, s.requires.2, zero_room z.zero-walk2.ensures)
+    (c.requires.0.known.known.known, c.requires.2, zero_room c.zero_walk-originals.ensures)
 
-all-marked-requires : tie.Need-all-marked-requires
+all-marked-requires : tie.Need-all_marked-requires
 all-marked-requires c κs =
-    let o = c.before.before in
-    let n = o.before.before in
-    let b = n.before.before.before.before in
-    let s = b.before in
-    let k = s.requires.0 in
-    let bytes : Bytes s.args.store.now = λ i. omega (arith, b.shared-slice-known.given i) in
-    let news = n.walk-bucket.ensures in
-    let olds = o.walk-bucket2.ensures in (
+    let k = c.requires.0 in
+    let bytes : Bytes c.args.store.now = λ i. omega (arith, c.shared_slice_known-1.given i) in
+    let news = c.walk_bucket-n.ensures in
+    let olds = c.walk_bucket-k.ensures in (
       (
-        alone-pages bytes (walk-within s.args.new (new-made s) news k.known)
-            (walk-pages s.args.new (new-made s) news k),
+        alone-pages bytes (walk-within c.args.new (new-made c.before.before.before.before.before.before.before.before.before) news k.known)
+            (walk-pages c.args.new (new-made c.before.before.before.before.before.before.before.before.before) news k),
         walked-some news,
       ),
       (
-        alone-pages bytes (walk-within s.args.old (old-made s) olds k.known)
-            (walk-pages s.args.old (old-made s) olds k),
+        alone-pages bytes (walk-within c.args.old (old-made c.before.before.before.before.before.before.before.before.before) olds k.known)
+            (walk-pages c.args.old (old-made c.before.before.before.before.before.before.before.before.before) olds k),
         walked-some olds,
       ),
     )
 
 returns : tie.Need-returns
 returns c =
-    let o = c.before.before.before in
-    let n = o.before.before in
-    let s = n.before.before.before.before.before in
-    let k = s.requires.0.known in
-    c.all-marked.ensures
+    let k = c.requires.0.known in
+    c.all_marked.ensures
     ∙ ap₂ (λ (olds news : List Entry). all (marked_by olds) news)
-    (walk-merged s.args.old (old-made s) o.walk-bucket2.ensures k)
-    (walk-merged s.args.new (new-made s) n.walk-bucket.ensures k)
+    (walk-merged c.args.old (old-made c.before.before.before.before.before.before.before.before.before.before) c.walk_bucket-k.ensures k)
+    (walk-merged c.args.new (new-made c.before.before.before.before.before.before.before.before.before.before) c.walk_bucket-n.ensures k)
 
-pub check-copies-spec : {M : Type 1} → statement M
-check-copies-spec =
+pub check_copies_spec : {M : Type 1} → statement M
+check_copies_spec =
     tie.close
     (tie.spec
     zero-walk-requires

@@ -7,38 +7,33 @@ use Rattle.entries.proofs.Homing.{copying-made}
 use Rattle.entries.proofs.places.check_marks.Statement.{statement}
 use Rattle.entries.proofs.places.check_marks.Tie as tie
 
-enum_told : tie.Need-enum-told
+enum_told : tie.Need-enum_told-1
 enum_told c = search rules
 
-enum-known-phase : tie.Need-enum-known-phase
+enum-known-phase : tie.Need-enum_known-phase
 enum-known-phase c = search rules
 
-check-copies-requires : tie.Need-check-copies-requires
+check-copies-requires : tie.Need-check_copies-requires
 check-copies-requires c κs =
-    let p = c.before in
-    let s = p.before.before.before in
-    let g = p.phase.given in
-    let two = s.requires.0.known.known.known in
-    let made = copying-made s.args.store.now two s.args.phase s.requires.1 g.0.0 g.0.1.0 g.1 in
-    (s.requires.0, omega (arith, made.new-made, max-is two), omega (arith, made.old-made, max-is two))
+    let two = c.requires.0.known.known.known in
+    let made = copying-made c.args.store.now two c.args.phase c.requires.1 c.in-Copying.old c.in-Copying.new c.in-Copying.is in
+    (c.requires.0, omega (arith, made.new-made, max-is two), omega (arith, made.old-made, max-is two))
 
-enum-told-2 : tie.Need-enum-told-2
+enum-told-2 : tie.Need-enum_told-in-Clearing
 enum-told-2 c = search rules
 
-returns : tie.Need-returns
-returns c = rw c.enum_told.given.1
+returns : tie.Need-returns-in-None
+returns c = rw c.in-None.is
 
-returns-2 : tie.Need-returns-2
+returns-2 : tie.Need-returns-in-Copying
 returns-2 c =
-    let p = c.before.before in
-    let s = p.before.before.before in
-    c.check-copies.ensures ∙ sym (ap (marks_in s.args.store.now) p.phase.given.1)
+    c.check_copies.ensures ∙ sym (ap (marks_in c.args.store.now) c.in-Copying.is)
 
-returns-3 : tie.Need-returns-3
-returns-3 c = rw c.enum-told2.given.1
+returns-3 : tie.Need-returns-in-Clearing
+returns-3 c = rw c.in-Clearing.is
 
-pub check-marks-spec : {M : Type 1} → statement M
-check-marks-spec =
+pub check_marks_spec : {M : Type 1} → statement M
+check_marks_spec =
     tie.close
     (tie.spec
     enum_told

@@ -11,72 +11,63 @@ use Rattle.entries.proofs.Placing.{stands-home, stands-old, stands-nowhere}
 use Rattle.entries.proofs.places.may_stand.Statement.{statement}
 use Rattle.entries.proofs.places.may_stand.Tie as tie
 
-bucket-of-requires : tie.Need-bucket-of-requires
+bucket-of-requires : tie.Need-bucket_of-home-requires
 bucket-of-requires c κs = tt
 
-returns : tie.Need-returns
+returns : tie.Need-returns-then-home-b
 returns c =
-    let a = c.before.before.args in
-    sym (stands-home a.phase (bucket_of a.max a.hash) a.b (sym c.before.bucket-of.ensures ∙ c.if1.true))
+    let a = c.args in
+    sym (stands-home a.phase (bucket_of a.max a.hash) a.b (sym c.bucket_of-home.ensures ∙ c.if-home-b.true))
 
-enum_told : tie.Need-enum-told
+enum_told : tie.Need-enum_told-1
 enum_told c = search rules
 
-enum-known-phase : tie.Need-enum-known-phase
+enum-known-phase : tie.Need-enum_known-phase
 enum-known-phase c = search rules
 
-enum-known-phase-2 : tie.Need-enum-known-phase-2
+enum-known-phase-2 : tie.Need-enum_known-phase-in-Clearing-1
 enum-known-phase-2 c = search rules
 
-returns-2 : tie.Need-returns-2
+returns-2 : tie.Need-returns-in-None
 returns-2 c =
-    let b = c.before.before.before in
-    let a = b.before.args in
-    let away : bucket_of a.max a.hash ≢ a.b = λ e. c.before.before.if1.false (b.bucket-of.ensures ∙ e) in
+    let a = c.args in
+    let away : bucket_of a.max a.hash ≢ a.b = λ e. c.if-home-b.false (c.bucket_of-home.ensures ∙ e) in
     sym
-    (ap (λ (p : Phase). stands_in p (bucket_of a.max a.hash) a.b) c.enum_told.given.1
+    (ap (λ (p : Phase). stands_in p (bucket_of a.max a.hash) a.b) c.in-None.is
     ∙ ne_eqb (bucket_of a.max a.hash) a.b away)
 
-returns-3 : tie.Need-returns-3
+returns-3 : tie.Need-returns-then-b-old
 returns-3 c =
-    let b = c.before.before.before.before.before in
-    let a = b.before.args in
-    let g = c.before.before.phase.given in
-    let job = ap (λ (p : Phase). stands_in p (bucket_of a.max a.hash) a.b) g.1 in
-    let away : bucket_of a.max a.hash ≢ a.b = λ e. c.before.before.before.before.if1.false (b.bucket-of.ensures ∙ e) in
-    ap (λ (h : ℕ). eqb h g.0.1.0) b.bucket-of.ensures
-    ∙ stands-old _ (bucket_of a.max a.hash) a.b g.0.0 g.0.1.0 job away c.if2.true
+    let a = c.args in
+    let job = ap (λ (p : Phase). stands_in p (bucket_of a.max a.hash) a.b) c.in-Copying.is in
+    let away : bucket_of a.max a.hash ≢ a.b = λ e. c.if-home-b.false (c.bucket_of-home.ensures ∙ e) in
+    ap (λ (h : ℕ). eqb h c.in-Copying.new) c.bucket_of-home.ensures
+    ∙ stands-old _ (bucket_of a.max a.hash) a.b c.in-Copying.old c.in-Copying.new job away c.if-b-old.true
 
-returns-4 : tie.Need-returns-4
+returns-4 : tie.Need-returns-else-b-old
 returns-4 c =
-    let b = c.before.before.before.before.before in
-    let a = b.before.args in
-    let g = c.before.before.phase.given in
-    let job = ap (λ (p : Phase). stands_in p (bucket_of a.max a.hash) a.b) g.1 in
-    let away : bucket_of a.max a.hash ≢ a.b = λ e. c.before.before.before.before.if1.false (b.bucket-of.ensures ∙ e) in
-    stands-nowhere _ (bucket_of a.max a.hash) a.b g.0.0 g.0.1.0 job away c.if2.false
+    let a = c.args in
+    let job = ap (λ (p : Phase). stands_in p (bucket_of a.max a.hash) a.b) c.in-Copying.is in
+    let away : bucket_of a.max a.hash ≢ a.b = λ e. c.if-home-b.false (c.bucket_of-home.ensures ∙ e) in
+    stands-nowhere _ (bucket_of a.max a.hash) a.b c.in-Copying.old c.in-Copying.new job away c.if-b-old.false
 
-returns-5 : tie.Need-returns-5
+returns-5 : tie.Need-returns-then-b-old-2
 returns-5 c =
-    let b = c.before.before.before.before.before in
-    let a = b.before.args in
-    let g = c.before.before.phase2.given in
-    let job = ap (λ (p : Phase). stands_in p (bucket_of a.max a.hash) a.b) g.1 in
-    let away : bucket_of a.max a.hash ≢ a.b = λ e. c.before.before.before.before.if1.false (b.bucket-of.ensures ∙ e) in
-    ap (λ (h : ℕ). eqb h g.0.1.0) b.bucket-of.ensures
-    ∙ stands-old _ (bucket_of a.max a.hash) a.b g.0.0 g.0.1.0 job away c.if3.true
+    let a = c.args in
+    let job = ap (λ (p : Phase). stands_in p (bucket_of a.max a.hash) a.b) c.in-Clearing.is in
+    let away : bucket_of a.max a.hash ≢ a.b = λ e. c.if-home-b.false (c.bucket_of-home.ensures ∙ e) in
+    ap (λ (h : ℕ). eqb h c.in-Clearing.new) c.bucket_of-home.ensures
+    ∙ stands-old _ (bucket_of a.max a.hash) a.b c.in-Clearing.old c.in-Clearing.new job away c.if-b-old-2.true
 
-returns-6 : tie.Need-returns-6
+returns-6 : tie.Need-returns-else-b-old-2
 returns-6 c =
-    let b = c.before.before.before.before.before in
-    let a = b.before.args in
-    let g = c.before.before.phase2.given in
-    let job = ap (λ (p : Phase). stands_in p (bucket_of a.max a.hash) a.b) g.1 in
-    let away : bucket_of a.max a.hash ≢ a.b = λ e. c.before.before.before.before.if1.false (b.bucket-of.ensures ∙ e) in
-    stands-nowhere _ (bucket_of a.max a.hash) a.b g.0.0 g.0.1.0 job away c.if3.false
+    let a = c.args in
+    let job = ap (λ (p : Phase). stands_in p (bucket_of a.max a.hash) a.b) c.in-Clearing.is in
+    let away : bucket_of a.max a.hash ≢ a.b = λ e. c.if-home-b.false (c.bucket_of-home.ensures ∙ e) in
+    stands-nowhere _ (bucket_of a.max a.hash) a.b c.in-Clearing.old c.in-Clearing.new job away c.if-b-old-2.false
 
-pub may-stand-spec : {M : Type 1} → statement M
-may-stand-spec =
+pub may_stand_spec : {M : Type 1} → statement M
+may_stand_spec =
     tie.close
     (tie.spec
     bucket-of-requires

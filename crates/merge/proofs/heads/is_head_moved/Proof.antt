@@ -11,27 +11,26 @@ use Rattle.page.specs.Entries.{entry_at}
 use Rattle.merge.proofs.heads.is_head_moved.Statement.{statement}
 use Rattle.merge.proofs.heads.is_head_moved.Tie as tie
 
-block-at-requires : tie.Need-block-at-requires
+block-at-requires : tie.Need-block_at-requires
 unfolding blocks
-block-at-requires c κs = let s = c.before in omega (arith, s.requires.0)
+block-at-requires c κs = omega (arith, c.requires.0)
 
-cast-get-entry : tie.Need-overflow-cast-get-entry
+cast-get-entry : tie.Need-overflow_cast-tail
 cast-get-entry c = search rules
 
-get-entry-requires : tie.Need-get-entry-requires
+get-entry-requires : tie.Need-get_entry-requires
 unfolding blocks
 get-entry-requires c κs =
-    let s = c.before.before in (
-      s.requires.1,
-      ap length c.block_at.ensures ∙ length-block s.args.store.now s.args.k (omega (arith, s.requires.0)),
+    (
+      c.requires.1,
+      ap length c.block_at.ensures ∙ length-block c.args.store.now c.args.k (omega (arith, c.requires.0)),
     )
 
 returns : tie.Need-returns
 returns c =
-    let b = c.before in
-    let a = b.before.before.args in
+    let a = c.args in
     ap (λ (e : Entry). e.moved)
-    (c.get-entry.ensures ∙ ap (λ (l : List ℕ). entry_at l (a.tail % 64)) b.block_at.ensures)
+    (c.get_entry.ensures ∙ ap (λ (l : List ℕ). entry_at l (a.tail % 64)) c.block_at.ensures)
 
-pub is-head-moved-spec : {M : Type 1} → statement M
-is-head-moved-spec = tie.close (tie.spec block-at-requires cast-get-entry get-entry-requires returns)
+pub is_head_moved_spec : {M : Type 1} → statement M
+is_head_moved_spec = tie.close (tie.spec block-at-requires cast-get-entry get-entry-requires returns)

@@ -11,93 +11,85 @@ use Rattle.merge.specs.HeadLaws.{heads-next, from_next}
 use Rattle.merge.proofs.heads.put_heads.Statement.{statement}
 use Rattle.merge.proofs.heads.put_heads.Tie as tie
 
-abbrev invariant-loop : tie.invariant-loop
+abbrev invariant-loop : tie.invariant-loop-i
 invariant-loop store pages keys₀ tails₀ n from i₀ keys tails i =
     (Heads store pages i keys tails) × (CursorsAt store pages from i tails) × (i ≤ n)
 
-abbrev decreases-loop : tie.decreases-loop
+abbrev decreases-loop : tie.decreases-loop-i
 decreases-loop store pages keys₀ tails₀ n from i₀ keys tails i = n - i
 
-loop-holds : tie.Need-loop-init invariant-loop decreases-loop
+loop-holds : tie.Need-loop-i-init invariant-loop decreases-loop
 loop-holds c =
-    let s = c.before in (
-      record { keys-size = s.requires.1.0; tails-size = s.requires.1.1; each = λ i h. absurd (omega (arith, h)) },
+    (
+      record { keys-size = c.requires.1.0; tails-size = c.requires.1.1; each = λ i h. absurd (omega (arith, h)) },
       λ i h. absurd (omega (arith, h)),
       omega arith,
     )
 
-page-at-requires : tie.Need-page-at-requires invariant-loop decreases-loop
-page-at-requires c κs = (c.before.before.before.requires.0, c.loop-test.true)
+page-at-requires : tie.Need-page_at-requires invariant-loop decreases-loop
+page-at-requires c κs = (c.requires.0, c.loop-i-test.true)
 
-find-place-requires : tie.Need-find-place-requires invariant-loop decreases-loop
-find-place-requires c κs = c.page-at.ensures.1
+find-place-requires : tie.Need-find_place-slot-requires invariant-loop decreases-loop
+find-place-requires c κs = c.page_at.ensures.1
 
 -- the slot is the sorted place of the pair in the page
-slot_is : (c : tie.After-find-place invariant-loop decreases-loop)
-    → let s = c.before.before.before.before.before in
-    c.find-place.result
-    ≡ place_of s.args.from (page_at s.args.store.now s.args.pages.now c.before.before.before.loop.i)
+slot_is : (c : tie.After-find_place-slot invariant-loop decreases-loop)
+    →
+    c.find_place-slot.result
+    ≡ place_of c.args.from (page_at c.args.store.now c.args.pages.now c.loop-i.i)
 slot_is c =
-    let s = c.before.before.before.before.before in
-    c.find-place.ensures
-    ∙ ap (λ (l : List ℕ). place_of s.args.from (entries_of l)) c.before.page-at.ensures.0
+    c.find_place-slot.ensures
+    ∙ ap (λ (l : List ℕ). place_of c.args.from (entries_of l)) c.page_at.ensures.0
 
-slot-few : (c : tie.After-find-place invariant-loop decreases-loop) → c.find-place.result ≤ 40
+slot-few : (c : tie.After-find_place-slot invariant-loop decreases-loop) → c.find_place-slot.result ≤ 40
 slot-few c =
-    let s = c.before.before.before.before.before in
-    let i = c.before.before.before.loop.i in
-    let es = page_at s.args.store.now s.args.pages.now i in
+    let i = c.loop-i.i in
+    let es = page_at c.args.store.now c.args.pages.now i in
     omega (
       arith,
       slot_is c,
-      place-le s.args.from es,
-      (s.requires.0.allowed i
-          c.before.before.loop-test.true).few,
+      place-le c.args.from es,
+      (c.requires.0.allowed i
+          c.loop-i-test.true).few,
     )
 
-put-head-requires : tie.Need-put-head-requires invariant-loop decreases-loop
+put-head-requires : tie.Need-put_head-requires invariant-loop decreases-loop
 put-head-requires c κs =
-    let f = c.before.before in
-    (f.before.before.before.before.before.requires.0, f.before.before.loop-test.true, slot-few f)
+    (c.requires.0, c.loop-i-test.true, slot-few c.before.before)
 
-add-i : tie.Need-overflow-add-i invariant-loop decreases-loop
+add-i : tie.Need-overflow_add-i invariant-loop decreases-loop
 add-i c = omega arith
 
-loop-less : tie.Need-loop-smaller invariant-loop decreases-loop
+loop-less : tie.Need-loop-i-smaller invariant-loop decreases-loop
 loop-less c = omega arith
 
-loop-again : tie.Need-loop-preserved invariant-loop decreases-loop
+loop-again : tie.Need-loop-i-preserved invariant-loop decreases-loop
 loop-again c =
-    let f = c.before.before.before in
-    let l = f.before.before.before in
-    let s = l.before.before in
-    let i = l.loop.i in
-    let inv = l.loop.invariant in
-    let e = c.put-head.ensures in
-    let few = s.requires.0.few in
-    let in-keys : i < length l.loop.keys =
-    omega (arith, few, f.before.before.loop-test.true, inv.0.keys-size) in
-    let in-tails : i < length l.loop.tails =
-    omega (arith, few, f.before.before.loop-test.true, inv.0.tails-size) in
-    let put = heads-next s.args.store.now s.args.pages.now l.loop.keys l.loop.tails i
-    f.find-place.result in-keys in-tails (slot-few f) inv.0 in
-    let from = from_next s.args.store.now s.args.pages.now l.loop.keys l.loop.tails i
-    f.find-place.result in-keys in-tails (slot-few f) s.args.from (slot_is f) inv.1 in
-    (rw (e.0, e.1) put, rw e.1 from, omega (arith, f.before.before.loop-test.true))
+    let i = c.loop-i.i in
+    let inv = c.loop-i.invariant in
+    let e = c.put_head.ensures in
+    let few = c.requires.0.few in
+    let in-keys : i < length c.loop-i.keys =
+    omega (arith, few, c.loop-i-test.true, inv.0.keys-size) in
+    let in-tails : i < length c.loop-i.tails =
+    omega (arith, few, c.loop-i-test.true, inv.0.tails-size) in
+    let put = heads-next c.args.store.now c.args.pages.now c.loop-i.keys c.loop-i.tails i
+    c.find_place-slot.result in-keys in-tails (slot-few c.before.before.before) inv.0 in
+    let from = from_next c.args.store.now c.args.pages.now c.loop-i.keys c.loop-i.tails i
+    c.find_place-slot.result in-keys in-tails (slot-few c.before.before.before) c.args.from (slot_is c.before.before.before) inv.1 in
+    (rw (e.0, e.1) put, rw e.1 from, omega (arith, c.loop-i-test.true))
 
 returns : tie.Need-returns invariant-loop decreases-loop
 returns c =
-    let l = c.before in
-    let s = l.before.before in
-    let end : l.loop.i ≡ s.args.n = omega (arith, l.loop.invariant.2, c.loop-test.false) in (
-      subst (λ (i : ℕ). Heads s.args.store.now s.args.pages.now i l.loop.keys l.loop.tails) end
-          l.loop.invariant.0,
-      subst (λ (i : ℕ). CursorsAt s.args.store.now s.args.pages.now s.args.from i l.loop.tails) end
-          l.loop.invariant.1,
+    let end : c.loop-i.i ≡ c.args.n = omega (arith, c.loop-i.invariant.2, c.loop-i-test.false) in (
+      subst (λ (i : ℕ). Heads c.args.store.now c.args.pages.now i c.loop-i.keys c.loop-i.tails) end
+          c.loop-i.invariant.0,
+      subst (λ (i : ℕ). CursorsAt c.args.store.now c.args.pages.now c.args.from i c.loop-i.tails) end
+          c.loop-i.invariant.1,
     )
 
-pub put-heads-spec : {M : Type 1} → statement M
-put-heads-spec =
+pub put_heads_spec : {M : Type 1} → statement M
+put_heads_spec =
     tie.close
     (tie.spec
     invariant-loop

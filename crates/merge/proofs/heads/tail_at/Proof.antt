@@ -13,51 +13,47 @@ use Rattle.merge.specs.HeadLaws.{left-done, left-more}
 use Rattle.merge.proofs.heads.tail_at.Statement.{statement}
 use Rattle.merge.proofs.heads.tail_at.Tie as tie
 
-count-entries-requires : tie.Need-count-entries-requires
+count-entries-requires : tie.Need-count_entries-requires
 count-entries-requires c κs = search rules
 
-cast-result : tie.Need-overflow-cast-result
+cast-result : tie.Need-overflow_cast-result
 cast-result c = search rules
 
-returns : tie.Need-returns
+returns : tie.Need-returns-then-count_entries-slot
 returns c =
-    let s = c.before.before.before in
-    let past : u16_at s.args.page.now 0 ≤ s.args.slot = omega (arith, c.before.count_entries.ensures) in
-    sym (ap (tail_of s.args.slot) (left-done s.args.page.now s.args.slot past))
+    let past : u16_at c.args.page.now 0 ≤ c.args.slot = omega (arith, c.count_entries.ensures) in
+    sym (ap (tail_of c.args.slot) (left-done c.args.page.now c.args.slot past))
 
 -- the slot is one of the page's
-below : (c : tie.Else1)
-    → c.before.before.before.args.slot < u16_at c.before.before.before.args.page.now 0
-below c = omega (arith, c.before.count_entries.ensures)
+below : (c : tie.Else-count_entries-slot)
+    → c.args.slot < u16_at c.args.page.now 0
+below c = omega (arith, c.count_entries.ensures)
 
-get-entry-requires : tie.Need-get-entry-requires
+get-entry-requires : tie.Need-get_entry-requires
 get-entry-requires c κs =
-    let s = c.before.before.before in
-    (omega (arith, below c, number-le s.args.page.now s.requires.0.number), s.requires.0.whole)
+    (omega (arith, below c, number-le c.args.page.now c.requires.0.number), c.requires.0.whole)
 
-cast-result-2 : tie.Need-overflow-cast-result-2
+cast-result-2 : tie.Need-overflow_cast-result-2
 cast-result-2 c = search rules
 
-mul-result : tie.Need-overflow-mul-result
+mul-result : tie.Need-overflow_mul-result
 mul-result c = search rules
 
-cast-result-3 : tie.Need-overflow-cast-result-3
+cast-result-3 : tie.Need-overflow_cast-result-3
 cast-result-3 c = search rules
 
-add-result : tie.Need-overflow-add-result
+add-result : tie.Need-overflow_add-result
 add-result c = search rules
 
-returns-2 : tie.Need-returns-2
+returns-2 : tie.Need-returns
 returns-2 c =
-    let g = c.before in
-    let s = g.before.before.before.before in
-    let l = s.args.page.now in
-    let k = s.args.slot in
-    ap (λ (e : Entry). tail_of k (e ∷ drop (suc k) (entries_of l))) g.get-entry.ensures
-    ∙ sym (ap (tail_of k) (left-more l k (below g.before)))
+    let l = c.args.page.now in
+    let k = c.args.slot in
+    ap (λ (e : Entry). tail_of k (e ∷ drop (suc k) (entries_of l))) c.get_entry.ensures
+    ∙ sym (ap (tail_of k) (left-more l k (below c.before.before)))
 
-pub tail-at-spec : {M : Type 1} → statement M
-tail-at-spec =
+pub tail_at_spec : {M : Type 1} → statement M
+tail_at_spec =
     tie.close
     (tie.spec
     count-entries-requires

@@ -11,22 +11,22 @@ use Rattle.merge.specs.Tree.{no_later, ahead}
 use Rattle.merge.proofs.tree.is_ahead.Statement.{statement}
 use Rattle.merge.proofs.tree.is_ahead.Tie as tie
 
-mul-other : tie.Need-overflow-mul-other
+mul-other : tie.Need-offset_bounds-keys-b
 mul-other c = search rules
 
-element-copy-out-other : tie.Need-element-copy-out-other
+element-copy-out-other : tie.Need-bounds-keys-b
 element-copy-out-other c = search rules
 
-mul-later : tie.Need-overflow-mul-later
+mul-later : tie.Need-offset_bounds-tails-b
 mul-later c = search rules
 
-element-copy-out-later : tie.Need-element-copy-out-later
+element-copy-out-later : tie.Need-bounds-tails-b
 element-copy-out-later c = search rules
 
-mul-result : tie.Need-overflow-mul-result
+mul-result : tie.Need-offset_bounds-tails-a
 mul-result c = search rules
 
-element-copy-out-result : tie.Need-element-copy-out-result
+element-copy-out-result : tie.Need-bounds-tails-a
 element-copy-out-result c = search rules
 
 -- all three tests are made, so that there is no branch
@@ -44,15 +44,14 @@ flat k m l o = go (ℕ_discrete k l)
 returns : tie.Need-returns
 unfolding ahead
 returns c =
-    let s = c.before.before.before in
-    let a = s.args in
+    let a = c.args in
     flat a.key (get_or a.tails.now a.a 0) (get_or a.keys.now a.b 0) (get_or a.tails.now a.b 0)
     ∙ ap
     (λ (k : ℕ). no_later k (get_or a.tails.now a.a 0) (get_or a.keys.now a.b 0) (get_or a.tails.now a.b 0))
-    s.requires.2
+    c.requires.2
 
-pub is-ahead-spec : {M : Type 1} → statement M
-is-ahead-spec =
+pub is_ahead_spec : {M : Type 1} → statement M
+is_ahead_spec =
     tie.close
     (tie.spec
     mul-other

@@ -9,153 +9,144 @@ use Rattle.merge.specs.ReplayLaws.{Rising, sibling-few, page-few, rise-here, ris
 use Rattle.merge.proofs.tree.replay.Statement.{statement}
 use Rattle.merge.proofs.tree.replay.Tie as tie
 
-abbrev invariant-loop : tie.invariant-loop
+abbrev invariant-loop : tie.invariant-loop-k
 invariant-loop keys tails tree₀ n j page₀ key₀ k₀ tree page key k = Rising keys tails n tree k page key
 
-abbrev decreases-loop : tie.decreases-loop
+abbrev decreases-loop : tie.decreases-loop-k
 decreases-loop keys tails tree₀ n j page₀ key₀ k₀ tree page key k = k
 
-cast-page : tie.Need-overflow-cast-page invariant-loop decreases-loop
+cast-page : tie.Need-overflow_cast-page invariant-loop decreases-loop
 cast-page c = omega arith
 
-mul-key : tie.Need-overflow-mul-key invariant-loop decreases-loop
+mul-key : tie.Need-offset_bounds-keys-j invariant-loop decreases-loop
 mul-key c = omega arith
 
-element-copy-out-key : tie.Need-element-copy-out-key invariant-loop decreases-loop
+element-copy-out-key : tie.Need-bounds-keys-j invariant-loop decreases-loop
 element-copy-out-key c = omega arith
 
-add-k : tie.Need-overflow-add-k invariant-loop decreases-loop
+add-k : tie.Need-overflow_add-k invariant-loop decreases-loop
 add-k c = omega arith
 
-loop-holds : tie.Need-loop-init invariant-loop decreases-loop
+loop-holds : tie.Need-loop-k-init invariant-loop decreases-loop
 loop-holds c =
-    let s = c.before in
     record {
       node = (omega arith, omega arith);
-      page = sym (s.requires.2.leaf s.args.j s.requires.0);
+      page = sym (c.requires.2.leaf c.args.j c.requires.0);
       key = refl;
-      rest = s.requires.2;
+      rest = c.requires.2;
     }
 
 -- a node of the tree
-node : (c : tie.In-loop invariant-loop decreases-loop) → c.before.loop.k < 2 * max_pages
-node c = omega (arith, c.before.loop.invariant.node.1, c.before.before.before.requires.1)
+node : (c : tie.In-loop-k invariant-loop decreases-loop) → c.loop-k.k < 2 * max_pages
+node c = omega (arith, c.loop-k.invariant.node.1, c.requires.1)
 
-mul-other : tie.Need-overflow-mul-other invariant-loop decreases-loop
+mul-other : tie.Need-overflow_mul-other invariant-loop decreases-loop
 mul-other c = omega (arith, node c)
 
-add-other : tie.Need-overflow-add-other invariant-loop decreases-loop
+add-other : tie.Need-overflow_add-other invariant-loop decreases-loop
 add-other c = omega (arith, node c)
 
-sub-other : tie.Need-overflow-sub-other invariant-loop decreases-loop
-sub-other c = omega (arith, c.loop-test.true)
+sub-other : tie.Need-overflow_sub-other invariant-loop decreases-loop
+sub-other c = omega (arith, c.loop-k-test.true)
 
-mul-other-2 : tie.Need-overflow-mul-other-2 invariant-loop decreases-loop
+mul-other-2 : tie.Need-offset_bounds-tree-up invariant-loop decreases-loop
 mul-other-2 c = omega (arith, node c)
 
-element-copy-out-other : tie.Need-element-copy-out-other invariant-loop decreases-loop
-element-copy-out-other c = omega (arith, node c)
+element-copy-out-other : tie.Need-bounds-tree-up invariant-loop decreases-loop
+element-copy-out-other c = omega (arith, node c.before)
 
 -- the page next to it is one of the n
-other : (c : tie.In-loop invariant-loop decreases-loop)
-    → let l = c.before.loop in
+other : (c : tie.In-loop-k invariant-loop decreases-loop)
+    → let l = c.loop-k in
     get_or l.tree (4 * (l.k / 2) + 1 - l.k) 0 < max_pages
 other c =
-    let l = c.before in
-    let s = l.before.before in
-    omega (arith, sibling-few s.requires.1 l.loop.invariant c.loop-test.true, s.requires.1)
+    omega (arith, sibling-few c.requires.1 c.loop-k.invariant c.loop-k-test.true, c.requires.1)
 
-is-ahead-requires : tie.Need-is-ahead-requires invariant-loop decreases-loop
+is-ahead-requires : tie.Need-is_ahead-requires invariant-loop decreases-loop
 is-ahead-requires c κs =
-    let l = c.before.before in
-    let s = l.before.before in
-    (omega (arith, page-few s.requires.1 l.loop.invariant, s.requires.1), other c.before, l.loop.invariant.key)
+    (omega (arith, page-few c.requires.1 c.loop-k.invariant, c.requires.1), other c.before.before, c.loop-k.invariant.key)
 
-pick-requires : tie.Need-pick-requires invariant-loop decreases-loop
+pick-requires : tie.Need-pick-page-requires invariant-loop decreases-loop
 pick-requires c κs = tt
 
 either : (b : Bool) (x y m : ℕ) → x < m → y < m → cond b x y < m
 either true x y m h l = h
 either false x y m h l = l
 
-picked : (c : tie.After-pick invariant-loop decreases-loop) → c.pick.result < max_pages
+picked : (c : tie.After-pick-page invariant-loop decreases-loop) → c.pick-page.result < max_pages
 picked c =
-    let g = c.before in
-    let l = g.before.before.before in
-    let s = l.before.before in
-    let few : l.loop.page < max_pages = omega (arith, page-few s.requires.1 l.loop.invariant, s.requires.1) in
-    omega (arith, c.pick.ensures, either g.is-ahead.result _ _ max_pages few (other g.before.before))
+    let few : c.loop-k.page < max_pages = omega (arith, page-few c.requires.1 c.loop-k.invariant, c.requires.1) in
+    omega (arith, c.pick-page.ensures, either c.is_ahead.result _ _ max_pages few (other c.before.before.before.before))
 
-cast-key : tie.Need-overflow-cast-key invariant-loop decreases-loop
+cast-key : tie.Need-overflow_cast-key invariant-loop decreases-loop
 cast-key c = omega (arith, picked c)
 
-mul-key-2 : tie.Need-overflow-mul-key-2 invariant-loop decreases-loop
+mul-key-2 : tie.Need-offset_bounds-keys-page invariant-loop decreases-loop
 mul-key-2 c = omega (arith, picked c)
 
-element-copy-out-key-2 : tie.Need-element-copy-out-key-2 invariant-loop decreases-loop
-element-copy-out-key-2 c = omega (arith, picked c)
+element-copy-out-key-2 : tie.Need-bounds-keys-page invariant-loop decreases-loop
+element-copy-out-key-2 c = omega (arith, picked c.before)
 
-mul-tree : tie.Need-overflow-mul-tree invariant-loop decreases-loop
-mul-tree c = omega (arith, node c.before.before.before.before)
+mul-tree : tie.Need-offset_bounds-tree-up-in-loop-k invariant-loop decreases-loop
+mul-tree c = omega (arith, node c.before.before.before.before.before.before)
 
-element-write-tree : tie.Need-element-write-tree invariant-loop decreases-loop
-element-write-tree c = omega (arith, node c.before.before.before.before)
+element-write-tree : tie.Need-bounds-tree-up-in-loop-k invariant-loop decreases-loop
+element-write-tree c = omega (arith, node c.before.before.before.before.before.before)
 
-loop-less : tie.Need-loop-smaller invariant-loop decreases-loop
-loop-less c = omega (arith, c.before.before.before.before.loop-test.true)
+loop-less : tie.Need-loop-k-smaller invariant-loop decreases-loop
+loop-less c = omega (arith, c.loop-k-test.true)
 
-loop-again : tie.Need-loop-preserved invariant-loop decreases-loop
-loop-again c = go g.is-ahead.result refl
+loop-again : tie.Need-loop-k-preserved invariant-loop decreases-loop
+loop-again c = go g.is_ahead.result refl
   where
-    p : tie.After-pick invariant-loop decreases-loop
-    p = c.before
+    p : tie.After-pick-page invariant-loop decreases-loop
+    p = c.before.before
 
-    g : tie.After-is-ahead invariant-loop decreases-loop
+    g : tie.After-is_ahead invariant-loop decreases-loop
     g = p.before
 
-    v : tie.In-loop invariant-loop decreases-loop
-    v = g.before.before
+    v : tie.In-loop-k invariant-loop decreases-loop
+    v = g.before.before.before
 
-    l : tie.At-loop invariant-loop decreases-loop
+    l : tie.At-loop-k invariant-loop decreases-loop
     l = v.before
 
     q : ℕ
-    q = get_or l.loop.tree (4 * (l.loop.k / 2) + 1 - l.loop.k) 0
+    q = get_or l.loop-k.tree (4 * (l.loop-k.k / 2) + 1 - l.loop-k.k) 0
 
     keys : List ℕ
-    keys = l.before.before.args.keys.now
+    keys = l.args.keys.now
 
     tails : List ℕ
-    tails = l.before.before.args.tails.now
+    tails = l.args.tails.now
 
     n : ℕ
-    n = l.before.before.args.n
+    n = l.args.n
 
     up : ℕ
-    up = l.loop.k / 2
+    up = l.loop-k.k / 2
 
     -- with page x at the node above
     risen-by : ℕ → Type 0
-    risen-by x = Rising keys tails n (set l.loop.tree up x) up x (get_or keys x 0)
+    risen-by x = Rising keys tails n (set l.loop-k.tree up x) up x (get_or keys x 0)
 
-    go : (b : Bool) → g.is-ahead.result ≡ b → risen-by p.pick.result
+    go : (b : Bool) → g.is_ahead.result ≡ b → risen-by p.pick-page.result
     go true e =
-        subst risen-by (sym (p.pick.ensures ∙ ap (λ (b : Bool). cond b l.loop.page q) e))
-        (subst (Rising keys tails n (set l.loop.tree up l.loop.page) up l.loop.page) l.loop.inv.key
-        (rise-here l.before.before.pre.1 l.loop.inv v.loop-test.taken q refl
-        (sym g.is-ahead.ensures ∙ e)))
+        subst risen-by (sym (p.pick-page.ensures ∙ ap (λ (b : Bool). cond b l.loop-k.page q) e))
+        (subst (Rising keys tails n (set l.loop-k.tree up l.loop-k.page) up l.loop-k.page) l.loop-k.invariant.key
+        (rise-here l.requires.1 l.loop-k.invariant v.loop-k-test.true q refl
+        (sym g.is_ahead.ensures ∙ e)))
     go false e =
-        subst risen-by (sym (p.pick.ensures ∙ ap (λ (b : Bool). cond b l.loop.page q) e))
-        (rise-side l.before.before.pre.1 l.loop.inv v.loop-test.taken q refl
-        (sym g.is-ahead.ensures ∙ e))
+        subst risen-by (sym (p.pick-page.ensures ∙ ap (λ (b : Bool). cond b l.loop-k.page q) e))
+        (rise-side l.requires.1 l.loop-k.invariant v.loop-k-test.true q refl
+        (sym g.is_ahead.ensures ∙ e))
 
 returns : tie.Need-returns invariant-loop decreases-loop
 returns c =
-    let l = c.before in
-    risen l.before.before.requires.1 l.loop.invariant (omega (arith, c.loop-test.false))
+    risen c.requires.1 c.loop-k.invariant (omega (arith, c.loop-k-test.false))
 
-pub replay-spec : {M : Type 1} → statement M
-replay-spec =
+pub replay_spec : {M : Type 1} → statement M
+replay_spec =
     tie.close
     (tie.spec
     invariant-loop

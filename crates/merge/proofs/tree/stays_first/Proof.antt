@@ -11,28 +11,28 @@ use Rattle.merge.specs.Tree.{ahead}
 use Rattle.merge.proofs.tree.stays_first.Statement.{statement}
 use Rattle.merge.proofs.tree.stays_first.Tie as tie
 
-element-copy-out-second : tie.Need-element-copy-out-second
+element-copy-out-second : tie.Need-bounds-tree-0
 element-copy-out-second c = search rules
 
-cast-if1 : tie.Need-overflow-cast-if1
+cast-if1 : tie.Need-overflow_cast-n
 cast-if1 c = search rules
 
-returns : tie.Need-returns
+returns : tie.Need-returns-then-n-second
 returns c e = no_way e refl
 
-mul-key : tie.Need-overflow-mul-key
+mul-key : tie.Need-offset_bounds-keys-j
 mul-key c = search rules
 
-element-copy-out-key : tie.Need-element-copy-out-key
+element-copy-out-key : tie.Need-bounds-keys-j
 element-copy-out-key c = search rules
 
-cast-if2 : tie.Need-overflow-cast-if2
+cast-if2 : tie.Need-overflow_cast-second
 cast-if2 c = search rules
 
-mul-if2 : tie.Need-overflow-mul-if2
+mul-if2 : tie.Need-offset_bounds-keys-second
 mul-if2 c = search rules
 
-element-copy-out-if2 : tie.Need-element-copy-out-if2
+element-copy-out-if2 : tie.Need-bounds-keys-second
 element-copy-out-if2 c = search rules
 
 -- by the keys alone
@@ -41,25 +41,23 @@ unfolding ahead
 ahead-key keys tails a b h =
     rw (ne_eqb (get_or keys a 0) (get_or keys b 0) (λ e. omega (arith, e)), lt-ltb (get_or keys a 0) (get_or keys b 0) h)
 
-returns-2 : tie.Need-returns-2
+returns-2 : tie.Need-returns-then-key-keys
 returns-2 c e =
-    let f = c.before.before.before in
-    let a = f.before.before.args in
-    (omega (arith, f.if1.false), ahead-key a.keys.now a.tails.now a.j _ c.if2.true)
+    let a = c.args in
+    (omega (arith, c.if-n-second.false), ahead-key a.keys.now a.tails.now a.j _ c.if-key-keys.true)
 
-cast-is-ahead : tie.Need-overflow-cast-is-ahead
+cast-is-ahead : tie.Need-overflow_cast-j
 cast-is-ahead c = search rules
 
-is-ahead-requires : tie.Need-is-ahead-requires
+is-ahead-requires : tie.Need-is_ahead-requires
 is-ahead-requires c κs = search rules
 
-returns-3 : tie.Need-returns-3
+returns-3 : tie.Need-returns
 returns-3 c e =
-    let f = c.before.before.before.before in
-    (omega (arith, f.if1.false), sym c.is-ahead.ensures ∙ e)
+    (omega (arith, c.if-n-second.false), sym c.is_ahead.ensures ∙ e)
 
-pub stays-first-spec : {M : Type 1} → statement M
-stays-first-spec =
+pub stays_first_spec : {M : Type 1} → statement M
+stays_first_spec =
     tie.close
     (tie.spec
     element-copy-out-second

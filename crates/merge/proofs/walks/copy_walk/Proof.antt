@@ -27,58 +27,55 @@ copied_next pages₀ walk at i pages c inside =
         get_or-set_other pages (at + i) (at + k) (get_or walk i 0) 0 (λ q. e (omega (arith, q))) ∙ c.here k (omega
         (arith, h, e))
 
-abbrev invariant-loop : tie.invariant-loop
+abbrev invariant-loop : tie.invariant-loop-i
 invariant-loop pages₀ walk at n i₀ pages i = (Copied pages₀ walk at i pages) × (i ≤ n)
 
-abbrev decreases-loop : tie.decreases-loop
+abbrev decreases-loop : tie.decreases-loop-i
 decreases-loop pages₀ walk at n i₀ pages i = n - i
 
-loop-holds : tie.Need-loop-init invariant-loop decreases-loop
+loop-holds : tie.Need-loop-i-init invariant-loop decreases-loop
 loop-holds c =
     (record { size = c.requires.1; here = λ i h. absurd (omega (arith, h)); before = λ i h. refl }, omega arith)
 
-mul-pages : tie.Need-overflow-mul-pages invariant-loop decreases-loop
-mul-pages c = omega (arith, c.loop-test.true, c.before.before.requires.0)
+mul-pages : tie.Need-offset_bounds-walk-i invariant-loop decreases-loop
+mul-pages c = omega (arith, c.loop-i-test.true, c.requires.0)
 
-element-copy-out-pages : tie.Need-element-copy-out-pages invariant-loop decreases-loop
-element-copy-out-pages c = omega (arith, c.loop-test.true, c.before.before.requires.0)
+element-copy-out-pages : tie.Need-bounds-walk-i invariant-loop decreases-loop
+element-copy-out-pages c = omega (arith, c.loop-i-test.true, c.requires.0)
 
-add-pages : tie.Need-overflow-add-pages invariant-loop decreases-loop
-add-pages c = let s = c.before.before.before in omega (arith, c.before.loop-test.true, s.requires.0)
+add-pages : tie.Need-overflow_add-pages invariant-loop decreases-loop
+add-pages c = omega (arith, c.loop-i-test.true, c.requires.0)
 
-mul-pages-2 : tie.Need-overflow-mul-pages-2 invariant-loop decreases-loop
-mul-pages-2 c = let s = c.before.before.before in omega (arith, c.before.loop-test.true, s.requires.0)
+mul-pages-2 : tie.Need-offset_bounds-pages-at invariant-loop decreases-loop
+mul-pages-2 c = omega (arith, c.loop-i-test.true, c.requires.0)
 
-element-write-pages : tie.Need-element-write-pages invariant-loop decreases-loop
+element-write-pages : tie.Need-bounds-pages-at invariant-loop decreases-loop
 element-write-pages c =
-    let s = c.before.before.before in omega (arith, c.before.loop-test.true, s.requires.0)
+    omega (arith, c.loop-i-test.true, c.requires.0)
 
-add-i : tie.Need-overflow-add-i invariant-loop decreases-loop
+add-i : tie.Need-overflow_add-i invariant-loop decreases-loop
 add-i c = omega arith
 
-loop-less : tie.Need-loop-smaller invariant-loop decreases-loop
+loop-less : tie.Need-loop-i-smaller invariant-loop decreases-loop
 loop-less c = omega arith
 
-loop-again : tie.Need-loop-preserved invariant-loop decreases-loop
+loop-again : tie.Need-loop-i-preserved invariant-loop decreases-loop
 loop-again c =
-    let l = c.before.before in
-    let s = l.before in (
-      copied_next s.args.pages.now s.args.walk.now s.args.at l.loop.i l.loop.pages
-          l.loop.invariant.0
-          (omega (arith, l.loop.invariant.0.size, s.requires.0, c.before.loop-test.true)),
-      omega (arith, c.before.loop-test.true),
+    (
+      copied_next c.args.pages.now c.args.walk.now c.args.at c.loop-i.i c.loop-i.pages
+          c.loop-i.invariant.0
+          (omega (arith, c.loop-i.invariant.0.size, c.requires.0, c.loop-i-test.true)),
+      omega (arith, c.loop-i-test.true),
     )
 
 returns : tie.Need-returns invariant-loop decreases-loop
 returns c =
-    let l = c.before in
-    let s = l.before in
-    let end : l.loop.i ≡ s.args.n = omega (arith, l.loop.invariant.1, c.loop-test.false) in
-    subst (λ (i : ℕ). Copied s.args.pages.now s.args.walk.now s.args.at i l.loop.pages) end
-    l.loop.invariant.0
+    let end : c.loop-i.i ≡ c.args.n = omega (arith, c.loop-i.invariant.1, c.loop-i-test.false) in
+    subst (λ (i : ℕ). Copied c.args.pages.now c.args.walk.now c.args.at i c.loop-i.pages) end
+    c.loop-i.invariant.0
 
-pub copy-walk-spec : {M : Type 1} → statement M
-copy-walk-spec =
+pub copy_walk_spec : {M : Type 1} → statement M
+copy_walk_spec =
     tie.close
     (tie.spec
     invariant-loop

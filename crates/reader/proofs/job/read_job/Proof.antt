@@ -8,59 +8,46 @@ use Rattle.reader.specs.JobLaws.{old-low, new-flags, old-flags, phase-copying, p
 use Rattle.reader.proofs.job.read_job.Statement.{statement}
 use Rattle.reader.proofs.job.read_job.Tie as tie
 
-old : (c : tie.After-parent-of) → c.parent_of.result ≡ split_from (max_at c.before.before.args.store.now)
-old c = c.parent_of.ensures ∙ ap split_from (max-is c.before.before.requires)
+old : (c : tie.After-parent_of-old) → c.parent_of-old.result ≡ split_from (max_at c.args.store.now)
+old c = c.parent_of-old.ensures ∙ ap split_from (max-is c.requires)
 
-new : (c : tie.After-bucket-flags) → c.bucket-flags.result ≡ new_flags c.before.before.before.args.store.now
+new : (c : tie.After-bucket_flags) → c.bucket_flags.result ≡ new_flags c.args.store.now
 new c =
-    let s = c.before.before.before in
-    new-flags s.requires s.args.m.max c.bucket-flags.result c.bucket-flags.ensures refl
+    new-flags c.requires c.args.m.max c.bucket_flags.result c.bucket_flags.ensures refl
 
-second : (c : tie.After-bucket-flags2)
-    → c.bucket-flags2.result ≡ old_flags c.before.before.before.before.before.args.store.now
+second : (c : tie.After-bucket_flags-2)
+    → c.bucket_flags-2.result ≡ old_flags c.args.store.now
 second c =
-    let p = c.before.before.before in
-    let s = p.before.before in
-    old-flags s.requires p.parent_of.result c.bucket-flags2.result c.bucket-flags2.ensures
-    p.parent_of.ensures
+    old-flags c.requires c.parent_of-old.result c.bucket_flags-2.result c.bucket_flags-2.ensures
+    c.parent_of-old.ensures
 
-parent-of-requires : tie.Need-parent-of-requires
+parent-of-requires : tie.Need-parent_of-old-requires
 parent-of-requires c κs = search rules
 
-bucket-flags-requires : tie.Need-bucket-flags-requires
+bucket-flags-requires : tie.Need-bucket_flags-requires
 bucket-flags-requires c κs = search rules
 
-returns : tie.Need-returns
+returns : tie.Need-returns-then-bucket_flags-eq-POPULATED
 returns c =
-    let f = c.before in
-    let s = f.before.before.before in
-    ap₂ Phase.Copying (old f.before) (max-is s.requires)
-    ∙ sym (phase-copying s.args.store.now (sym (new f) ∙ c.if1.true))
+    ap₂ Phase.Copying (old c.before.before) (max-is c.requires)
+    ∙ sym (phase-copying c.args.store.now (sym (new c.before) ∙ c.if-bucket_flags-eq-POPULATED.true))
 
-bucket-flags-requires-2 : tie.Need-bucket-flags-requires-2
+bucket-flags-requires-2 : tie.Need-bucket_flags-requires-2
 bucket-flags-requires-2 c κs =
-    let p = c.before.before in
-    let s = p.before.before in
-    (s.requires, old-low s.requires p.parent_of.result p.parent_of.ensures)
+    (c.requires, old-low c.requires c.parent_of-old.result c.parent_of-old.ensures)
 
-returns-2 : tie.Need-returns-2
+returns-2 : tie.Need-returns-then-bucket_flags-eq-CLEANUP
 returns-2 c =
-    let g = c.before in
-    let f = g.before.before in
-    let s = f.before.before.before in
-    ap₂ Phase.Clearing (old f.before) (max-is s.requires)
-    ∙ sym (phase-clearing s.args.store.now (λ e. g.before.if1.false (new f ∙ e))
-    (sym (second g) ∙ c.if2.true))
+    ap₂ Phase.Clearing (old c.before.before.before.before) (max-is c.requires)
+    ∙ sym (phase-clearing c.args.store.now (λ e. c.if-bucket_flags-eq-POPULATED.false (new c.before.before.before ∙ e))
+    (sym (second c.before) ∙ c.if-bucket_flags-eq-CLEANUP.true))
 
-returns-3 : tie.Need-returns-3
+returns-3 : tie.Need-returns
 returns-3 c =
-    let g = c.before in
-    let f = g.before.before in
-    let s = f.before.before.before in
-    sym (phase-none s.args.store.now (λ e. g.before.if1.false (new f ∙ e)) (λ e. c.if2.false (second g ∙ e)))
+    sym (phase-none c.args.store.now (λ e. c.if-bucket_flags-eq-POPULATED.false (new c.before.before.before ∙ e)) (λ e. c.if-bucket_flags-eq-CLEANUP.false (second c.before ∙ e)))
 
-pub read-job-spec : {M : Type 1} → statement M
-read-job-spec =
+pub read_job_spec : {M : Type 1} → statement M
+read_job_spec =
     tie.close
     (tie.spec
     parent-of-requires

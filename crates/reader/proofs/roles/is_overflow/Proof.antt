@@ -13,79 +13,65 @@ use borrow.Author.Rules.{rules}
 use Rattle.reader.proofs.roles.is_overflow.Statement.{statement}
 use Rattle.reader.proofs.roles.is_overflow.Tie as tie
 
-inside : (c : tie.After-known-told)
-    → c.before.before.before.before.before.args.k < blocks c.before.before.before.before.before.args.store.now
+inside : (c : tie.In-Bit)
+    → c.args.k < blocks c.args.store.now
 inside c =
-    let r = c.before.before.before in
-    let s = r.before.before in
-    bit_found s.requires s.args.k r.role-at.result r.role-at.ensures _ c.before.n.given.1
+    bit_found c.requires c.args.k c.role_at.result c.role_at.ensures _ c.in-Bit.is
 
-role-at-requires : tie.Need-role-at-requires
-role-at-requires c κs = known-addressed c.before.requires
+role-at-requires : tie.Need-role_at-requires
+role-at-requires c κs = known-addressed c.requires
 
-enum_told : tie.Need-enum-told
+enum_told : tie.Need-enum_told-1
 enum_told c = search rules
 
-enum-told-2 : tie.Need-enum-told-2
+enum-told-2 : tie.Need-enum_told-in-Bucket
 enum-told-2 c = search rules
 
-enum-known-n : tie.Need-enum-known-n
+enum-known-n : tie.Need-enum_known-n
 enum-known-n c = search rules
 
-block-at-requires : tie.Need-block-at-requires
-block-at-requires c κs = let s = c.before.before.before.before.before.before in block-whole s.requires s.args.k (inside c.before)
+block-at-requires : tie.Need-block_at-requires
+block-at-requires c κs = block-whole c.requires c.args.k (inside c.before)
 
-flags-at-requires : tie.Need-flags-at-requires
+flags-at-requires : tie.Need-flags_at-requires
 flags-at-requires c κs =
-    let s = c.before.before.before.before.before.before.before in
-    ap length c.block_at.ensures ∙ block-full s.requires s.args.k (inside c.before.before)
+    ap length c.block_at.ensures ∙ block-full c.requires c.args.k (inside c.before.before)
 
-enum-told-3 : tie.Need-enum-told-3
+enum-told-3 : tie.Need-enum_told-in-Unmade
 enum-told-3 c = search rules
 
-returns : tie.Need-returns
+returns : tie.Need-returns-in-Meta
 unfolding overflow_as
 returns c =
-    let r = c.before.before in
-    let s = r.before.before in
-    sym (overflow-found s.requires s.args.k r.role-at.result r.role-at.ensures _ c.enum_told.given.1)
+    sym (overflow-found c.requires c.args.k c.role_at.result c.role_at.ensures _ c.in-Meta.is)
 
-returns-2 : tie.Need-returns-2
+returns-2 : tie.Need-returns-in-Bucket
 unfolding overflow_as
 returns-2 c =
-    let r = c.before.before in
-    let s = r.before.before in
-    sym (overflow-found s.requires s.args.k r.role-at.result r.role-at.ensures _ c.enum-told2.given.1)
+    sym (overflow-found c.requires c.args.k c.role_at.result c.role_at.ensures _ c.in-Bucket.is)
 
-returns-3 : tie.Need-returns-3
+returns-3 : tie.Need-returns-then-n-ne0
 returns-3 c =
-    let t = c.before.before in
-    let r = t.before.before.before.before in
-    let s = r.before.before in
-    let l = block s.args.store.now s.args.k in
-    ap (λ (x : ℕ). eqb x 1) (c.flags-at.ensures ∙ ap flags_at c.before.block_at.ensures)
-    ∙ sym (overflow-later l _ t.if1.true)
-    ∙ sym (overflow-found s.requires s.args.k r.role-at.result r.role-at.ensures _ t.before.before.n.given.1)
+    let l = block c.args.store.now c.args.k in
+    ap (λ (x : ℕ). eqb x 1) (c.flags_at.ensures ∙ ap flags_at c.block_at.ensures)
+    ∙ sym (overflow-later l _ c.if-n-ne0.true)
+    ∙ sym (overflow-found c.requires c.args.k c.role_at.result c.role_at.ensures _ c.in-Bit.is)
 
-returns-4 : tie.Need-returns-4
+returns-4 : tie.Need-returns-else-n-ne0
 returns-4 c =
-    let r = c.before.before.before.before in
-    let s = r.before.before in
-    let l = block s.args.store.now s.args.k in
-    let n = c.before.before.n.given.0.0 in
-    ap not (eq-eqb n 0 c.if1.false)
-    ∙ sym (overflow-found s.requires s.args.k r.role-at.result r.role-at.ensures _ c.before.before.n.given.1
-    ∙ overflow-first l n c.if1.false)
+    let l = block c.args.store.now c.args.k in
+    let n = c.in-Bit.n in
+    ap not (eq-eqb n 0 c.if-n-ne0.false)
+    ∙ sym (overflow-found c.requires c.args.k c.role_at.result c.role_at.ensures _ c.in-Bit.is
+    ∙ overflow-first l n c.if-n-ne0.false)
 
-returns-5 : tie.Need-returns-5
+returns-5 : tie.Need-returns-in-Unmade
 unfolding overflow_as
 returns-5 c =
-    let r = c.before.before in
-    let s = r.before.before in
-    sym (overflow-found s.requires s.args.k r.role-at.result r.role-at.ensures _ c.enum-told3.given.1)
+    sym (overflow-found c.requires c.args.k c.role_at.result c.role_at.ensures _ c.in-Unmade.is)
 
-pub is-overflow-spec : {M : Type 1} → statement M
-is-overflow-spec =
+pub is_overflow_spec : {M : Type 1} → statement M
+is_overflow_spec =
     tie.close
     (tie.spec
     role-at-requires

@@ -8,21 +8,19 @@ use Rattle.reader.specs.KnownLaws.{top_small, map-full}
 use Rattle.shape.proofs.bits.check_bit.Statement.{statement}
 use Rattle.shape.proofs.bits.check_bit.Tie as tie
 
-bit-of-requires : tie.Need-bit-of-requires
+bit-of-requires : tie.Need-bit_of-clear-requires
 bit-of-requires c κs =
-    let p = c.before.before.requires in
+    let p = c.requires in
     (map-full p.0.0 _ p.0.1, omega (arith, p.1, top_small p.0.0))
 
-is-free-requires : tie.Need-is-free-requires
-is-free-requires c κs = let p = c.before.before.before.requires in (p.0.0, p.1)
+is-free-requires : tie.Need-is_free-requires
+is-free-requires c κs = let p = c.requires in (p.0.0, p.1)
 
 returns : tie.Need-returns
 returns c =
-    let b = c.before in
-    let s = b.before.before.before in
-    let a = s.args in
-    let bit = b.bit-of.ensures ∙ ap (λ (l : List ℕ). bit_of l a.n) s.requires.0.1 in
-    bit-right a.store.now a.n b.bit-of.result c.is_free.result bit c.is_free.ensures
+    let a = c.args in
+    let bit = c.bit_of-clear.ensures ∙ ap (λ (l : List ℕ). bit_of l a.n) c.requires.0.1 in
+    bit-right a.store.now a.n c.bit_of-clear.result c.is_free.result bit c.is_free.ensures
 
-pub check-bit-spec : {M : Type 1} → statement M
-check-bit-spec = tie.close (tie.spec bit-of-requires is-free-requires returns)
+pub check_bit_spec : {M : Type 1} → statement M
+check_bit_spec = tie.close (tie.spec bit-of-requires is-free-requires returns)

@@ -9,67 +9,63 @@ use Rattle.shape.specs.LoopLaws.{passed, failed, left, left-start, left-turn, le
 use Rattle.shape.proofs.bits.check_made.Statement.{statement}
 use Rattle.shape.proofs.bits.check_made.Tie as tie
 
-abbrev invariant-loop : tie.invariant-loop
+abbrev invariant-loop : tie.invariant-loop-n
 invariant-loop store map m top n₀ n =
     (n ≤ top_at store) × (left (bit_ok store) (top_at store) n ≡ all (bit_ok store) (up_from 0 (top_at store)))
 
-abbrev decreases-loop : tie.decreases-loop
+abbrev decreases-loop : tie.decreases-loop-n
 decreases-loop store map m top n₀ n = top_at store - n
 
 -- the number of turns is the number of made bits
-top : (c : tie.After-top-of invariant-loop decreases-loop)
-    → c.top_of.result ≡ top_at c.before.before.before.args.store.now
-top c = c.top_of.ensures ∙ top-is c.before.before.before.requires.0
+top : (c : tie.After-top_of-top invariant-loop decreases-loop)
+    → c.top_of-top.result ≡ top_at c.args.store.now
+top c = c.top_of-top.ensures ∙ top-is c.requires.0
 
-top-of-requires : tie.Need-top-of-requires invariant-loop decreases-loop
-top-of-requires c κs = known-addressed c.before.before.requires.0
+top-of-requires : tie.Need-top_of-top-requires invariant-loop decreases-loop
+top-of-requires c κs = known-addressed c.requires.0
 
-loop-holds : tie.Need-loop-init invariant-loop decreases-loop
+loop-holds : tie.Need-loop-n-init invariant-loop decreases-loop
 loop-holds c =
-    let s = c.before.before.before.args.store.now in
+    let s = c.args.store.now in
     (omega arith, left-start (bit_ok s) (top_at s))
 
-check-bit-requires : tie.Need-check-bit-requires invariant-loop decreases-loop
+check-bit-requires : tie.Need-check_bit-requires invariant-loop decreases-loop
 check-bit-requires c κs =
-    let t = c.before.before in
-    (t.before.before.before.requires, omega (arith, c.loop-test.true, top t))
+    (c.requires, omega (arith, c.loop-n-test.true, top c.before.before))
 
-returns : tie.Need-returns invariant-loop decreases-loop
+returns : tie.Need-returns-then-not-check_bit invariant-loop decreases-loop
 returns c =
-    let b = c.before.check-bit in
-    let l = c.before.before.before.loop in
-    let t = c.before.before.before.before in
-    let s = t.before.before.before.args.store.now in
-    let test = sym b.ensures ∙ not-true b.result c.if1.true in
-    let more : l.n < top_at s = omega (arith, c.before.before.loop-test.true, top t) in
+    let b = c.check_bit in
+    let l = c.loop-n in
+    let s = c.args.store.now in
+    let test = sym b.ensures ∙ not-true b.result c.if-not-check_bit.true-raw in
+    let more : l.n < top_at s = omega (arith, c.loop-n-test.true, top c.before.before.before.before) in
     sym (sym l.invariant.1 ∙ failed (bit_ok s l.n) _ _ (left-turn (bit_ok s) (top_at s) l.n more) test)
 
-add-n : tie.Need-overflow-add-n invariant-loop decreases-loop
+add-n : tie.Need-overflow_add-n invariant-loop decreases-loop
 add-n c = omega arith
 
-loop-less : tie.Need-loop-smaller invariant-loop decreases-loop
-loop-less c = omega (arith, c.before.before.loop-test.true, top c.before.before.before.before)
+loop-less : tie.Need-loop-n-smaller invariant-loop decreases-loop
+loop-less c = omega (arith, c.loop-n-test.true, top c.before.before.before.before)
 
-loop-again : tie.Need-loop-preserved invariant-loop decreases-loop
+loop-again : tie.Need-loop-n-preserved invariant-loop decreases-loop
 loop-again c =
-    let b = c.before.check-bit in
-    let l = c.before.before.before.loop in
-    let t = c.before.before.before.before in
-    let s = t.before.before.before.args.store.now in
-    let test = sym b.ensures ∙ not-false b.result c.if1.false in
-    let more : l.n < top_at s = omega (arith, c.before.before.loop-test.true, top t) in
+    let b = c.check_bit in
+    let l = c.loop-n in
+    let s = c.args.store.now in
+    let test = sym b.ensures ∙ not-false b.result c.if-not-check_bit.false-raw in
+    let more : l.n < top_at s = omega (arith, c.loop-n-test.true, top c.before.before.before.before) in
     (omega arith, passed (bit_ok s l.n) _ _ (left-turn (bit_ok s) (top_at s) l.n more) test ∙ l.invariant.1)
 
-returns-2 : tie.Need-returns-2 invariant-loop decreases-loop
+returns-2 : tie.Need-returns invariant-loop decreases-loop
 returns-2 c =
-    let l = c.before.loop in
-    let t = c.before.before in
-    let s = t.before.before.before.args.store.now in
-    let done : top_at s ≤ l.n = omega (arith, c.loop-test.false, top t) in
+    let l = c.loop-n in
+    let s = c.args.store.now in
+    let done : top_at s ≤ l.n = omega (arith, c.loop-n-test.false, top c.before.before) in
     sym (sym l.invariant.1 ∙ left-done (bit_ok s) (top_at s) l.n done)
 
-pub check-made-spec : {M : Type 1} → statement M
-check-made-spec =
+pub check_made_spec : {M : Type 1} → statement M
+check_made_spec =
     tie.close
     (tie.spec
     invariant-loop

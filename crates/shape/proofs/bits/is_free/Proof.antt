@@ -7,24 +7,21 @@ use Rattle.shape.proofs.Bitmaps.{free-first, free-made}
 use Rattle.shape.proofs.bits.is_free.Statement.{statement}
 use Rattle.shape.proofs.bits.is_free.Tie as tie
 
-returns : tie.Need-returns
-returns c = let a = c.before.before.args in sym (free-first a.store.now a.n c.if1.true)
+returns : tie.Need-returns-then-n-eq0
+returns c = let a = c.args in sym (free-first a.store.now a.n c.if-n-eq0.true)
 
-home-of-bit-requires : tie.Need-home-of-bit-requires
+home-of-bit-requires : tie.Need-home_of_bit-requires
 home-of-bit-requires c κs =
-    let s = c.before.before in
-    (known-addressed s.requires.0, omega (arith, s.requires.1, top-is s.requires.0))
+    (known-addressed c.requires.0, omega (arith, c.requires.1, top-is c.requires.0))
 
-is-overflow-requires : tie.Need-is-overflow-requires
-is-overflow-requires c κs = c.before.before.before.requires.0
+is-overflow-requires : tie.Need-is_overflow-requires
+is-overflow-requires c κs = c.requires.0
 
-returns-2 : tie.Need-returns-2
+returns-2 : tie.Need-returns
 returns-2 c =
-    let e = c.before.before in
-    let s = e.before.before in
-    let h = c.before.home-of-bit.ensures ∙ bit_is s.requires.0 s.args.n in
-    ap not (c.is-overflow.ensures ∙ ap (is_overflow s.args.store.now) h)
-    ∙ sym (free-made s.args.store.now s.args.n e.if1.false s.requires.1)
+    let h = c.home_of_bit.ensures ∙ bit_is c.requires.0 c.args.n in
+    ap not (c.is_overflow.ensures ∙ ap (is_overflow c.args.store.now) h)
+    ∙ sym (free-made c.args.store.now c.args.n c.if-n-eq0.false c.requires.1)
 
-pub is-free-spec : {M : Type 1} → statement M
-is-free-spec = tie.close (tie.spec returns home-of-bit-requires is-overflow-requires returns-2)
+pub is_free_spec : {M : Type 1} → statement M
+is_free_spec = tie.close (tie.spec returns home-of-bit-requires is-overflow-requires returns-2)

@@ -17,90 +17,81 @@ use Rattle.shape.proofs.Chaining.{chain-start, chain-turn, chain-end}
 use Rattle.shape.proofs.links.check_chain.Statement.{statement}
 use Rattle.shape.proofs.links.check_chain.Tie as tie
 
-abbrev invariant-loop : tie.invariant-loop
+abbrev invariant-loop : tie.invariant-loop-i
 invariant-loop store blocks count m b i₀ i =
     (i < count) × (count ≤ suc max_blocks)
     × (linked store b (get_or blocks i 0) (drop (i + 1) (walk store (block_of store b))) ≡ chained store b)
 
-abbrev decreases-loop : tie.decreases-loop
+abbrev decreases-loop : tie.decreases-loop-i
 decreases-loop store blocks count m b i₀ i = count - i
 
-loop-holds : tie.Need-loop-init invariant-loop decreases-loop
+loop-holds : tie.Need-loop-i-init invariant-loop decreases-loop
 loop-holds c =
-    let s = c.before in
-    let a = s.args in (
-      omega (arith, walked-some s.requires.1),
-      walked-few s.requires.1 (sized s.requires.0),
-      chain-start a.store.now a.b s.requires.1,
+    let a = c.args in (
+      omega (arith, walked-some c.requires.1),
+      walked-few c.requires.1 (sized c.requires.0),
+      chain-start a.store.now a.b c.requires.1,
     )
 
-add-loop : tie.Need-overflow-add-loop invariant-loop decreases-loop
+add-loop : tie.Need-overflow_add-i invariant-loop decreases-loop
 add-loop c = omega arith
 
-mul-check-link : tie.Need-overflow-mul-check-link invariant-loop decreases-loop
+mul-check-link : tie.Need-offset_bounds-blocks-i invariant-loop decreases-loop
 mul-check-link c = omega arith
 
-element-copy-out-check-link : tie.Need-element-copy-out-check-link invariant-loop decreases-loop
+element-copy-out-check-link : tie.Need-bounds-blocks-i invariant-loop decreases-loop
 element-copy-out-check-link c = omega arith
 
-add-check-link : tie.Need-overflow-add-check-link invariant-loop decreases-loop
+add-check-link : tie.Need-overflow_add-i-in-loop-i invariant-loop decreases-loop
 add-check-link c = omega arith
 
-mul-check-link-2 : tie.Need-overflow-mul-check-link-2 invariant-loop decreases-loop
+mul-check-link-2 : tie.Need-offset_bounds-blocks-i-in-loop-i invariant-loop decreases-loop
 mul-check-link-2 c = omega arith
 
-element-copy-out-check-link-2 : tie.Need-element-copy-out-check-link-2 invariant-loop decreases-loop
+element-copy-out-check-link-2 : tie.Need-bounds-blocks-i-in-loop-i invariant-loop decreases-loop
 element-copy-out-check-link-2 c = omega arith
 
-check-link-requires : tie.Need-check-link-requires invariant-loop decreases-loop
-check-link-requires c κs = c.before.before.before.before.before.requires.0
+check-link-requires : tie.Need-check_link-requires invariant-loop decreases-loop
+check-link-requires c κs = c.requires.0
 
-returns : tie.Need-returns invariant-loop decreases-loop
+returns : tie.Need-returns-then-not-check_link invariant-loop decreases-loop
 returns c =
-    let n = c.before in
-    let l = n.before.before.before.before in
-    let s = l.before.before in
-    let turn = chain-turn s.args.store.now s.args.b s.requires.1 l.loop.i
-    n.before.before.before.loop-test.true in
-    let test = sym n.check-link.ensures in
-    sym (sym l.loop.invariant.2 ∙ failed _ _ _ turn (test ∙ not-true n.check-link.result c.if1.true))
+    let turn = chain-turn c.args.store.now c.args.b c.requires.1 c.loop-i.i
+    c.loop-i-test.true in
+    let test = sym c.check_link.ensures in
+    sym (sym c.loop-i.invariant.2 ∙ failed _ _ _ turn (test ∙ not-true c.check_link.result c.if-not-check_link.true-raw))
 
-add-i : tie.Need-overflow-add-i invariant-loop decreases-loop
+add-i : tie.Need-overflow_add-i-in-loop-i-2 invariant-loop decreases-loop
 add-i c = omega arith
 
-loop-less : tie.Need-loop-smaller invariant-loop decreases-loop
+loop-less : tie.Need-loop-i-smaller invariant-loop decreases-loop
 loop-less c = omega arith
 
-loop-again : tie.Need-loop-preserved invariant-loop decreases-loop
+loop-again : tie.Need-loop-i-preserved invariant-loop decreases-loop
 loop-again c =
-    let n = c.before in
-    let l = n.before.before.before.before in
-    let s = l.before.before in
-    let turn = chain-turn s.args.store.now s.args.b s.requires.1 l.loop.i
-    n.before.before.before.loop-test.true in
-    let test = sym n.check-link.ensures in
-    (omega arith, l.loop.invariant.1, passed _ _ _ turn (test ∙ not-false n.check-link.result c.if1.false) ∙ l.loop.invariant.2)
+    let turn = chain-turn c.args.store.now c.args.b c.requires.1 c.loop-i.i
+    c.loop-i-test.true in
+    let test = sym c.check_link.ensures in
+    (omega arith, c.loop-i.invariant.1, passed _ _ _ turn (test ∙ not-false c.check_link.result c.if-not-check_link.false-raw) ∙ c.loop-i.invariant.2)
 
-mul-next-block : tie.Need-overflow-mul-next-block invariant-loop decreases-loop
+mul-next-block : tie.Need-offset_bounds-blocks-i-2 invariant-loop decreases-loop
 mul-next-block c = omega arith
 
-element-copy-out-next-block : tie.Need-element-copy-out-next-block invariant-loop decreases-loop
+element-copy-out-next-block : tie.Need-bounds-blocks-i-2 invariant-loop decreases-loop
 element-copy-out-next-block c = omega arith
 
-next-block-requires : tie.Need-next-block-requires invariant-loop decreases-loop
-next-block-requires c κs = sized c.before.before.before.before.requires.0
+next-block-requires : tie.Need-next_block-requires invariant-loop decreases-loop
+next-block-requires c κs = sized c.requires.0
 
-returns-2 : tie.Need-returns-2 invariant-loop decreases-loop
+returns-2 : tie.Need-returns invariant-loop decreases-loop
 returns-2 c =
-    let l = c.before.before.before in
-    let s = l.before.before in
-    ap (λ (k : ℕ). eqb k no_link) c.next-block.ensures
-    ∙ sym (chain-end s.args.store.now s.args.b s.requires.1 l.loop.i
-    (omega (arith, c.before.before.loop-test.false)))
-    ∙ l.loop.invariant.2
+    ap (λ (k : ℕ). eqb k no_link) c.next_block.ensures
+    ∙ sym (chain-end c.args.store.now c.args.b c.requires.1 c.loop-i.i
+    (omega (arith, c.loop-i-test.false)))
+    ∙ c.loop-i.invariant.2
 
-pub check-chain-spec : {M : Type 1} → statement M
-check-chain-spec =
+pub check_chain_spec : {M : Type 1} → statement M
+check_chain_spec =
     tie.close
     (tie.spec
     invariant-loop

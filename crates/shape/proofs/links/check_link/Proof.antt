@@ -15,79 +15,70 @@ use Rattle.shape.specs.ChainedLaws.{overflow-inside}
 use Rattle.shape.proofs.links.check_link.Statement.{statement}
 use Rattle.shape.proofs.links.check_link.Tie as tie
 
-page : (c : tie.Else1) → is_overflow c.before.before.before.args.store.now c.before.before.before.args.j ≡ true
-page c = sym c.before.is-overflow.ensures ∙ not-false c.before.is-overflow.result c.if1.false
+page : (c : tie.Else-not-is_overflow) → is_overflow c.args.store.now c.args.j ≡ true
+page c = sym c.is_overflow.ensures ∙ not-false c.is_overflow.result c.if-not-is_overflow.false-raw
 
-full : (c : tie.Else1) → length (block c.before.before.before.args.store.now c.before.before.before.args.j) ≡ 512
+full : (c : tie.Else-not-is_overflow) → length (block c.args.store.now c.args.j) ≡ 512
 full c =
-    let s = c.before.before.before in
-    block-full s.requires s.args.j (overflow-inside s.requires s.args.j (page c))
+    block-full c.requires c.args.j (overflow-inside c.requires c.args.j (page c))
 
-back : (c : tie.Else2)
-    → eqb (prev_at (block c.before.before.before.before.before.before.args.store.now
-    c.before.before.before.before.before.before.args.j)) c.before.before.before.before.before.before.args.k ≡ true
+back : (c : tie.Else-prev_at-k)
+    → eqb (prev_at (block c.args.store.now
+    c.args.j)) c.args.k ≡ true
 back c =
-    let b = c.before.before in
-    eq-eqb _ _ (sym (c.before.prev-at.ensures ∙ ap prev_at b.block_at.ensures) ∙ c.if2.false)
+    eq-eqb _ _ (sym (c.prev_at.ensures ∙ ap prev_at c.block_at-part.ensures) ∙ c.if-prev_at-k.false)
 
-is-overflow-requires : tie.Need-is-overflow-requires
-is-overflow-requires c κs = c.before.requires
+is-overflow-requires : tie.Need-is_overflow-requires
+is-overflow-requires c κs = c.requires
 
-returns : tie.Need-returns
+returns : tie.Need-returns-then-not-is_overflow
 returns c =
-    let a = c.before.before.before.args in
+    let a = c.args in
     let plain : is_overflow a.store.now a.j ≡ false =
-    sym c.before.is-overflow.ensures ∙ not-true c.before.is-overflow.result c.if1.true in
+    sym c.is_overflow.ensures ∙ not-true c.is_overflow.result c.if-not-is_overflow.true-raw in
     rw plain
 
-block-at-requires : tie.Need-block-at-requires
+block-at-requires : tie.Need-block_at-part-requires
 block-at-requires c κs =
-    let s = c.before.before.before in
-    block-whole s.requires s.args.j (overflow-inside s.requires s.args.j (page c))
+    block-whole c.requires c.args.j (overflow-inside c.requires c.args.j (page c))
 
-prev-at-requires : tie.Need-prev-at-requires
-prev-at-requires c κs = ap length c.block_at.ensures ∙ full c.before
+prev-at-requires : tie.Need-prev_at-requires
+prev-at-requires c κs = ap length c.block_at-part.ensures ∙ full c.before
 
-returns-2 : tie.Need-returns-2
+returns-2 : tie.Need-returns-then-prev_at-k
 returns-2 c =
-    let b = c.before.before in
-    let a = b.before.before.before.before.args in
-    let prev = c.before.prev-at.ensures ∙ ap prev_at b.block_at.ensures in
+    let a = c.args in
+    let prev = c.prev_at.ensures ∙ ap prev_at c.block_at-part.ensures in
     let other : eqb (prev_at (block a.store.now a.j)) a.k ≡ false =
-    ne_eqb (prev_at (block a.store.now a.j)) a.k (λ e. c.if2.true (prev ∙ e)) in
-    rw (page b.before, other)
+    ne_eqb (prev_at (block a.store.now a.j)) a.k (λ e. c.if-prev_at-k.true (prev ∙ e)) in
+    rw (page c.before.before.before, other)
 
-bucket-at-requires : tie.Need-bucket-at-requires
-bucket-at-requires c κs = ap length c.before.before.block_at.ensures ∙ full c.before.before.before
+bucket-at-requires : tie.Need-bucket_at-requires
+bucket-at-requires c κs = ap length c.block_at-part.ensures ∙ full c.before.before.before
 
-returns-3 : tie.Need-returns-3
+returns-3 : tie.Need-returns-then-bucket_at-b
 returns-3 c =
-    let e = c.before.before in
-    let b = e.before.before in
-    let a = b.before.before.before.before.args in
-    let bucket = c.before.bucket-at.ensures ∙ ap bucket_at b.block_at.ensures in
+    let a = c.args in
+    let bucket = c.bucket_at.ensures ∙ ap bucket_at c.block_at-part.ensures in
     let other : eqb (bucket_at (block a.store.now a.j)) a.b ≡ false =
-    ne_eqb (bucket_at (block a.store.now a.j)) a.b (λ q. c.if3.true (bucket ∙ q)) in
-    rw (page b.before, back e, other)
+    ne_eqb (bucket_at (block a.store.now a.j)) a.b (λ q. c.if-bucket_at-b.true (bucket ∙ q)) in
+    rw (page c.before.before.before.before.before, back c.before.before, other)
 
-count-entries-requires : tie.Need-count-entries-requires
+count-entries-requires : tie.Need-count_entries-requires
 count-entries-requires c κs =
-    omega (arith, ap length c.before.before.before.before.block_at.ensures ∙ full c.before.before.before.before.before)
+    omega (arith, ap length c.block_at-part.ensures ∙ full c.before.before.before.before.before)
 
-returns-4 : tie.Need-returns-4
+returns-4 : tie.Need-returns
 returns-4 c =
-    let f = c.before in
-    let e = f.before.before in
-    let b = e.before.before in
-    let a = b.before.before.before.before.args in
-    let bucket = f.before.bucket-at.ensures ∙ ap bucket_at b.block_at.ensures in
+    let a = c.args in
+    let bucket = c.bucket_at.ensures ∙ ap bucket_at c.block_at-part.ensures in
     let own : eqb (bucket_at (block a.store.now a.j)) a.b ≡ true =
-    eq-eqb (bucket_at (block a.store.now a.j)) a.b (sym bucket ∙ f.if3.false) in
-    rw (page b.before, back e, own)
-    (ap (ltb 0) (c.count_entries.ensures ∙ ap (λ (l : List ℕ). u16_at l 0) b.block_at.ensures))
+    eq-eqb (bucket_at (block a.store.now a.j)) a.b (sym bucket ∙ c.if-bucket_at-b.false) in
+    rw (page c.before.before.before.before.before.before, back c.before.before.before, own)
+    (ap (ltb 0) (c.count_entries.ensures ∙ ap (λ (l : List ℕ). u16_at l 0) c.block_at-part.ensures))
 
-pub check-link-spec : {M : Type 1} → statement M
-check-link-spec =
+pub check_link_spec : {M : Type 1} → statement M
+check_link_spec =
     tie.close
     (tie.spec
     is-overflow-requires

@@ -12,93 +12,80 @@ use Rattle.shape.proofs.Chaining.{Linking, linking-start, linking-turn, linking-
 use Rattle.shape.proofs.links.check_links.Statement.{statement}
 use Rattle.shape.proofs.links.check_links.Tie as tie
 
-abbrev invariant-loop : tie.invariant-loop
+abbrev invariant-loop : tie.invariant-loop-b
 invariant-loop store m max blocks₀ links₀ b₀ blocks links b = (Linking store links b) × (length blocks ≡ suc max_blocks)
 
-abbrev decreases-loop : tie.decreases-loop
+abbrev decreases-loop : tie.decreases-loop-b
 decreases-loop store m max blocks₀ links₀ b₀ blocks links b = max + 1 - b
 
-made : (c : tie.In-loop invariant-loop decreases-loop)
-    → c.before.loop.b ≤ max_at c.before.before.before.before.args.store.now
-made c = omega (arith, c.loop-test.true, max-is c.before.before.before.before.requires)
+made : (c : tie.In-loop-b invariant-loop decreases-loop)
+    → c.loop-b.b ≤ max_at c.args.store.now
+made c = omega (arith, c.loop-b-test.true, max-is c.requires)
 
-zero-walk-requires : tie.Need-zero-walk-requires invariant-loop decreases-loop
+zero-walk-requires : tie.Need-zero_walk-blocks-requires invariant-loop decreases-loop
 zero-walk-requires c κs = tt
 
-loop-holds : tie.Need-loop-init invariant-loop decreases-loop
-loop-holds c = (linking-start c.before.before.args.store.now, zero_room c.zero-walk.ensures)
+loop-holds : tie.Need-loop-b-init invariant-loop decreases-loop
+loop-holds c = (linking-start c.args.store.now, zero_room c.zero_walk-blocks.ensures)
 
-walk-bucket-requires : tie.Need-walk-bucket-requires invariant-loop decreases-loop
+walk-bucket-requires : tie.Need-walk_bucket-count-requires invariant-loop decreases-loop
 walk-bucket-requires c κs =
-    let l = c.before.before in
-    (l.before.before.before.requires, c.before.loop-test.true, l.loop.invariant.1)
+    (c.requires, c.loop-b-test.true, c.loop-b.invariant.1)
 
-check-chain-requires : tie.Need-check-chain-requires invariant-loop decreases-loop
+check-chain-requires : tie.Need-check_chain-requires invariant-loop decreases-loop
 check-chain-requires c κs =
-    let w = c.before in
-    (w.before.before.before.before.before.before.requires, w.walk-bucket.ensures)
+    (c.requires, c.walk_bucket-count.ensures)
 
-returns : tie.Need-returns invariant-loop decreases-loop
+returns : tie.Need-returns-then-not-check_chain invariant-loop decreases-loop
 returns c =
-    let h = c.before in
-    let w = h.before.before in
-    let l = w.before.before.before in
-    let s = l.before.before.before.args.store.now in
+    let s = c.args.store.now in
     sym
-    (linking-broken s l.loop.links l.loop.b l.loop.invariant.0 (made w.before.before)
-    (sym h.check-chain.ensures ∙ not-true h.check-chain.result c.if1.true))
+    (linking-broken s c.loop-b.links c.loop-b.b c.loop-b.invariant.0 (made c.before.before.before.before.before)
+    (sym c.check_chain.ensures ∙ not-true c.check_chain.result c.if-not-check_chain.true-raw))
 
-sub-links : tie.Need-overflow-sub-links invariant-loop decreases-loop
-sub-links c = walked-some c.before.before.before.walk-bucket.ensures
+sub-links : tie.Need-overflow_sub-links invariant-loop decreases-loop
+sub-links c = walked-some c.walk_bucket-count.ensures
 
-add-links : tie.Need-overflow-add-links invariant-loop decreases-loop
+add-links : tie.Need-overflow_add-links invariant-loop decreases-loop
 add-links c =
-    let w = c.before.before.before in
-    let l = w.before.before.before in
-    let k = l.before.before.before.requires in
+    let k = c.requires in
     omega (
       arith,
-      l.loop.invariant.0.few,
-      l.loop.invariant.0.upto,
-      walked-few w.walk-bucket.ensures (sized k),
+      c.loop-b.invariant.0.few,
+      c.loop-b.invariant.0.upto,
+      walked-few c.walk_bucket-count.ensures (sized k),
       max-small k,
     )
 
-add-b : tie.Need-overflow-add-b invariant-loop decreases-loop
+add-b : tie.Need-overflow_add-b invariant-loop decreases-loop
 add-b c =
-    let i = c.before.before.before.before.before in
-    omega (arith, made i, max-small i.before.before.before.before.requires)
+    omega (arith, made c.before.before.before.before.before, max-small c.requires)
 
-loop-less : tie.Need-loop-smaller invariant-loop decreases-loop
-loop-less c = omega (arith, c.before.before.before.before.before.loop-test.true)
+loop-less : tie.Need-loop-b-smaller invariant-loop decreases-loop
+loop-less c = omega (arith, c.loop-b-test.true)
 
-loop-again : tie.Need-loop-preserved invariant-loop decreases-loop
+loop-again : tie.Need-loop-b-preserved invariant-loop decreases-loop
 loop-again c =
-    let h = c.before in
-    let w = h.before.before in
-    let l = w.before.before.before in
-    let s = l.before.before.before in (
-      linking-turn s.args.store.now l.loop.links l.loop.b l.loop.invariant.0 (made w.before.before)
-          w.walk-bucket.ensures (sized s.requires)
-          (sym h.check-chain.ensures ∙ not-false h.check-chain.result c.if1.false),
-      w.walk-bucket.ensures.room,
+    (
+      linking-turn c.args.store.now c.loop-b.links c.loop-b.b c.loop-b.invariant.0 (made c.before.before.before.before.before)
+          c.walk_bucket-count.ensures (sized c.requires)
+          (sym c.check_chain.ensures ∙ not-false c.check_chain.result c.if-not-check_chain.false-raw),
+      c.walk_bucket-count.ensures.room,
     )
 
-count-overflow-requires : tie.Need-count-overflow-requires invariant-loop decreases-loop
-count-overflow-requires c κs = c.before.before.before.before.requires
+count-overflow-requires : tie.Need-count_overflow-requires invariant-loop decreases-loop
+count-overflow-requires c κs = c.requires
 
-returns-2 : tie.Need-returns-2 invariant-loop decreases-loop
+returns-2 : tie.Need-returns invariant-loop decreases-loop
 returns-2 c =
-    let l = c.before.before in
-    let s = l.before.before.before in
-    let k = s.requires in
+    let k = c.requires in
     sym
-    (linking-end s.args.store.now l.loop.links l.loop.b l.loop.invariant.0 k
-    (omega (arith, c.before.loop-test.false, max-is k))
-    ∙ ap (eqb l.loop.links) (sym c.count-overflow.ensures))
+    (linking-end c.args.store.now c.loop-b.links c.loop-b.b c.loop-b.invariant.0 k
+    (omega (arith, c.loop-b-test.false, max-is k))
+    ∙ ap (eqb c.loop-b.links) (sym c.count_overflow.ensures))
 
-pub check-links-spec : {M : Type 1} → statement M
-check-links-spec =
+pub check_links_spec : {M : Type 1} → statement M
+check_links_spec =
     tie.close
     (tie.spec
     invariant-loop

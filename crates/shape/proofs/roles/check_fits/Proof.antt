@@ -11,76 +11,69 @@ use Rattle.shape.proofs.Fitting.{fits_at, fits-found}
 use Rattle.shape.proofs.roles.check_fits.Statement.{statement}
 use Rattle.shape.proofs.roles.check_fits.Tie as tie
 
-abbrev invariant-loop : tie.invariant-loop
+abbrev invariant-loop : tie.invariant-loop-k
 invariant-loop store m size k₀ k = left (fits_at store) (blocks store) k ≡ all (fits_at store) (up_from 0 (blocks store))
 
-abbrev decreases-loop : tie.decreases-loop
+abbrev decreases-loop : tie.decreases-loop-k
 decreases-loop store m size k₀ k = size - k
 
-inside : (c : tie.In-loop invariant-loop decreases-loop) → c.before.loop.k < blocks c.before.before.before.args.store.now
+inside : (c : tie.In-loop-k invariant-loop decreases-loop) → c.loop-k.k < blocks c.args.store.now
 unfolding blocks
-inside c = c.loop-test.true
+inside c = c.loop-k-test.true
 
-fit : (c : tie.After-fits-role invariant-loop decreases-loop)
-    → c.fits-role.result ≡ fits_at c.before.before.before.before.before.before.args.store.now c.before.before.before.before.loop.k
+fit : (c : tie.After-fits_role invariant-loop decreases-loop)
+    → c.fits_role.result ≡ fits_at c.args.store.now c.loop-k.k
 fit c =
-    let s = c.before.before.before.before.before.before in
-    c.fits-role.ensures
-    ∙ fits-found s.requires c.before.before.before.before.loop.k c.before.role-at.result c.before.role-at.ensures
-    c.before.before.block_at.result.now c.before.before.block_at.ensures
+    c.fits_role.ensures
+    ∙ fits-found c.requires c.loop-k.k c.role_at.result c.role_at.ensures
+    c.block_at.result.now c.block_at.ensures
 
-loop-holds : tie.Need-loop-init invariant-loop decreases-loop
-loop-holds c = let s = c.before in left-start (fits_at s.args.store.now) (blocks s.args.store.now)
+loop-holds : tie.Need-loop-k-init invariant-loop decreases-loop
+loop-holds c = left-start (fits_at c.args.store.now) (blocks c.args.store.now)
 
-block-at-requires : tie.Need-block-at-requires invariant-loop decreases-loop
-block-at-requires c κs = let s = c.before.before.before in block-whole s.requires c.before.loop.k (inside c)
+block-at-requires : tie.Need-block_at-requires invariant-loop decreases-loop
+block-at-requires c κs = block-whole c.requires c.loop-k.k (inside c)
 
-cast-role-at : tie.Need-overflow-cast-role-at invariant-loop decreases-loop
+cast-role-at : tie.Need-overflow_cast-k invariant-loop decreases-loop
 cast-role-at c =
-    let s = c.before.before.before.before in
-    omega (arith, inside c.before, (sized s.requires).few)
+    omega (arith, inside c.before, (sized c.requires).few)
 
-role-at-requires : tie.Need-role-at-requires invariant-loop decreases-loop
-role-at-requires c κs = known-addressed c.before.before.before.before.requires
+role-at-requires : tie.Need-role_at-requires invariant-loop decreases-loop
+role-at-requires c κs = known-addressed c.requires
 
-fits-role-requires : tie.Need-fits-role-requires invariant-loop decreases-loop
+fits-role-requires : tie.Need-fits_role-requires invariant-loop decreases-loop
 fits-role-requires c κs =
-    let s = c.before.before.before.before.before in
-    ap length c.before.block_at.ensures ∙ block-full s.requires c.before.before.before.loop.k (inside c.before.before)
+    ap length c.block_at.ensures ∙ block-full c.requires c.loop-k.k (inside c.before.before)
 
-returns : tie.Need-returns invariant-loop decreases-loop
+returns : tie.Need-returns-then-not-fits_role invariant-loop decreases-loop
 returns c =
-    let f = c.before in
-    let i = f.before.before.before in
-    let s = i.before.before.before.args.store.now in
-    let k = i.before.loop.k in
-    let test = sym (fit f) ∙ not-true f.fits-role.result c.if1.true in
-    sym (sym i.before.loop.invariant ∙ failed (fits_at s k) _ _ (left-turn (fits_at s) (blocks s) k (inside i)) test)
+    let s = c.args.store.now in
+    let k = c.loop-k.k in
+    let test = sym (fit c.before) ∙ not-true c.fits_role.result c.if-not-fits_role.true-raw in
+    sym (sym c.loop-k.invariant ∙ failed (fits_at s k) _ _ (left-turn (fits_at s) (blocks s) k (inside c.before.before.before.before)) test)
 
-add-k : tie.Need-overflow-add-k invariant-loop decreases-loop
+add-k : tie.Need-overflow_add-k invariant-loop decreases-loop
 add-k c = omega arith
 
-loop-less : tie.Need-loop-smaller invariant-loop decreases-loop
+loop-less : tie.Need-loop-k-smaller invariant-loop decreases-loop
 loop-less c = omega arith
 
-loop-again : tie.Need-loop-preserved invariant-loop decreases-loop
+loop-again : tie.Need-loop-k-preserved invariant-loop decreases-loop
 loop-again c =
-    let f = c.before in
-    let i = f.before.before.before in
-    let s = i.before.before.before.args.store.now in
-    let k = i.before.loop.k in
-    let test = sym (fit f) ∙ not-false f.fits-role.result c.if1.false in
-    passed (fits_at s k) _ _ (left-turn (fits_at s) (blocks s) k (inside i)) test ∙ i.before.loop.invariant
+    let s = c.args.store.now in
+    let k = c.loop-k.k in
+    let test = sym (fit c.before) ∙ not-false c.fits_role.result c.if-not-fits_role.false-raw in
+    passed (fits_at s k) _ _ (left-turn (fits_at s) (blocks s) k (inside c.before.before.before.before)) test ∙ c.loop-k.invariant
 
-returns-2 : tie.Need-returns-2 invariant-loop decreases-loop
+returns-2 : tie.Need-returns invariant-loop decreases-loop
 unfolding blocks
 returns-2 c =
-    let l = c.before.loop in
-    let s = c.before.before.before.args.store.now in
-    sym (sym l.invariant ∙ left-done (fits_at s) (blocks s) l.k c.loop-test.false)
+    let l = c.loop-k in
+    let s = c.args.store.now in
+    sym (sym l.invariant ∙ left-done (fits_at s) (blocks s) l.k c.loop-k-test.false)
 
-pub check-fits-spec : {M : Type 1} → statement M
-check-fits-spec =
+pub check_fits_spec : {M : Type 1} → statement M
+check_fits_spec =
     tie.close
     (tie.spec
     invariant-loop

@@ -6,54 +6,50 @@ use borrow.Author.Rules.{rules}
 use Rattle.shape.proofs.roles.fits_role.Statement.{statement}
 use Rattle.shape.proofs.roles.fits_role.Tie as tie
 
-enum_told : tie.Need-enum-told
+enum_told : tie.Need-enum_told-1
 enum_told c = search rules
 
-is-unlinked-requires : tie.Need-is-unlinked-requires
+is-unlinked-requires : tie.Need-is_unlinked-requires
 is-unlinked-requires c κs = search rules
 
-enum-known-role : tie.Need-enum-known-role
+enum-known-role : tie.Need-enum_known-role
 enum-known-role c = search rules
 
-fits-bucket-requires : tie.Need-fits-bucket-requires
+fits-bucket-requires : tie.Need-fits_bucket-requires
 fits-bucket-requires c κs = search rules
 
-enum-known-role-2 : tie.Need-enum-known-role-2
+enum-known-role-2 : tie.Need-enum_known-role-in-Bit-1
 enum-known-role-2 c = search rules
 
-fits-bit-requires : tie.Need-fits-bit-requires
+fits-bit-requires : tie.Need-fits_bit-requires
 fits-bit-requires c κs = search rules
 
-enum-told-2 : tie.Need-enum-told-2
+enum-told-2 : tie.Need-enum_told-in-Unmade
 enum-told-2 c = search rules
 
-is-unused-requires : tie.Need-is-unused-requires
+is-unused-requires : tie.Need-is_unused-requires
 is-unused-requires c κs = search rules
 
-returns : tie.Need-returns
+returns : tie.Need-returns-in-Meta
 unfolding fits
 returns c =
-    let s = c.before.before.before.before in
-    c.is-unlinked.ensures ∙ sym (ap (λ (r : BlockRole). fits s.args.max (as_role r) s.args.part.now) c.before.enum_told.given.1)
+    c.is_unlinked.ensures ∙ sym (ap (λ (r : BlockRole). fits c.args.max (as_role r) c.args.part.now) c.in-Meta.is)
 
-returns-2 : tie.Need-returns-2
+returns-2 : tie.Need-returns-in-Bucket
 returns-2 c =
-    let s = c.before.before.before.before.before in
-    c.fits-bucket.ensures ∙ sym (ap (λ (r : BlockRole). fits s.args.max (as_role r) s.args.part.now) c.before.before.role.given.1)
+    c.fits_bucket.ensures ∙ sym (ap (λ (r : BlockRole). fits c.args.max (as_role r) c.args.part.now) c.in-Bucket.is)
 
-returns-3 : tie.Need-returns-3
+returns-3 : tie.Need-returns-in-Bit
 returns-3 c =
-    let s = c.before.before.before.before.before in
-    c.fits-bit.ensures ∙ sym (ap (λ (r : BlockRole). fits s.args.max (as_role r) s.args.part.now) c.before.before.role2.given.1)
+    c.fits_bit.ensures ∙ sym (ap (λ (r : BlockRole). fits c.args.max (as_role r) c.args.part.now) c.in-Bit.is)
 
-returns-4 : tie.Need-returns-4
+returns-4 : tie.Need-returns-in-Unmade
 unfolding fits
 returns-4 c =
-    let s = c.before.before.before.before in
-    c.is-unused.ensures ∙ sym (ap (λ (r : BlockRole). fits s.args.max (as_role r) s.args.part.now) c.before.enum-told2.given.1)
+    c.is_unused.ensures ∙ sym (ap (λ (r : BlockRole). fits c.args.max (as_role r) c.args.part.now) c.in-Unmade.is)
 
-pub fits-role-spec : {M : Type 1} → statement M
-fits-role-spec =
+pub fits_role_spec : {M : Type 1} → statement M
+fits_role_spec =
     tie.close
     (tie.spec
     enum_told

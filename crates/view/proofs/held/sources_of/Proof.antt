@@ -7,42 +7,33 @@ use Rattle.view.specs.SourcesLaws.{source-other, source-settled, source-populate
 use Rattle.view.proofs.held.sources_of.Statement.{statement}
 use Rattle.view.proofs.held.sources_of.Tie as tie
 
-bucket-of-requires : tie.Need-bucket-of-requires
+bucket-of-requires : tie.Need-bucket_of-home-requires
 bucket-of-requires c κs = search rules
 
-returns : tie.Need-returns
+returns : tie.Need-returns-then-home-m
 returns c =
-    let b = c.before.before in
-    let s = b.before.before in
-    source-other s.requires s.args.hash b.bucket-of.result b.bucket-of.ensures c.if1.true
+    source-other c.requires c.args.hash c.bucket_of-home.result c.bucket_of-home.ensures c.if-home-m.true
 
-bucket-flags-requires : tie.Need-bucket-flags-requires
+bucket-flags-requires : tie.Need-bucket_flags-requires
 bucket-flags-requires c κs =
-    let b = c.before.before in
-    (reads_known b.before.before.requires, omega (arith, c.if1.false))
+    (reads_known c.requires, omega (arith, c.if-home-m.false))
 
-returns-2 : tie.Need-returns-2
+returns-2 : tie.Need-returns-then-bucket_flags-ne-POPULATED
 returns-2 c =
-    let f = c.before in
-    let b = f.before.before.before in
-    let s = b.before.before in
-    source-settled s.requires s.args.hash b.bucket-of.result b.bucket-of.ensures f.before.if1.false
-    f.bucket-flags.result f.bucket-flags.ensures c.if2.true
+    source-settled c.requires c.args.hash c.bucket_of-home.result c.bucket_of-home.ensures c.if-home-m.false
+    c.bucket_flags.result c.bucket_flags.ensures c.if-bucket_flags-ne-POPULATED.true
 
-parent-of-requires : tie.Need-parent-of-requires
+parent-of-requires : tie.Need-parent_of-old-requires
 parent-of-requires c κs = search rules
 
-returns-3 : tie.Need-returns-3
+returns-3 : tie.Need-returns
 returns-3 c =
-    let f = c.before.before in
-    let b = f.before.before.before in
-    let s = b.before.before in
-    ap (Sources.Both b.bucket-of.result) c.parent_of.ensures
-    ∙ source-populated s.requires s.args.hash b.bucket-of.result b.bucket-of.ensures f.before.if1.false
-    f.bucket-flags.result f.bucket-flags.ensures c.before.if2.false
+    ap (Sources.Both c.bucket_of-home.result) c.parent_of-old.ensures
+    ∙ source-populated c.requires c.args.hash c.bucket_of-home.result c.bucket_of-home.ensures c.if-home-m.false
+    c.bucket_flags.result c.bucket_flags.ensures c.if-bucket_flags-ne-POPULATED.false
 
-pub sources-of-spec : {M : Type 1} → statement M
-sources-of-spec =
+pub sources_of_spec : {M : Type 1} → statement M
+sources_of_spec =
     tie.close
     (tie.spec
     bucket-of-requires

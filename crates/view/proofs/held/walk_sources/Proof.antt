@@ -6,61 +6,45 @@ use Rattle.view.specs.SourcedLaws.{sourced-home, sourced-both}
 use Rattle.view.proofs.held.walk_sources.Statement.{statement}
 use Rattle.view.proofs.held.walk_sources.Tie as tie
 
-sources-of-requires : tie.Need-sources-of-requires
+sources-of-requires : tie.Need-sources_of-sources-requires
 sources-of-requires c κs = search rules
 
-enum-known-sources : tie.Need-enum-known-sources
+enum-known-sources : tie.Need-enum_known-sources
 enum-known-sources c = search rules
 
-walk-bucket-requires : tie.Need-walk-bucket-requires
+walk-bucket-requires : tie.Need-walk_bucket-requires
 walk-bucket-requires c κs =
-    let k = c.before.before in
-    let f = k.before.before in
-    let s = f.before.before in
-    let r = s.requires.0 in
-    let q = sym f.sources-of.ensures ∙ k.sources.given.1 in
-    (reads_known r, home-made r s.args.hash _ q, s.requires.1)
+    let r = c.requires.0 in
+    let q = sym c.sources_of-sources.ensures ∙ c.in-Home.is in
+    (reads_known r, home-made r c.args.hash _ q, c.requires.1)
 
-enum-known-sources-2 : tie.Need-enum-known-sources-2
+enum-known-sources-2 : tie.Need-enum_known-sources-in-Both-1
 enum-known-sources-2 c = search rules
 
-walk-bucket-requires-2 : tie.Need-walk-bucket-requires-2
+walk-bucket-requires-2 : tie.Need-walk_bucket-requires-in-Both
 walk-bucket-requires-2 c κs =
-    let k = c.before.before in
-    let f = k.before.before in
-    let s = f.before.before in
-    let r = s.requires.0 in
-    let q = sym f.sources-of.ensures ∙ k.sources2.given.1 in
-    (reads_known r, (both-made r s.args.hash _ _ q).0, s.requires.1)
+    let r = c.requires.0 in
+    let q = sym c.sources_of-sources.ensures ∙ c.in-Both.is in
+    (reads_known r, (both-made r c.args.hash _ _ q).0, c.requires.1)
 
-walk-bucket-requires-3 : tie.Need-walk-bucket-requires-3
+walk-bucket-requires-3 : tie.Need-walk_bucket-requires-in-Both-2
 walk-bucket-requires-3 c κs =
-    let k = c.before.before.before.before in
-    let f = k.before.before in
-    let s = f.before.before in
-    let r = s.requires.0 in
-    let q = sym f.sources-of.ensures ∙ k.sources2.given.1 in
-    (reads_known r, (both-made r s.args.hash _ _ q).1, s.requires.2)
+    let r = c.requires.0 in
+    let q = sym c.sources_of-sources.ensures ∙ c.in-Both.is in
+    (reads_known r, (both-made r c.args.hash _ _ q).1, c.requires.2)
 
-returns : tie.Need-returns
+returns : tie.Need-returns-in-Home
 returns c =
-    let k = c.before.before.before in
-    let f = k.before.before in
-    let s = f.before.before in
-    sourced-home s.requires.0 s.args.hash _ (sym f.sources-of.ensures ∙ k.sources.given.1)
-    c.walk-bucket.ensures s.args.old.now
+    sourced-home c.requires.0 c.args.hash _ (sym c.sources_of-sources.ensures ∙ c.in-Home.is)
+    c.walk_bucket.ensures c.args.old.now
 
-returns-2 : tie.Need-returns-2
+returns-2 : tie.Need-returns-in-Both
 returns-2 c =
-    let w = c.before.before in
-    let k = w.before.before.before in
-    let f = k.before.before in
-    let s = f.before.before in
-    sourced-both s.requires.0 s.args.hash _ _
-    (sym f.sources-of.ensures ∙ k.sources2.given.1) w.walk-bucket2.ensures c.walk-bucket3.ensures
+    sourced-both c.requires.0 c.args.hash _ _
+    (sym c.sources_of-sources.ensures ∙ c.in-Both.is) c.walk_bucket-in-Both.ensures c.walk_bucket-in-Both-2.ensures
 
-pub walk-sources-spec : {M : Type 1} → statement M
-walk-sources-spec =
+pub walk_sources_spec : {M : Type 1} → statement M
+walk_sources_spec =
     tie.close
     (tie.spec
     sources-of-requires

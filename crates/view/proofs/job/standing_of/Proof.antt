@@ -21,49 +21,47 @@ product c =
     let b : c.args.m.max + 1 ≤ max_blocks = omega (arith, reads-low c.requires) in
     mul-le-mul f b
 
-add-buckets : tie.Need-overflow-add-buckets
-add-buckets c = omega (arith, reads-low c.before.before.requires)
+add-buckets : tie.Need-overflow_add-buckets
+add-buckets c = omega (arith, reads-low c.requires)
 
-cast-wide : tie.Need-overflow-cast-wide
+cast-wide : tie.Need-overflow_cast-wide
 cast-wide c = search rules
 
-mul_wide : tie.Need-overflow-mul-wide
+mul_wide : tie.Need-overflow_mul-wide
 mul_wide c = omega (arith, product c.before.before.before)
 
-read-job-requires : tie.Need-read-job-requires
-read-job-requires c κs = reads_known c.before.before.before.requires
+read-job-requires : tie.Need-read_job-requires
+read-job-requires c κs = reads_known c.requires
 
-cast-t7 : tie.Need-overflow-cast-t7
+cast-t7 : tie.Need-overflow_cast-result
 cast-t7 c = record { sfits = omega (arith, product c.before.before.before.before) }
 
-cast-t8 : tie.Need-overflow-cast-t8
+cast-t8 : tie.Need-overflow_cast-result-2
 cast-t8 c = search rules
 
-sub-t9 : tie.Need-overflow-sub-t9
+sub-t9 : tie.Need-overflow_sub-result
 sub-t9 c =
-    let s = c.before.before.before.before.before in
-    let n : s.args.m.count < 2 ^ 32 = search rules in
-    sub-fits (s.args.m.fill * (s.args.m.max + 1)) s.args.m.count (omega (arith, product s)) (omega arith)
+    let n : c.args.m.count < 2 ^ 32 = search rules in
+    sub-fits (c.args.m.fill * (c.args.m.max + 1)) c.args.m.count (omega (arith, product c.before.before.before.before.before)) (omega arith)
 
 returns : tie.Need-returns
 unfolding standing slack
 returns c =
-    let s = c.before.before.before.before.before in
-    let m = s.args.m in
+    let m = c.args.m in
     let n : m.count < 2 ^ 32 = search rules in
-    let b : m.max + 1 ≡ suc _ = add-one m.max ∙ ap suc (reads-max s.requires) in
+    let b : m.max + 1 ≡ suc _ = add-one m.max ∙ ap suc (reads-max c.requires) in
     let z =
-    to_z-of_z w64 _ (sub-fits (m.fill * (m.max + 1)) m.count (omega (arith, product s)) (omega arith))
-    ∙ sub_is (m.fill * (m.max + 1)) m.count (omega (arith, product s)) (omega arith)
-    ∙ ap₂ sub_ℕ (ap₂ ◌*◌ (reads-fill s.requires) b) (reads-count s.requires) in
+    to_z-of_z w64 _ (sub-fits (m.fill * (m.max + 1)) m.count (omega (arith, product c.before.before.before.before.before)) (omega arith))
+    ∙ sub_is (m.fill * (m.max + 1)) m.count (omega (arith, product c.before.before.before.before.before)) (omega arith)
+    ∙ ap₂ sub_ℕ (ap₂ ◌*◌ (reads-fill c.requires) b) (reads-count c.requires) in
     λ i. record {
-      count = reads-count s.requires i;
+      count = reads-count c.requires i;
       buckets = b i;
-      phase = c.before.read-job.ensures i;
+      phase = c.read_job.ensures i;
       slack = z i;
     }
 
-pub standing-of-spec : {M : Type 1} → statement M
-standing-of-spec =
+pub standing_of_spec : {M : Type 1} → statement M
+standing_of_spec =
     tie.close
     (tie.spec add-buckets cast-wide mul_wide read-job-requires cast-t7 cast-t8 sub-t9 returns)

@@ -4,21 +4,18 @@ use borrow.Author.Tests.{not-true, not-false}
 use Rattle.view.proofs.lookup.is_counted.Statement.{statement}
 use Rattle.view.proofs.lookup.is_counted.Tie as tie
 
-returns : tie.Need-returns
+returns : tie.Need-returns-then-not-fresh
 returns c =
-    let s = c.before.before in
-    let f : s.args.fresh ≡ false = not-true s.args.fresh c.if1.true in
+    let f : c.args.fresh ≡ false = not-true c.args.fresh c.if-not-fresh.true-raw in
     rw f
 
-is-head-moved-requires : tie.Need-is-head-moved-requires
-is-head-moved-requires c κs = c.before.before.requires
+is-head-moved-requires : tie.Need-is_head_moved-requires
+is-head-moved-requires c κs = c.requires
 
-returns-2 : tie.Need-returns-2
+returns-2 : tie.Need-returns
 returns-2 c =
-    let e = c.before in
-    let s = e.before.before in
-    let f : s.args.fresh ≡ true = not-false s.args.fresh e.if1.false in
-    rw f (ap not c.is-head-moved.ensures)
+    let f : c.args.fresh ≡ true = not-false c.args.fresh c.if-not-fresh.false-raw in
+    rw f (ap not c.is_head_moved.ensures)
 
-pub is-counted-spec : {M : Type 1} → statement M
-is-counted-spec = tie.close (tie.spec returns is-head-moved-requires returns-2)
+pub is_counted_spec : {M : Type 1} → statement M
+is_counted_spec = tie.close (tie.spec returns is-head-moved-requires returns-2)

@@ -11,73 +11,57 @@ use Rattle.view.specs.LookupLaws.{sourced-listable, lookup-short, lookup-written
 use Rattle.view.proofs.lookup.lookup_in.Statement.{statement}
 use Rattle.view.proofs.lookup.lookup_in.Tie as tie
 
-zero-walk-requires : tie.Need-zero-walk-requires
+zero-walk-requires : tie.Need-zero_walk-own-requires
 zero-walk-requires c κs = tt
 
-zero-walk-requires-2 : tie.Need-zero-walk-requires-2
+zero-walk-requires-2 : tie.Need-zero_walk-old-requires
 zero-walk-requires-2 c κs = tt
 
-walk-sources-requires : tie.Need-walk-sources-requires
+walk-sources-requires : tie.Need-walk_sources-walks-requires
 walk-sources-requires c κs =
-    let y = c.before.before in
-    let z = y.before in
-    (z.before.before.before.requires, zero_room z.zero-walk.ensures, zero_room y.zero-walk2.ensures)
+    (c.requires, zero_room c.zero_walk-own.ensures, zero_room c.zero_walk-old.ensures)
 
-count-along-requires : tie.Need-count-along-requires
+count-along-requires : tie.Need-count_along-matches-requires
 count-along-requires c κs =
-    let w = c.before.before in
-    let s = w.before.before.before.before.before.before.before in
-    let h = s.args.hash in
-    (sourced-own s.requires h w.walk-sources.ensures, sourced-old s.requires h w.walk-sources.ensures)
+    let h = c.args.hash in
+    (sourced-own c.requires h c.walk_sources-walks.ensures, sourced-old c.requires h c.walk_sources-walks.ensures)
 
-cast-if1 : tie.Need-overflow-cast-if1
+cast-if1 : tie.Need-overflow_cast-matches
 cast-if1 c = search rules
 
-returns : tie.Need-returns
+returns : tie.Need-returns-then-output-matches
 returns c =
-    let n = c.before in
-    let w = n.before.before.before in
-    let s = w.before.before.before.before.before.before.before in
-    lookup-short (decode s.args.store.now) s.args.hash s.args.output.now n.count-along.result
-    (n.count-along.ensures ∙ sourced-number s.requires s.args.hash w.walk-sources.ensures) c.if1.true
+    lookup-short (decode c.args.store.now) c.args.hash c.args.output.now c.count_along-matches.result
+    (c.count_along-matches.ensures ∙ sourced-number c.requires c.args.hash c.walk_sources-walks.ensures) c.if-output-matches.true
 
-put-matches-requires : tie.Need-put-matches-requires
+put-matches-requires : tie.Need-put_matches-requires
 put-matches-requires c κs =
-    let e = c.before.before.before in
-    let n = e.before in
-    let w = n.before.before.before in
-    let s = w.before.before.before.before.before.before.before in
-    let h = s.args.hash in (
-      sourced-own s.requires h w.walk-sources.ensures,
+    let h = c.args.hash in (
+      sourced-own c.requires h c.walk_sources-walks.ensures,
       (
-        sourced-old s.requires h w.walk-sources.ensures,
+        sourced-old c.requires h c.walk_sources-walks.ensures,
         (
-          sourced-some s.requires h w.walk-sources.ensures,
-          sourced-room s.requires h w.walk-sources.ensures,
-          sourced-listable s.requires h w.walk-sources.ensures s.args.output.now n.count-along.result
-              n.count-along.ensures e.if1.false,
+          sourced-some c.requires h c.walk_sources-walks.ensures,
+          sourced-room c.requires h c.walk_sources-walks.ensures,
+          sourced-listable c.requires h c.walk_sources-walks.ensures c.args.output.now c.count_along-matches.result
+              c.count_along-matches.ensures c.if-output-matches.false,
         ),
       ),
     )
 
-same_length : tie.Need-same-length
+same_length : tie.Need-shape_of-output
 same_length c = search rules
 
-returns-2 : tie.Need-returns-2
+returns-2 : tie.Need-returns
 returns-2 c =
-    let p = c.before.before in
-    let e = p.before.before.before.before in
-    let n = e.before in
-    let w = n.before.before.before in
-    let s = w.before.before.before.before.before.before.before in
-    lookup-written (decode s.args.store.now) s.args.hash s.args.output.now n.count-along.result
-    (n.count-along.ensures ∙ sourced-number s.requires s.args.hash w.walk-sources.ensures) _ e.if1.false
-    (p.put-matches.ensures
-    ∙ ap (λ (ps : List Pair). written ps s.args.output.now)
-    (sourced-matches s.requires s.args.hash w.walk-sources.ensures))
+    lookup-written (decode c.args.store.now) c.args.hash c.args.output.now c.count_along-matches.result
+    (c.count_along-matches.ensures ∙ sourced-number c.requires c.args.hash c.walk_sources-walks.ensures) _ c.if-output-matches.false
+    (c.put_matches.ensures
+    ∙ ap (λ (ps : List Pair). written ps c.args.output.now)
+    (sourced-matches c.requires c.args.hash c.walk_sources-walks.ensures))
 
-pub lookup-in-spec : {M : Type 1} → statement M
-lookup-in-spec =
+pub lookup_in_spec : {M : Type 1} → statement M
+lookup_in_spec =
     tie.close
     (tie.spec
     zero-walk-requires

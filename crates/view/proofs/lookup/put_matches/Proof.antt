@@ -31,76 +31,64 @@ no_second : (s own old : List ℕ) (n k : ℕ) → k ≡ 0 → joined (page_at s
 no_second s own old n zero e = refl
 no_second s own old n (suc k) e = absurd (omega arith)
 
-alone : (c : tie.Then1) → let a = c.before.before.before.args in
+alone : (c : tie.Then-k-eq0) → let a = c.args in
     pairs_left (page_at a.store.now a.own.now) a.n a.k a.hash a.fresh
     ≡ pairs_along a.store.now (take a.n a.own.now) (take a.k a.old.now) a.hash a.fresh
 alone c =
-    let s = c.before.before.before in
-    let a = s.args in
-    pairs-by a.hash a.fresh (alone-entries s.requires.0.0)
-    (no_second a.store.now a.own.now a.old.now a.n a.k c.if1.true)
+    let a = c.args in
+    pairs-by a.hash a.fresh (alone-entries c.requires.0.0)
+    (no_second a.store.now a.own.now a.old.now a.n a.k c.if-k-eq0.true)
 
-put-pages-requires : tie.Need-put-pages-requires
+put-pages-requires : tie.Need-put_pages-requires
 put-pages-requires c κs =
-    let t = c.before in
-    let b = t.before.before in
-    let s = b.before in
-    let a = s.args in
-    let e : a.n ≡ a.n + a.k = omega (arith, t.if1.true) in (
+    let a = c.args in
+    let e : a.n ≡ a.n + a.k = omega (arith, c.if-k-eq0.true) in (
       subst (Pages a.store.now a.own.now) e
-          (alone-pages (λ i. omega (arith, b.shared-slice-known.given i)) s.requires.0.0 s.requires.0.1),
-      s.requires.1.1.0,
-      subst (λ (ps : List Pair). Listable ps a.output.now) (sym (alone t)) s.requires.1.1.2,
+          (alone-pages (λ i. omega (arith, c.shared_slice_known-1.given i)) c.requires.0.0 c.requires.0.1),
+      c.requires.1.1.0,
+      subst (λ (ps : List Pair). Listable ps a.output.now) (sym (alone c.before)) c.requires.1.1.2,
     )
 
-same_length : tie.Need-same-length
+same_length : tie.Need-shape_of-output-then-k-eq0
 same_length c = search rules
 
-returns : tie.Need-returns
+returns : tie.Need-returns-then-k-eq0
 returns c =
-    let p = c.before.before in
-    let t = p.before.before in
-    p.put-pages.ensures
-    ∙ ap (λ (ps : List Pair). written (sorted ps) t.before.before.before.args.output.now) (alone t)
+    c.put_pages.ensures
+    ∙ ap (λ (ps : List Pair). written (sorted ps) c.args.output.now) (alone c.before.before.before.before)
 
 -- ---- two
 
-join-walks-requires : tie.Need-join-walks-requires
+join-walks-requires : tie.Need-join_walks-pages-requires
 join-walks-requires c κs = search rules
 
-both : (c : tie.After-join-walks) → let a = c.before.before.before.before.args in
-    pairs_left (page_at a.store.now c.join-walks.result) a.n a.k a.hash a.fresh
+both : (c : tie.After-join_walks-pages) → let a = c.args in
+    pairs_left (page_at a.store.now c.join_walks-pages.result) a.n a.k a.hash a.fresh
     ≡ pairs_along a.store.now (take a.n a.own.now) (take a.k a.old.now) a.hash a.fresh
 both c =
-    let s = c.before.before.before.before in
-    let a = s.args in
-    pairs-by a.hash a.fresh (joined-first c.join-walks.ensures s.requires.0.0)
-    (joined-second c.join-walks.ensures s.requires.1.0.0)
+    let a = c.args in
+    pairs-by a.hash a.fresh (joined-first c.join_walks-pages.ensures c.requires.0.0)
+    (joined-second c.join_walks-pages.ensures c.requires.1.0.0)
 
-put-pages-requires-2 : tie.Need-put-pages-requires-2
+put-pages-requires-2 : tie.Need-put_pages-requires-2
 put-pages-requires-2 c κs =
-    let j = c.before.before in
-    let b = j.before.before.before in
-    let s = b.before in
-    let p = s.requires in (
-      joined-pages (λ i. omega (arith, b.shared-slice-known.given i)) j.join-walks.ensures p.0.0 p.0.1
+    let p = c.requires in (
+      joined-pages (λ i. omega (arith, c.shared_slice_known-1.given i)) c.join_walks-pages.ensures p.0.0 p.0.1
           p.1.0.0 p.1.0.1 p.1.1.1,
       p.1.1.0,
-      subst (λ (ps : List Pair). Listable ps s.args.output.now) (sym (both j)) p.1.1.2,
+      subst (λ (ps : List Pair). Listable ps c.args.output.now) (sym (both c.before.before)) p.1.1.2,
     )
 
-same-length-2 : tie.Need-same-length-2
+same-length-2 : tie.Need-shape_of-output
 same-length-2 c = search rules
 
-returns-2 : tie.Need-returns-2
+returns-2 : tie.Need-returns
 returns-2 c =
-    let p = c.before.before in
-    let j = p.before.before.before in
-    p.put-pages2.ensures
-    ∙ ap (λ (ps : List Pair). written (sorted ps) j.before.before.before.before.args.output.now) (both j)
+    c.put_pages-2.ensures
+    ∙ ap (λ (ps : List Pair). written (sorted ps) c.args.output.now) (both c.before.before.before.before.before)
 
-pub put-matches-spec : {M : Type 1} → statement M
-put-matches-spec =
+pub put_matches_spec : {M : Type 1} → statement M
+put_matches_spec =
     tie.close
     (tie.spec
     put-pages-requires

@@ -13,63 +13,56 @@ use Rattle.view.specs.Lookup.{written, Listable}
 use Rattle.view.proofs.lookup.put_pages.Statement.{statement}
 use Rattle.view.proofs.lookup.put_pages.Tie as tie
 
-zero-keys-requires : tie.Need-zero-keys-requires
+zero-keys-requires : tie.Need-zero_keys-keys-requires
 zero-keys-requires c κs = search rules
 
-zero-tails-requires : tie.Need-zero-tails-requires
+zero-tails-requires : tie.Need-zero_tails-tails-requires
 zero-tails-requires c κs = search rules
 
-zero-tree-requires : tie.Need-zero-tree-requires
+zero-tree-requires : tie.Need-zero_tree-tree-requires
 zero-tree-requires c κs = search rules
 
-add-start-merge : tie.Need-overflow-add-start-merge
+add-start-merge : tie.Need-overflow_add-n
 add-start-merge c = search rules
 
-start-merge-requires : tie.Need-start-merge-requires
+start-merge-requires : tie.Need-start_merge-requires
 start-merge-requires c κs =
-    let t = c.before.before.before in
-    let m = t.before in
-    let k = m.before in (
-      k.before.before.before.requires.0,
-      zero-lent k.zero-keys.ensures m.zero-tails.ensures t.zero-tree.ensures,
+    (
+      c.requires.0,
+      zero-lent c.zero_keys-keys.ensures c.zero_tails-tails.ensures c.zero_tree-tree.ensures,
     )
 
 -- the pairs that are left at the start are all pairs on the pages
-all : (c : tie.After-start-merge) → let a = c.before.before.before.before.before.before.before.before.before.args in
-    pairs_left (left_of a.store.now a.pages.now c.start-merge.new.1.1.1.0) a.n a.k a.hash
+all : (c : tie.After-start_merge) → let a = c.args in
+    pairs_left (left_of a.store.now a.pages.now c.start_merge.new.tails) a.n a.k a.hash
     a.fresh
     ≡ pairs_left (page_at a.store.now a.pages.now) a.n a.k a.hash a.fresh
 all c =
-    let s = c.before.before.before.before.before.before.before.before.before in
-    let a = s.args in
-    start-pairs a.store.now a.pages.now c.start-merge.new.1.1.1.0 a.n a.k a.hash a.fresh
-    s.requires.0 c.start-merge.ensures.1
+    let a = c.args in
+    start-pairs a.store.now a.pages.now c.start_merge.new.tails a.n a.k a.hash a.fresh
+    c.requires.0 c.start_merge.ensures.1
 
-put-left-requires : tie.Need-put-left-requires
+put-left-requires : tie.Need-put_left-requires
 put-left-requires c κs =
-    let m = c.before.before.before.before in
-    let s = m.before.before.before.before.before.before.before.before.before in
-    let a = s.args in (
-      (m.start-merge.ensures.0, omega (arith, s.requires.1)),
+    let a = c.args in (
+      (c.start_merge.ensures.0, omega (arith, c.requires.1)),
       (
-        start-above a.store.now a.pages.now m.start-merge.new.1.1.1.0 a.n a.k a.hash
-            a.fresh s.requires.0 m.start-merge.ensures.1,
-        subst (λ (ps : List Pair). Listable ps a.output.now) (sym (all m)) s.requires.2,
+        start-above a.store.now a.pages.now c.start_merge.new.tails a.n a.k a.hash
+            a.fresh c.requires.0 c.start_merge.ensures.1,
+        subst (λ (ps : List Pair). Listable ps a.output.now) (sym (all c.before.before.before.before)) c.requires.2,
       ),
     )
 
-same_length : tie.Need-same-length
+same_length : tie.Need-shape_of-output
 same_length c = search rules
 
 returns : tie.Need-returns
 returns c =
-    let p = c.before.before in
-    let m = p.before.before.before.before.before in
-    let a = m.before.before.before.before.before.before.before.before.before.args in
-    p.put-left.ensures ∙ ap (λ (ps : List Pair). written (sorted ps) a.output.now) (all m)
+    let a = c.args in
+    c.put_left.ensures ∙ ap (λ (ps : List Pair). written (sorted ps) a.output.now) (all c.before.before.before.before.before.before.before)
 
-pub put-pages-spec : {M : Type 1} → statement M
-put-pages-spec =
+pub put_pages_spec : {M : Type 1} → statement M
+put_pages_spec =
     tie.close
     (tie.spec
     zero-keys-requires
