@@ -22,6 +22,14 @@ MOVES = {
         "LoopLaws", "PlanLaws", "ValidLaws", "RecoverLaws", "LookLaws", "StageLaws", "CrashLaws", "WholeLaws", "AlteredLaws",
         "PlannedLaws", "LinkLaws", "BecomesLaws", "CrashTheorem", "WrittenLaws",
     ],
+    "model": [
+        "ViewLaws", "HeldLaws", "LaidLaws", "InsertLaws", "RemoveLaws", "StepLaws", "FormatLaws", "WorkLaws",
+        "SqueezeLaws", "PackedLaws", "SpareLaws", "MatchesLaws", "CountLaws", "RoomLaws", "StepsLeftLaws",
+        "BusyChainLaws", "BusyInsertLaws", "BusyRemoveLaws", "BeginLaws", "FrameLaws", "SqueezeStepLaws",
+        "KindLaws", "BoundLaws", "MachineLaws", "CounterexampleLaws", "RunLaws", "BusyLaws", "BusyTheorem",
+        "NumberLaws", "Demand3AnswerLaws", "ShiftLaws", "Demand3SqueezeLaws", "Demand3InvLaws", "Demand3MomentLaws",
+        "Demand3HoldLaws", "Demand3Theorem", "SimulationLaws", "TransferLaws", "BusyTransferLaws",
+    ],
     "page": ["RuleLaws", "RunPartLaws", "RunLaws"],
     "store": ["CheckLaws", "ChangeLaws", "FinishLaws"],
 }

@@ -5,7 +5,7 @@ use Rattle.model.specs.Index.{Index}
 use Rattle.model.specs.Steps.{Step, next, stopped, iterate}
 use Rattle.model.specs.Calls.{budget_ok}
 use Rattle.model.specs.Machine.{of_splits, of_squeeze}
-use Rattle.model.specs.MachineLaws.{never}
+use Rattle.model.proofs.MachineLaws.{never}
 use Rattle.model.specs.Answers.{work_steps}
 use Rattle.outcomes.specs.Outcomes.{Tested, passed, failed, bucket_tested}
 use Rattle.outcomes.specs.OutcomeLaws.{passed-numbers}

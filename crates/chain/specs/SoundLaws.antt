@@ -14,7 +14,7 @@ use Rattle.page.specs.SublistLaws.{each_map, each_all}
 use Rattle.page.specs.Rule.{page_ok}
 use Rattle.model.specs.Index.{top_bit}
 use Rattle.model.specs.Pages.{free_bit, first_free}
-use Rattle.model.specs.LaidLaws.{free-bit}
+use Rattle.model.proofs.LaidLaws.{free-bit}
 use Rattle.image.specs.Decode.{meta_at, max_at, block_of, decode}
 use Rattle.image.specs.Rules.{map_at, bit_at, top_at, free_at, bit_ok, rule6}
 use Rattle.image.specs.SoundFieldsLaws.{SoundBytes}

@@ -12,11 +12,11 @@ use Rattle.model.specs.Machine.{Call, formatting, inserting, removing, looking, 
 use Rattle.model.specs.Machine.{Kind, accepted, Ran, run_index, step_index}
 use Rattle.model.specs.Book.{effect, number_after}
 use Rattle.model.specs.WellFormed.{WF}
-use Rattle.model.specs.FrameLaws.{SameStore}
-use Rattle.model.specs.KindLaws.{kind-wf, kind-store}
-use Rattle.model.specs.MachineLaws.{never}
-use Rattle.model.specs.NumberLaws.{number-run}
-use Rattle.model.specs.RunLaws.{run-wf}
+use Rattle.model.proofs.FrameLaws.{SameStore}
+use Rattle.model.proofs.KindLaws.{kind-wf, kind-store}
+use Rattle.model.proofs.MachineLaws.{never}
+use Rattle.model.proofs.NumberLaws.{number-run}
+use Rattle.model.proofs.RunLaws.{run-wf}
 use Rattle.image.specs.Layout.{encode}
 use Rattle.image.specs.SoundStore.{Encodes}
 use Rattle.image.specs.BridgeTheorem.{encoding-is-sound}

@@ -18,9 +18,9 @@ use Rattle.model.specs.Steps.{begin, step}
 use Rattle.model.specs.Calls.{Result, done, order_of, format, format_in, insert, remove, work}
 use Rattle.model.specs.Machine.{Call, formatting, inserting, removing, working, CallFits, Ran, Machine, settled}
 use Rattle.model.specs.Machine.{run_index, on_index}
-use Rattle.model.specs.FormatLaws.{format-wf}
-use Rattle.model.specs.FrameLaws.{remove-frame}
-use Rattle.model.specs.RemoveLaws.{remove-wf}
+use Rattle.model.proofs.FormatLaws.{format-wf}
+use Rattle.model.proofs.FrameLaws.{remove-frame}
+use Rattle.model.proofs.RemoveLaws.{remove-wf}
 use Rattle.image.specs.Layout.{paged, blank, meta_front, padded, meta_of, map_front, flags_of, bucket_image, image}
 use Rattle.image.specs.Layout.{encode_block, encode}
 use Rattle.image.specs.SoundStore.{Encodes}

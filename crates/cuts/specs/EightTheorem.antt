@@ -8,11 +8,11 @@ use Rattle.model.specs.Calls.{done, insert, remove}
 use Rattle.model.specs.Machine.{Call, inserting, removing, CallFits, Kind, of_splits, of_squeeze, Ran, run_index}
 use Rattle.model.specs.Machine.{step_index}
 use Rattle.model.specs.WellFormed.{WF}
-use Rattle.model.specs.MachineLaws.{never}
-use Rattle.model.specs.FrameLaws.{insert-frame, remove-frame}
-use Rattle.model.specs.InsertLaws.{insert-wf}
-use Rattle.model.specs.RemoveLaws.{remove-wf}
-use Rattle.model.specs.KindLaws.{kind-wf, kind-store}
+use Rattle.model.proofs.MachineLaws.{never}
+use Rattle.model.proofs.FrameLaws.{insert-frame, remove-frame}
+use Rattle.model.proofs.InsertLaws.{insert-wf}
+use Rattle.model.proofs.RemoveLaws.{remove-wf}
+use Rattle.model.proofs.KindLaws.{kind-wf, kind-store}
 use Rattle.image.specs.Layout.{encode}
 use Rattle.image.specs.SoundStore.{Encodes}
 use Rattle.frame.specs.Frame.{put_blocks, remove_blocks, step_blocks, squeeze_blocks}

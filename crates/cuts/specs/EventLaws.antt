@@ -9,8 +9,8 @@ use Rattle.model.specs.Machine.{Call, CallFits, Kind, stepping, accepted}
 use Rattle.model.specs.Book.{effect}
 use Rattle.model.specs.History.{Moment, last_of, within, after, history}
 use Rattle.model.specs.HistoryLaws.{last-append, after-state}
-use Rattle.model.specs.MachineLaws.{never}
-use Rattle.model.specs.SimulationLaws.{alike_next}
+use Rattle.model.proofs.MachineLaws.{never}
+use Rattle.model.proofs.SimulationLaws.{alike_next}
 use Rattle.image.specs.SoundStore.{Encodes, StaysSound}
 use Rattle.image.specs.BridgeTheorem.{encoding-is-sound}
 use Rattle.outcomes.specs.Outcomes.{run_store, step_store, on_store}

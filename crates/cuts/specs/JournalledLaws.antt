@@ -10,7 +10,7 @@ use Rattle.model.specs.Calls.{Result, done, refused, pair_ok, budget_ok, insert,
 use Rattle.model.specs.Machine.{Call, formatting, inserting, removing, looking, working, squeezing, asking, CallFits}
 use Rattle.model.specs.Machine.{Kind, of_splits, of_squeeze, plain, worked, Ran, step_index}
 use Rattle.model.specs.Book.{effect}
-use Rattle.model.specs.SimulationLaws.{Alike, iterate-alike}
+use Rattle.model.proofs.SimulationLaws.{Alike, iterate-alike}
 use Rattle.image.specs.SoundStore.{Encodes}
 use Rattle.image.specs.BridgeTheorem.{encoding-is-sound}
 use Rattle.outcomes.specs.Outcomes.{Tested, passed, failed, tested, bucket_tested, Changed, changed, insert_on}

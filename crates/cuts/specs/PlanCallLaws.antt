@@ -12,7 +12,7 @@ use Rattle.model.specs.Index.{Index}
 use Rattle.model.specs.Steps.{Step, next, stopped, iterate}
 use Rattle.model.specs.Calls.{Result, done, refused}
 use Rattle.model.specs.Machine.{Call, CallFits, Kind, of_splits, of_squeeze}
-use Rattle.model.specs.MachineLaws.{never}
+use Rattle.model.proofs.MachineLaws.{never}
 use Rattle.image.specs.Layout.{encode}
 use Rattle.image.specs.SoundStore.{Encodes}
 use Rattle.outcomes.specs.Outcomes.{Tested, passed, failed, tested, bucket_tested, changed, work_on as work_store}

@@ -5,7 +5,7 @@ use Rattle.std.proofs.Common.{sym, ap, ◌∙◌, arith}
 use Rattle.model.specs.Index.{Index}
 use Rattle.model.specs.Steps.{next}
 use Rattle.model.specs.Machine.{Call, CallFits, Kind, accepted, step_index}
-use Rattle.model.specs.SimulationLaws.{alike_next}
+use Rattle.model.proofs.SimulationLaws.{alike_next}
 use Rattle.image.specs.Decode.{decode}
 use Rattle.image.specs.SoundStore.{Encodes}
 use Rattle.outcomes.specs.Outcomes.{run_store, step_store}

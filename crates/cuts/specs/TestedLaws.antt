@@ -9,7 +9,7 @@ use Rattle.model.specs.Calls.{insert, remove}
 use Rattle.model.specs.Machine.{Call, formatting, inserting, removing, looking, working, squeezing, asking}
 use Rattle.model.specs.Machine.{of_splits, of_squeeze, plain, worked, Ran}
 use Rattle.model.specs.Book.{effect}
-use Rattle.model.specs.MachineLaws.{never}
+use Rattle.model.proofs.MachineLaws.{never}
 use Rattle.image.specs.Rules.{length_ok}
 use Rattle.outcomes.specs.Outcomes.{Tested, passed, failed, tested, bucket_tested, run_store}
 use Rattle.outcomes.specs.Refusals.{call_numbers_ok, refused_as}

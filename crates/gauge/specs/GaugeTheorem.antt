@@ -13,7 +13,7 @@ use Rattle.model.specs.Index.{Index}
 use Rattle.model.specs.Held.{count}
 use Rattle.model.specs.Calls.{format, standing}
 use Rattle.model.specs.Machine.{Call, formatting, CallFits, plain, stands, accepted}
-use Rattle.model.specs.MachineLaws.{never}
+use Rattle.model.proofs.MachineLaws.{never}
 use Rattle.model.specs.History.{Moment, last_of, history, start, Always}
 use Rattle.model.specs.HistoryLaws.{always-map}
 use Rattle.model.specs.Demand.{Holds}

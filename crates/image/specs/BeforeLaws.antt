@@ -20,7 +20,7 @@ use Rattle.model.specs.Index.{Index, top_bit}
 use Rattle.model.specs.Steps.{begin_in, begin}
 use Rattle.model.specs.Calls.{fill_ok}
 use Rattle.model.specs.WellFormed.{Laid}
-use Rattle.model.specs.BoundLaws.{laid-room}
+use Rattle.model.proofs.BoundLaws.{laid-room}
 use Rattle.image.specs.declared.Meta.{Meta}
 use Rattle.image.specs.Decode.{meta_at, max_at, point_at, spares_at}
 use Rattle.image.specs.Rules.{length_ok, spares_ok, meta_ok, rule2}

@@ -19,8 +19,8 @@ use Rattle.model.specs.Index.{Page, Chain, no_chain, Job, idle, copying, clearin
 use Rattle.model.specs.Pages.{bits_of, free_bit, first_free}
 use Rattle.model.specs.Held.{count}
 use Rattle.model.specs.WellFormed.{Laid, WF}
-use Rattle.model.specs.LaidLaws.{free-bit}
-use Rattle.model.specs.BoundLaws.{laid-room, laid-point, count-le}
+use Rattle.model.proofs.LaidLaws.{free-bit}
+use Rattle.model.proofs.BoundLaws.{laid-room, laid-point, count-le}
 use Rattle.image.specs.Layout.{meta_front, padded, meta_of, flags_in, flags_of}
 use Rattle.image.specs.MetaLaws.{Words, MetaFits, length-meta_front}
 use Rattle.lists.specs.TestLaws.{each_all}

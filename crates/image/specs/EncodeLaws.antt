@@ -29,7 +29,7 @@ use Rattle.model.specs.Index.{Page, Chain, no_chain, Index, chain, top_bit}
 use Rattle.model.specs.Pages.{bits_of, is_free}
 use Rattle.model.specs.WellFormed.{PageOk, MoreOk, ChainOk, Laid}
 use Rattle.model.specs.TallyLaws.{b2n-le}
-use Rattle.model.specs.BoundLaws.{laid-size}
+use Rattle.model.proofs.BoundLaws.{laid-size}
 use Rattle.image.specs.Layout.{
   paged,
   blank,

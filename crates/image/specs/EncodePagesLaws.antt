@@ -25,7 +25,7 @@ use Rattle.page.proofs.RuleLaws.{page_ok-encode_page}
 use Rattle.store.specs.Store.{prev_at, next_at, bucket_at, flags_at, id_at, covered}
 use Rattle.model.specs.Index.{Page, Index, chain, top_bit}
 use Rattle.model.specs.WellFormed.{PageOk, Laid, WF}
-use Rattle.model.specs.BoundLaws.{laid-room, bits-le}
+use Rattle.model.proofs.BoundLaws.{laid-room, bits-le}
 use Rattle.image.specs.declared.Meta.{Meta}
 use Rattle.image.specs.Layout.{
   paged,

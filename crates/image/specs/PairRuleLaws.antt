@@ -26,7 +26,7 @@ use Rattle.model.specs.Index.{
   old_bucket,
 }
 use Rattle.model.specs.WellFormed.{unmoved_at, moved_at, Strays, PlacedIn}
-use Rattle.model.specs.HeldLaws.{is-parts, stands-none, found-stands}
+use Rattle.model.proofs.HeldLaws.{is-parts, stands-none, found-stands}
 use Rattle.image.specs.Rules.{distinct, placed, copied}
 use Rattle.lists.specs.TestLaws.{all_none, none-fails}
 

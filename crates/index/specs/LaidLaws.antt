@@ -12,7 +12,7 @@ use Rattle.model.specs.Index.{Index}
 use Rattle.model.specs.Steps.{Step}
 use Rattle.model.specs.Machine.{Kind, step_index}
 use Rattle.model.specs.Calls.{Result}
-use Rattle.model.specs.MachineLaws.{never}
+use Rattle.model.proofs.MachineLaws.{never}
 use Rattle.image.specs.Layout.{encode}
 use Rattle.image.specs.Decode.{decode}
 use Rattle.outcomes.specs.Outcomes.{step_on, step_store}

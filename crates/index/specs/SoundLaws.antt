@@ -16,10 +16,10 @@ use Rattle.model.specs.Steps.{Step, next, stopped, Worked, step, iterate}
 use Rattle.model.specs.Machine.{Kind, step_index}
 use Rattle.model.specs.Calls.{Result}
 use Rattle.model.specs.WellFormed.{WF}
-use Rattle.model.specs.BoundLaws.{laid-size}
-use Rattle.model.specs.StepLaws.{step-wf}
-use Rattle.model.specs.KindLaws.{kind-wf}
-use Rattle.model.specs.MachineLaws.{never}
+use Rattle.model.proofs.BoundLaws.{laid-size}
+use Rattle.model.proofs.StepLaws.{step-wf}
+use Rattle.model.proofs.KindLaws.{kind-wf}
+use Rattle.model.proofs.MachineLaws.{never}
 use Rattle.image.specs.Layout.{encode}
 use Rattle.image.specs.Decode.{decode}
 use Rattle.image.specs.EncodeDecodeLaws.{decode-encode}

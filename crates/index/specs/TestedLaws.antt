@@ -8,7 +8,7 @@ use Rattle.model.specs.declared.Refusal.{Refusal}
 use Rattle.page.specs.declared.Pair.{Pair}
 use Rattle.model.specs.Calls.{pair_ok}
 use Rattle.address.specs.Limits.{max_blocks}
-use Rattle.model.specs.MachineLaws.{never}
+use Rattle.model.proofs.MachineLaws.{never}
 use Rattle.image.specs.declared.Meta.{Meta}
 use Rattle.image.specs.declared.Verdict.{Verdict}
 use Rattle.image.specs.Decode.{meta_at, decode}

@@ -15,8 +15,8 @@ use Rattle.model.specs.Index.{Index}
 use Rattle.model.specs.Held.{matches}
 use Rattle.model.specs.Calls.{Result, done, refused, size_ok, order_of, format_ok, overwrites, format, format_in, listed}
 use Rattle.model.specs.Calls.{lookup}
-use Rattle.model.specs.FormatLaws.{fill-ok}
-use Rattle.model.specs.MachineLaws.{never}
+use Rattle.model.proofs.FormatLaws.{fill-ok}
+use Rattle.model.proofs.MachineLaws.{never}
 use Rattle.image.specs.Rules.{length_ok}
 use Rattle.outcomes.specs.Outcomes.{Tested, passed, failed, tested, store_in_use, in_use_outcome, Changed, refusing}
 use Rattle.outcomes.specs.Outcomes.{changed, format_replacing, format_outcome, lookup_on, lookup_outcome}

@@ -10,7 +10,7 @@ use Rattle.model.specs.declared.Refusal.{Refusal}
 use Rattle.model.specs.declared.LookupAnswer.{LookupAnswer}
 use Rattle.model.specs.Held.{matches}
 use Rattle.model.specs.Calls.{Looked, listed, lookup}
-use Rattle.model.specs.MachineLaws.{never}
+use Rattle.model.proofs.MachineLaws.{never}
 use Rattle.outcomes.specs.Outcomes.{tested, lookup_outcome}
 use Rattle.image.specs.Rules.{length_ok}
 use Rattle.outcomes.specs.OutcomeIndexLaws.{lookup-encode}

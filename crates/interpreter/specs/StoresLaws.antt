@@ -11,13 +11,13 @@ use Rattle.model.specs.Steps.{next, step}
 use Rattle.model.specs.Calls.{size_ok, order_of, format_ok, overwrites, format, format_in}
 use Rattle.model.specs.Machine.{Call, formatting, inserting, removing, working, CallFits, Kind, of_splits, of_squeeze}
 use Rattle.model.specs.Machine.{Ran, run_index, step_index}
-use Rattle.model.specs.FormatLaws.{format-wf}
-use Rattle.model.specs.FrameLaws.{SameJob, insert-frame, remove-frame, begin-frame, job-frame, squeeze-frame}
-use Rattle.model.specs.InsertLaws.{insert-wf}
-use Rattle.model.specs.RemoveLaws.{remove-wf}
-use Rattle.model.specs.KindLaws.{kind-wf, kind-store}
-use Rattle.model.specs.RunLaws.{run-keeps}
-use Rattle.model.specs.MachineLaws.{never}
+use Rattle.model.proofs.FormatLaws.{format-wf}
+use Rattle.model.proofs.FrameLaws.{SameJob, insert-frame, remove-frame, begin-frame, job-frame, squeeze-frame}
+use Rattle.model.proofs.InsertLaws.{insert-wf}
+use Rattle.model.proofs.RemoveLaws.{remove-wf}
+use Rattle.model.proofs.KindLaws.{kind-wf, kind-store}
+use Rattle.model.proofs.RunLaws.{run-keeps}
+use Rattle.model.proofs.MachineLaws.{never}
 use Rattle.image.specs.BridgeTheorem.{encoding-is-sound}
 use Rattle.outcomes.specs.Outcomes.{tested, store_in_use, changed, format_replacing, insert_outcome, remove_outcome}
 use Rattle.image.specs.Rules.{length_ok}

@@ -11,10 +11,10 @@ use Rattle.model.specs.Held.{self, held}
 use Rattle.model.specs.Steps.{next, step}
 use Rattle.model.specs.Machine.{of_splits}
 use Rattle.model.specs.Book.{Book, has, movers}
-use Rattle.model.specs.SimulationLaws.{alike_next}
+use Rattle.model.proofs.SimulationLaws.{alike_next}
 use Rattle.model.specs.Busy.{Busy, OverIs}
-use Rattle.model.specs.BusyTheorem.{busy-over}
-use Rattle.model.specs.BusyTransferLaws.{busy-beside}
+use Rattle.model.proofs.BusyTheorem.{busy-over}
+use Rattle.model.proofs.BusyTransferLaws.{busy-beside}
 use Rattle.image.specs.Decode.{decode}
 use Rattle.image.specs.Rules.{length_ok, sound, verdict}
 use Rattle.image.specs.BridgeTheorem.{sound-is-encoding}

@@ -24,7 +24,7 @@ use Rattle.model.specs.Calls.{size_ok, fill_ok, order_of, format_ok, overwrites,
 use Rattle.model.specs.Calls.{lookup, standing, work}
 use Rattle.model.specs.Machine.{Call, formatting, inserting, removing, looking, working, asking, CallFits}
 use Rattle.model.specs.Machine.{Reply, plain, reply_no, run_index, on_index}
-use Rattle.model.specs.FormatLaws.{format-wf}
+use Rattle.model.proofs.FormatLaws.{format-wf}
 use Rattle.image.specs.declared.Meta.{Meta}
 use Rattle.image.specs.Layout.{paged, blank, padded, meta_of, map_front, image, encode_block, sealed_block, encode}
 use Rattle.image.specs.Decode.{bit_of, meta_at}

@@ -8,8 +8,8 @@ use Rattle.model.specs.Machine.{Call, formatting, CallFits, accepted}
 use Rattle.model.specs.History.{Moment, history, start}
 use Rattle.model.specs.HistoryLaws.{history-keeps}
 use Rattle.model.specs.Demand.{Demand3}
-use Rattle.model.specs.Demand3Theorem.{demand3}
-use Rattle.model.specs.TransferLaws.{transfer}
+use Rattle.model.proofs.Demand3Theorem.{demand3}
+use Rattle.model.proofs.TransferLaws.{transfer}
 use Rattle.image.specs.Decode.{decode}
 use Rattle.outcomes.specs.Outcomes.{run_store, on_store}
 use Rattle.image.specs.SoundStore.{Encodes, StaysSound}

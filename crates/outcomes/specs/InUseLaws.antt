@@ -13,7 +13,7 @@ use Rattle.model.specs.Machine.{formatting, CallFits, plain}
 use Rattle.model.specs.Book.{Book}
 use Rattle.model.specs.History.{Moment, Always}
 use Rattle.model.specs.HistoryLaws.{always-map}
-use Rattle.model.specs.MachineLaws.{never}
+use Rattle.model.proofs.MachineLaws.{never}
 use Rattle.model.specs.Demand.{Holds}
 use Rattle.image.specs.Decode.{decode}
 use Rattle.image.specs.Rules.{length_ok, damaged, not_index, sound, verdict}

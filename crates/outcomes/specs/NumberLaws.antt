@@ -11,10 +11,10 @@ use Rattle.model.specs.Index.{Index}
 use Rattle.model.specs.Calls.{format}
 use Rattle.model.specs.Machine.{Call, CallFits, accepted, Ran, run_index}
 use Rattle.model.specs.Book.{effect, number_after}
-use Rattle.model.specs.FormatLaws.{format-wf}
-use Rattle.model.specs.NumberLaws.{number-run}
-use Rattle.model.specs.MachineLaws.{never}
-use Rattle.model.specs.RunLaws.{run-wf}
+use Rattle.model.proofs.FormatLaws.{format-wf}
+use Rattle.model.proofs.NumberLaws.{number-run}
+use Rattle.model.proofs.MachineLaws.{never}
+use Rattle.model.proofs.RunLaws.{run-wf}
 use Rattle.image.specs.EncodeLaws.{number-encode}
 use Rattle.outcomes.specs.Outcomes.{passed, tested, run_store}
 use Rattle.outcomes.specs.Refusals.{call_numbers_ok}

@@ -21,8 +21,8 @@ use Rattle.model.specs.Machine.{Call, formatting, inserting, removing, looking, 
 use Rattle.model.specs.Machine.{of_splits, of_squeeze, plain, looked, worked, stands, Ran, settled, worked_in}
 use Rattle.model.specs.Machine.{squeezed_in, run_index, step_index}
 use Rattle.model.specs.WellFormed.{WF}
-use Rattle.model.specs.KindLaws.{kind-wf}
-use Rattle.model.specs.SimulationLaws.{Alike, iterate-alike}
+use Rattle.model.proofs.KindLaws.{kind-wf}
+use Rattle.model.proofs.SimulationLaws.{Alike, iterate-alike}
 use Rattle.image.specs.Layout.{encode}
 use Rattle.image.specs.Decode.{decode}
 use Rattle.image.specs.Rules.{sound}

@@ -22,8 +22,8 @@ use Rattle.model.specs.Held.{matches}
 use Rattle.model.specs.Machine.{Call, formatting, inserting, removing, looking, working, squeezing, asking, Kind}
 use Rattle.model.specs.Machine.{of_splits, of_squeeze, Reply, plain, looked, worked, stands, accepted, Ran, step_index}
 use Rattle.model.specs.Book.{effect}
-use Rattle.model.specs.RunLaws.{refused-no}
-use Rattle.model.specs.MachineLaws.{never, kind-unspent, iterate-works}
+use Rattle.model.proofs.RunLaws.{refused-no}
+use Rattle.model.proofs.MachineLaws.{never, kind-unspent, iterate-works}
 use Rattle.model.specs.Demand.{after_steps, WorkIs}
 use Rattle.image.specs.Layout.{encode}
 use Rattle.image.specs.Decode.{decode}

@@ -12,12 +12,12 @@ use Rattle.model.specs.Squeeze.{squeeze, bucket_test}
 use Rattle.model.specs.Calls.{in_use, overwrites, budget_ok, format, format_in, formatted, work}
 use Rattle.model.specs.Machine.{formatting, CallFits, Kind, of_splits, of_squeeze, stepping, plain, accepted, Ran, settled}
 use Rattle.model.specs.Machine.{worked_in, squeezed_in, run_index, on_index}
-use Rattle.model.specs.MachineLaws.{never}
+use Rattle.model.proofs.MachineLaws.{never}
 use Rattle.model.specs.Demand.{WorkIs}
-use Rattle.model.specs.RunLaws.{refused-no, run-wf}
+use Rattle.model.proofs.RunLaws.{refused-no, run-wf}
 use Rattle.model.specs.WellFormed.{WF}
-use Rattle.model.specs.FormatLaws.{format-free}
-use Rattle.model.specs.SimulationLaws.{Formats, Simulates}
+use Rattle.model.proofs.FormatLaws.{format-free}
+use Rattle.model.proofs.SimulationLaws.{Formats, Simulates}
 use Rattle.image.specs.Layout.{encode}
 use Rattle.outcomes.specs.Outcomes.{tested, Changed, run_store, on_store}
 use Rattle.image.specs.BridgeTheorem.{count-encode}

@@ -13,11 +13,11 @@ use Rattle.model.specs.Calls.{size_ok, format_ok, overwrites, format, format_in}
 use Rattle.model.specs.Machine.{Call, formatting, CallFits, Kind, plain, accepted, Ran, run_index, step_index}
 use Rattle.model.specs.Book.{effect}
 use Rattle.model.specs.WellFormed.{WF}
-use Rattle.model.specs.FrameLaws.{insert-frame, remove-frame}
-use Rattle.model.specs.KindLaws.{kind-wf, kind-store}
-use Rattle.model.specs.RunLaws.{run-keeps, run-wf}
-use Rattle.model.specs.FormatLaws.{format-wf}
-use Rattle.model.specs.MachineLaws.{never}
+use Rattle.model.proofs.FrameLaws.{insert-frame, remove-frame}
+use Rattle.model.proofs.KindLaws.{kind-wf, kind-store}
+use Rattle.model.proofs.RunLaws.{run-keeps, run-wf}
+use Rattle.model.proofs.FormatLaws.{format-wf}
+use Rattle.model.proofs.MachineLaws.{never}
 use Rattle.image.specs.Layout.{encode}
 use Rattle.image.specs.Rules.{sound, verdict}
 use Rattle.outcomes.specs.Outcomes.{passed, judged, tested, store_in_use, Changed, changed, format_replacing}

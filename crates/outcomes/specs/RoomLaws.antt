@@ -14,8 +14,8 @@ use Rattle.model.specs.Calls.{phase_in, standing}
 use Rattle.model.specs.History.{phase_at}
 use Rattle.model.specs.Room.{NoStep}
 use Rattle.model.specs.PhaseLaws.{job_in, job-phase}
-use Rattle.model.specs.RoomLaws.{step-no_room}
-use Rattle.model.specs.MachineLaws.{never, job-stops}
+use Rattle.model.proofs.RoomLaws.{step-no_room}
+use Rattle.model.proofs.MachineLaws.{never, job-stops}
 use Rattle.image.specs.Decode.{decode}
 use Rattle.outcomes.specs.Outcomes.{Tested, passed, failed, tested, standing_on, standing_outcome, step_on}
 use Rattle.outcomes.specs.Outcomes.{step_outcome, work_on, work_outcome, run_store, on_store}

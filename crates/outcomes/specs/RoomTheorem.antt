@@ -11,8 +11,8 @@ use Rattle.model.specs.Index.{copying, Index}
 use Rattle.model.specs.Steps.{stopped, copies_left}
 use Rattle.model.specs.History.{phase_at}
 use Rattle.model.specs.Room.{NoPage, Room, NoStep}
-use Rattle.model.specs.RoomLaws.{step-no_room, room-not, room-or-none}
-use Rattle.model.specs.MachineLaws.{never}
+use Rattle.model.proofs.RoomLaws.{step-no_room, room-not, room-or-none}
+use Rattle.model.proofs.MachineLaws.{never}
 use Rattle.image.specs.Decode.{decode}
 use Rattle.outcomes.specs.Outcomes.{work_outcome, on_store}
 use Rattle.outcomes.specs.OutcomeLaws.{WorkEnds, work-ends}

@@ -18,10 +18,10 @@ use Rattle.model.specs.Squeeze.{squeeze_step, squeeze, bucket_test, pages_for, p
 use Rattle.model.specs.Calls.{budget_ok, listed, lookup, phase_in, standing}
 use Rattle.model.specs.Machine.{of_squeeze, on_index}
 use Rattle.model.specs.WellFormed.{WF}
-use Rattle.model.specs.FrameLaws.{SameJob, squeeze-frame}
-use Rattle.model.specs.WorkLaws.{iterate-keeps}
-use Rattle.model.specs.MachineLaws.{never, kind-unspent, iterate-ends}
-use Rattle.model.specs.SqueezeStepLaws.{squeeze-all, squeeze-packed}
+use Rattle.model.proofs.FrameLaws.{SameJob, squeeze-frame}
+use Rattle.model.proofs.WorkLaws.{iterate-keeps}
+use Rattle.model.proofs.MachineLaws.{never, kind-unspent, iterate-ends}
+use Rattle.model.proofs.SqueezeStepLaws.{squeeze-all, squeeze-packed}
 use Rattle.image.specs.Layout.{encode}
 use Rattle.image.specs.Decode.{decode}
 use Rattle.image.specs.BridgeTheorem.{encoding-is-sound}

@@ -8,7 +8,7 @@ use Rattle.model.specs.declared.Stop.{Stop}
 use Rattle.model.specs.declared.WorkAnswer.{WorkAnswer}
 use Rattle.model.specs.Index.{Index, chain, entries_at}
 use Rattle.model.specs.Squeeze.{pages_for, pages_of}
-use Rattle.model.specs.SqueezeStepLaws.{squeeze-enough, squeeze-ends, squeeze-forty, spare-bound}
+use Rattle.model.proofs.SqueezeStepLaws.{squeeze-enough, squeeze-ends, squeeze-forty, spare-bound}
 use Rattle.image.specs.Decode.{decode}
 use Rattle.outcomes.specs.Outcomes.{lookup_outcome, standing_outcome, squeeze_outcome}
 use Rattle.outcomes.specs.SqueezeLaws.{accepted, squeeze-pages}

@@ -10,7 +10,7 @@ use Rattle.store.specs.Store.{covered, number_at}
 use Rattle.store.specs.Change.{Fits}
 use Rattle.model.specs.Index.{Index}
 use Rattle.model.specs.WellFormed.{Laid}
-use Rattle.model.specs.FrameLaws.{SameStore}
+use Rattle.model.proofs.FrameLaws.{SameStore}
 use Rattle.image.specs.declared.Meta.{Meta}
 use Rattle.image.specs.Layout.{encode_block, encode}
 use Rattle.image.specs.Decode.{decode}

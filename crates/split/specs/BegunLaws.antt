@@ -16,9 +16,9 @@ use Rattle.store.specs.Store.{trailer, covered}
 use Rattle.model.specs.Index.{idle, Index, chain}
 use Rattle.model.specs.Held.{count, wanted}
 use Rattle.model.specs.Steps.{or_full, begin}
-use Rattle.model.specs.BoundLaws.{laid-size}
-use Rattle.model.specs.ViewLaws.{Beginning, begin-view}
-use Rattle.model.specs.MachineLaws.{never}
+use Rattle.model.proofs.BoundLaws.{laid-size}
+use Rattle.model.proofs.ViewLaws.{Beginning, begin-view}
+use Rattle.model.proofs.MachineLaws.{never}
 use Rattle.image.specs.declared.Meta.{Meta}
 use Rattle.image.specs.Layout.{paged, meta_front, padded, meta_of}
 use Rattle.store.specs.Flags.{no_link}

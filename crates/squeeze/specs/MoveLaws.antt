@@ -21,7 +21,7 @@ use Rattle.store.specs.Store.{trailer, covered}
 use Rattle.model.specs.Index.{Index, chain}
 use Rattle.model.specs.Pages.{first_free, cut}
 use Rattle.model.specs.Held.{count}
-use Rattle.model.specs.MachineLaws.{never}
+use Rattle.model.proofs.MachineLaws.{never}
 use Rattle.image.specs.declared.Meta.{Meta}
 use Rattle.image.specs.Layout.{paged, flags_of, meta_of, map_bit, encode_block}
 use Rattle.image.specs.Decode.{decode}

@@ -21,8 +21,8 @@ use Rattle.model.specs.Held.{count}
 use Rattle.model.specs.Steps.{next}
 use Rattle.model.specs.Squeeze.{moved_to, squeeze_in, squeeze_step}
 use Rattle.model.specs.WellFormed.{WF, Laid}
-use Rattle.model.specs.SqueezeLaws.{Moving, mover-is, behind, rest, page, pages, without_is, without-room}
-use Rattle.model.specs.SqueezeStepLaws.{squeeze-wf, squeeze-count}
+use Rattle.model.proofs.SqueezeLaws.{Moving, mover-is, behind, rest, page, pages, without_is, without-room}
+use Rattle.model.proofs.SqueezeStepLaws.{squeeze-wf, squeeze-count}
 use Rattle.image.specs.declared.Meta.{Meta}
 use Rattle.image.specs.Decode.{decode}
 use Rattle.frame.specs.Frame.{block_of_bit, map_block, chain_blocks, page_block, entries_after, place_entries, page_entries}

@@ -9,7 +9,7 @@ use Rattle.lists.specs.Block.{blocks, block}
 use Rattle.address.specs.Address.{bucket_block}
 use Rattle.page.specs.Rule.{page_ok}
 use Rattle.model.specs.Index.{Page, Chain, Index, chain, entries_at}
-use Rattle.model.specs.BoundLaws.{bits-le, laid-room}
+use Rattle.model.proofs.BoundLaws.{bits-le, laid-room}
 use Rattle.image.specs.declared.Meta.{Meta}
 use Rattle.image.specs.Layout.{encode}
 use Rattle.store.specs.Flags.{no_link}

@@ -14,7 +14,7 @@ use Rattle.model.specs.Index.{Page, Index, chain}
 use Rattle.model.specs.Held.{sorted, matches}
 use Rattle.model.specs.WellFormed.{Laid}
 use Rattle.model.specs.SortedLaws.{length-sorted}
-use Rattle.model.specs.BoundLaws.{laid-room, bits-le}
+use Rattle.model.proofs.BoundLaws.{laid-room, bits-le}
 use Rattle.image.specs.declared.Meta.{Meta}
 use Rattle.image.specs.Decode.{block_of, decode}
 use Rattle.image.specs.BoundLaws.{one-part, two-parts}
