@@ -18,6 +18,12 @@ MOVES = {
     "address": ["BucketLaws"],
     "crc32c": ["InjectiveLaws"],
     "endian": ["EndianLaws"],
+    "image": [
+        "MetaLaws", "PairRuleLaws", "BoundLaws", "EncodeLaws", "EncodePagesLaws", "EncodeDecodeLaws",
+        "EncodeFitsLaws", "EncodeChainsLaws", "EncodeBitmapLaws", "EncodeVerdictLaws", "SoundFieldsLaws",
+        "SoundBlocksLaws", "SoundChainsLaws", "SoundBitsLaws", "SoundImagesLaws", "SoundIndexLaws", "BeforeLaws",
+        "BeforeTheorem", "BridgeTheorem",
+    ],
     "journal": [
         "LoopLaws", "PlanLaws", "ValidLaws", "RecoverLaws", "LookLaws", "StageLaws", "CrashLaws", "WholeLaws", "AlteredLaws",
         "PlannedLaws", "LinkLaws", "BecomesLaws", "CrashTheorem", "WrittenLaws",

@@ -19,8 +19,8 @@ use Rattle.model.proofs.NumberLaws.{number-run}
 use Rattle.model.proofs.RunLaws.{run-wf}
 use Rattle.image.specs.Layout.{encode}
 use Rattle.image.specs.SoundStore.{Encodes}
-use Rattle.image.specs.BridgeTheorem.{encoding-is-sound}
-use Rattle.image.specs.EncodeLaws.{number-encode, checked-encode}
+use Rattle.image.proofs.BridgeTheorem.{encoding-is-sound}
+use Rattle.image.proofs.EncodeLaws.{number-encode, checked-encode}
 use Rattle.outcomes.specs.Outcomes.{step_on, run_store, step_store}
 use Rattle.outcomes.specs.OutcomeIndexLaws.{step-encode, run-encode}
 use Rattle.outcomes.specs.OutcomeSoundLaws.{run-size}

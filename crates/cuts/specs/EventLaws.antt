@@ -12,7 +12,7 @@ use Rattle.model.specs.HistoryLaws.{last-append, after-state}
 use Rattle.model.proofs.MachineLaws.{never}
 use Rattle.model.proofs.SimulationLaws.{alike_next}
 use Rattle.image.specs.SoundStore.{Encodes, StaysSound}
-use Rattle.image.specs.BridgeTheorem.{encoding-is-sound}
+use Rattle.image.proofs.BridgeTheorem.{encoding-is-sound}
 use Rattle.outcomes.specs.Outcomes.{run_store, step_store, on_store}
 use Rattle.outcomes.specs.OutcomeIndexLaws.{step-alike}
 use Rattle.outcomes.specs.OutcomeMachineLaws.{simulates}

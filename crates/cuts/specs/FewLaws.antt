@@ -16,7 +16,7 @@ use Rattle.model.specs.WellFormed.{Laid}
 use Rattle.model.specs.TallyLaws.{tally-parts}
 use Rattle.model.proofs.FrameLaws.{Framed, SameStore}
 use Rattle.image.specs.Layout.{encode_block, sealed_block, encode}
-use Rattle.image.specs.EncodeLaws.{blocks-encode, block-encode, covered-encode}
+use Rattle.image.proofs.EncodeLaws.{blocks-encode, block-encode, covered-encode}
 use Rattle.frame.specs.Frame.{Apart}
 use Rattle.journal.specs.Journal.{equal}
 use Rattle.journal.proofs.ValidLaws.{equal-eq, equal-yes}

@@ -12,7 +12,7 @@ use Rattle.model.specs.Machine.{Kind, of_splits, of_squeeze, plain, worked, Ran,
 use Rattle.model.specs.Book.{effect}
 use Rattle.model.proofs.SimulationLaws.{Alike, iterate-alike}
 use Rattle.image.specs.SoundStore.{Encodes}
-use Rattle.image.specs.BridgeTheorem.{encoding-is-sound}
+use Rattle.image.proofs.BridgeTheorem.{encoding-is-sound}
 use Rattle.outcomes.specs.Outcomes.{Tested, passed, failed, tested, bucket_tested, Changed, changed, insert_on}
 use Rattle.outcomes.specs.Outcomes.{insert_outcome, remove_on, remove_outcome, WorkDone}
 use Rattle.outcomes.specs.Outcomes.{work_outcome, squeeze_outcome, run_store, step_store}

@@ -32,7 +32,7 @@ use Rattle.store.specs.Flags.{no_link}
 use Rattle.image.specs.Layout.{linked_of, linked_from, linked_pages, bucket_image, overflow_image, image, encode_block}
 use Rattle.frame.specs.Frame.{Apart, block_of_bit, begin_blocks}
 use Rattle.image.specs.LinkedLaws.{has_bit}
-use Rattle.image.specs.BoundLaws.{max-under}
+use Rattle.image.proofs.BoundLaws.{max-under}
 use Rattle.frame.specs.ImagesLaws.{bits-at}
 use Rattle.frame.specs.ChainLaws.{linked_as, free-alike}
 use Rattle.frame.specs.JobLaws.{flags-else}

@@ -24,7 +24,7 @@ use Rattle.store.specs.Flags.{no_link}
 use Rattle.image.specs.Layout.{linked_from, bucket_image, overflow_image, image, encode_block}
 use Rattle.frame.specs.Frame.{Apart, block_of_bit, blocks_after, chain_blocks, put_alters}
 use Rattle.image.specs.LinkedLaws.{has_bit}
-use Rattle.image.specs.BoundLaws.{max-under}
+use Rattle.image.proofs.BoundLaws.{max-under}
 use Rattle.frame.specs.ChainLaws.{linked_as, frame-chain, free-alike}
 use Rattle.frame.specs.PutLaws.{in-new}
 

@@ -31,7 +31,7 @@ use Rattle.model.proofs.MachineLaws.{never}
 use Rattle.image.specs.declared.Meta.{Meta}
 use Rattle.image.specs.Layout.{paged, meta_front, padded, meta_of, map_bit, encode_block}
 use Rattle.store.specs.Flags.{no_link}
-use Rattle.image.specs.BoundLaws.{top_small}
+use Rattle.image.proofs.BoundLaws.{top_small}
 use Rattle.image.specs.FreeLaws.{first-zero}
 use Rattle.frame.specs.Frame.{frees_at}
 use Rattle.frame.specs.ImagesLaws.{meta-image}

@@ -18,8 +18,8 @@ use Rattle.image.specs.declared.Meta.{Meta}
 use Rattle.image.specs.Layout.{map_bit}
 use Rattle.image.specs.Decode.{bit_of, decode}
 use Rattle.image.specs.Rules.{map_at, bit_at, top_at}
-use Rattle.image.specs.BoundLaws.{top_small}
-use Rattle.image.specs.EncodeBitmapLaws.{bit-encode}
+use Rattle.image.proofs.BoundLaws.{top_small}
+use Rattle.image.proofs.EncodeBitmapLaws.{bit-encode}
 use Rattle.shape.specs.SumLaws.{sum, sum-tally, sum-length}
 use Rattle.view.specs.Reads.{Reads}
 use Rattle.view.specs.ReadsLaws.{reads-laid}

@@ -22,7 +22,7 @@ use Rattle.model.proofs.KindLaws.{kind-wf}
 use Rattle.model.proofs.MachineLaws.{never}
 use Rattle.image.specs.Layout.{encode}
 use Rattle.image.specs.Decode.{decode}
-use Rattle.image.specs.EncodeDecodeLaws.{decode-encode}
+use Rattle.image.proofs.EncodeDecodeLaws.{decode-encode}
 use Rattle.outcomes.specs.Outcomes.{changed, step_on}
 use Rattle.outcomes.specs.OutcomeLaws.{step-read}
 use Rattle.plan.specs.declared.Advance.{Advance}

@@ -17,7 +17,7 @@ use Rattle.model.specs.Machine.{of_squeeze}
 use Rattle.model.specs.Calls.{budget_ok}
 use Rattle.model.proofs.MachineLaws.{never}
 use Rattle.image.specs.Decode.{decode}
-use Rattle.image.specs.EncodeDecodeLaws.{decode-encode}
+use Rattle.image.proofs.EncodeDecodeLaws.{decode-encode}
 use Rattle.outcomes.specs.Outcomes.{Tested, passed, failed, unless_refused, bucket_tested}
 use Rattle.journal.specs.Journal.{Disk}
 use Rattle.cuts.specs.Journalled.{tested_with, step_journalled, worked_by, work_on, squeeze_journalled}

@@ -13,7 +13,7 @@ use Rattle.image.specs.declared.Meta.{Meta}
 use Rattle.image.specs.declared.Verdict.{Verdict}
 use Rattle.image.specs.Decode.{meta_at, decode}
 use Rattle.image.specs.Rules.{Judged, damaged, not_index, sound, verdict}
-use Rattle.image.specs.BridgeTheorem.{sound-is-encoding}
+use Rattle.image.proofs.BridgeTheorem.{sound-is-encoding}
 use Rattle.outcomes.specs.Outcomes.{Tested, passed, failed, judged, tested_in, tested, verdict_of, verify_outcome}
 use Rattle.outcomes.specs.OutcomeLaws.{passed-numbers}
 use Rattle.image.specs.Rules.{length_ok}

@@ -16,8 +16,8 @@ use Rattle.model.proofs.LaidLaws.{free-bit}
 use Rattle.image.specs.Layout.{map_front, map_bit}
 use Rattle.image.specs.Decode.{bit_of}
 use Rattle.image.specs.BitmapLaws.{bit_of-map_front}
-use Rattle.image.specs.BoundLaws.{top_small}
-use Rattle.image.specs.EncodeLaws.{map_bit-lt}
+use Rattle.image.proofs.BoundLaws.{top_small}
+use Rattle.image.proofs.EncodeLaws.{map_bit-lt}
 use Rattle.image.specs.FreeLaws.{first-zero}
 use Rattle.frame.specs.ChainLaws.{Free, free-yes}
 use Rattle.chain.specs.declared.Free as chain

@@ -16,7 +16,7 @@ use Rattle.image.specs.declared.Meta.{Meta}
 use Rattle.image.specs.Layout.{paged, meta_front, meta_of, encode_block}
 use Rattle.store.specs.Flags.{no_link}
 use Rattle.image.specs.Decode.{decode}
-use Rattle.image.specs.BoundLaws.{length-meta}
+use Rattle.image.proofs.BoundLaws.{length-meta}
 use Rattle.frame.specs.Frame.{Apart}
 use Rattle.frame.specs.ImagesLaws.{meta-image}
 use Rattle.view.specs.Reads.{Reads}

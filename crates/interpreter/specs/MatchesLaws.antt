@@ -17,7 +17,7 @@ use Rattle.model.specs.Held.{sources_in, sources, matches}
 use Rattle.model.specs.WellFormed.{MoreOk, ChainOk, Laid}
 use Rattle.model.specs.SortedLaws.{length-sorted}
 use Rattle.model.proofs.BoundLaws.{laid-room, bits-le}
-use Rattle.image.specs.BoundLaws.{one-part, two-parts}
+use Rattle.image.proofs.BoundLaws.{one-part, two-parts}
 use Rattle.model.proofs.MachineLaws.{never}
 use Rattle.interpreter.specs.Script.{script_blocks}
 

@@ -18,7 +18,7 @@ use Rattle.model.proofs.RemoveLaws.{remove-wf}
 use Rattle.model.proofs.KindLaws.{kind-wf, kind-store}
 use Rattle.model.proofs.RunLaws.{run-keeps}
 use Rattle.model.proofs.MachineLaws.{never}
-use Rattle.image.specs.BridgeTheorem.{encoding-is-sound}
+use Rattle.image.proofs.BridgeTheorem.{encoding-is-sound}
 use Rattle.outcomes.specs.Outcomes.{tested, store_in_use, changed, format_replacing, insert_outcome, remove_outcome}
 use Rattle.image.specs.Rules.{length_ok}
 use Rattle.outcomes.specs.Outcomes.{work_outcome, run_store}

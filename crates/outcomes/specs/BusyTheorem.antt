@@ -17,7 +17,7 @@ use Rattle.model.proofs.BusyTheorem.{busy-over}
 use Rattle.model.proofs.BusyTransferLaws.{busy-beside}
 use Rattle.image.specs.Decode.{decode}
 use Rattle.image.specs.Rules.{length_ok, sound, verdict}
-use Rattle.image.specs.BridgeTheorem.{sound-is-encoding}
+use Rattle.image.proofs.BridgeTheorem.{sound-is-encoding}
 use Rattle.image.specs.SoundStore.{Encodes}
 use Rattle.outcomes.specs.Outcomes.{step_outcome, on_store}
 use Rattle.outcomes.specs.OutcomeIndexLaws.{encodes-read, step-alike}

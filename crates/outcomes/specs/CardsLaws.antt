@@ -31,8 +31,8 @@ use Rattle.image.specs.Decode.{bit_of, meta_at}
 use Rattle.image.specs.Rules.{map_at}
 use Rattle.outcomes.specs.Outcomes.{store_in_use, Changed, changed, format_replacing, format_outcome, run_store}
 use Rattle.outcomes.specs.Outcomes.{on_store}
-use Rattle.image.specs.EncodeLaws.{block-encode}
-use Rattle.image.specs.EncodePagesLaws.{meta-encode, point-encode, spares-encode}
+use Rattle.image.proofs.EncodeLaws.{block-encode}
+use Rattle.image.proofs.EncodePagesLaws.{meta-encode, point-encode, spares-encode}
 use Rattle.image.specs.SoundStore.{Encodes}
 use Rattle.outcomes.specs.OutcomeSoundLaws.{blocks_is, legal-is}
 use Rattle.outcomes.specs.OutcomeMachineLaws.{simulates}

@@ -15,7 +15,7 @@ use Rattle.model.proofs.FormatLaws.{format-wf}
 use Rattle.model.proofs.NumberLaws.{number-run}
 use Rattle.model.proofs.MachineLaws.{never}
 use Rattle.model.proofs.RunLaws.{run-wf}
-use Rattle.image.specs.EncodeLaws.{number-encode}
+use Rattle.image.proofs.EncodeLaws.{number-encode}
 use Rattle.outcomes.specs.Outcomes.{passed, tested, run_store}
 use Rattle.outcomes.specs.Refusals.{call_numbers_ok}
 use Rattle.outcomes.specs.OutcomeLaws.{StoreRun, refuses, formats, reads, accepts, store_view}

@@ -34,7 +34,7 @@ use Rattle.outcomes.specs.Outcomes.{lookup_outcome, standing_on, standing_outcom
 use Rattle.outcomes.specs.Outcomes.{work_on, work_outcome, squeeze_step_outcome, unless_refused, bucket_tested}
 use Rattle.outcomes.specs.Outcomes.{squeeze_outcome, run_store, step_store}
 use Rattle.image.specs.SoundStore.{Encodes}
-use Rattle.image.specs.BridgeTheorem.{encoding-is-sound}
+use Rattle.image.proofs.BridgeTheorem.{encoding-is-sound}
 use Rattle.outcomes.specs.OutcomeLaws.{tested-number, tested-verdict, step-read, bucket-passes}
 
 -- a store is read as the index whose bytes it is

@@ -20,7 +20,7 @@ use Rattle.model.proofs.FormatLaws.{format-free}
 use Rattle.model.proofs.SimulationLaws.{Formats, Simulates}
 use Rattle.image.specs.Layout.{encode}
 use Rattle.outcomes.specs.Outcomes.{tested, Changed, run_store, on_store}
-use Rattle.image.specs.BridgeTheorem.{count-encode}
+use Rattle.image.proofs.BridgeTheorem.{count-encode}
 use Rattle.outcomes.specs.OutcomeLaws.{work-steps, squeeze-steps}
 use Rattle.outcomes.specs.OutcomeSoundLaws.{legal-size, Formatted, format-done}
 use Rattle.image.specs.SoundStore.{Encodes}

@@ -23,7 +23,7 @@ use Rattle.image.specs.Rules.{sound, verdict}
 use Rattle.outcomes.specs.Outcomes.{passed, judged, tested, store_in_use, Changed, changed, format_replacing}
 use Rattle.image.specs.Rules.{length_ok}
 use Rattle.outcomes.specs.Outcomes.{format_outcome, step_on, run_store, step_store}
-use Rattle.image.specs.BridgeTheorem.{sound-is-encoding, encoding-is-sound}
+use Rattle.image.proofs.BridgeTheorem.{sound-is-encoding, encoding-is-sound}
 use Rattle.outcomes.specs.Refusals.{call_numbers_ok}
 use Rattle.outcomes.specs.OutcomeLaws.{passed-sound, StoreRun, refuses, formats, reads, accepts, store_view}
 use Rattle.image.specs.SoundStore.{Encodes, StaysSound}

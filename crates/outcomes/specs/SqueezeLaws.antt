@@ -24,7 +24,7 @@ use Rattle.model.proofs.MachineLaws.{never, kind-unspent, iterate-ends}
 use Rattle.model.proofs.SqueezeStepLaws.{squeeze-all, squeeze-packed}
 use Rattle.image.specs.Layout.{encode}
 use Rattle.image.specs.Decode.{decode}
-use Rattle.image.specs.BridgeTheorem.{encoding-is-sound}
+use Rattle.image.proofs.BridgeTheorem.{encoding-is-sound}
 use Rattle.outcomes.specs.Outcomes.{Tested, passed, failed, tested, lookup_outcome, standing_outcome, WorkDone}
 use Rattle.outcomes.specs.Outcomes.{work_on, unless_refused, bucket_tested, squeeze_step_outcome, squeeze_outcome}
 use Rattle.outcomes.specs.OutcomeLaws.{passed-numbers}

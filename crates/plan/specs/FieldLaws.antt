@@ -13,7 +13,7 @@ use Rattle.model.proofs.BoundLaws.{laid-point}
 use Rattle.image.specs.declared.Meta.{Meta}
 use Rattle.image.specs.Layout.{padded, meta_of}
 use Rattle.image.specs.Decode.{decode}
-use Rattle.image.specs.EncodeLaws.{bit-inside}
+use Rattle.image.proofs.EncodeLaws.{bit-inside}
 use Rattle.frame.specs.Frame.{block_of_bit}
 use Rattle.view.specs.Reads.{Reads}
 use Rattle.view.specs.ReadsLaws.{reads-laid, reads-meta}

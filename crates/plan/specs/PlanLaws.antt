@@ -16,7 +16,7 @@ use Rattle.image.specs.Layout.{encode_block, encode}
 use Rattle.image.specs.Decode.{decode}
 use Rattle.frame.specs.Frame.{Apart}
 use Rattle.frame.specs.CommitLaws.{in-or-apart}
-use Rattle.image.specs.EncodeLaws.{covered-encode}
+use Rattle.image.proofs.EncodeLaws.{covered-encode}
 use Rattle.image.specs.NumberLaws.{number-decode}
 use Rattle.view.specs.Reads.{Reads}
 use Rattle.view.specs.ReadsLaws.{reads-size, reads_sized}

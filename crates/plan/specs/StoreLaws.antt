@@ -18,8 +18,8 @@ use Rattle.store.specs.Flags.{no_link}
 use Rattle.image.specs.Decode.{decode}
 use Rattle.image.specs.BitmapLaws.{length-map_front}
 use Rattle.image.specs.PageOkLaws.{length-page_front}
-use Rattle.image.specs.BoundLaws.{length-meta}
-use Rattle.image.specs.EncodeLaws.{bit-inside, covered-encode, checked-encode, Bytes-encode}
+use Rattle.image.proofs.BoundLaws.{length-meta}
+use Rattle.image.proofs.EncodeLaws.{bit-inside, covered-encode, checked-encode, Bytes-encode}
 use Rattle.frame.specs.Frame.{map_block, chain_blocks, page_block, entries_after, place_entries, page_entries, prev_in}
 use Rattle.frame.specs.Frame.{flags_for, page_with}
 use Rattle.frame.specs.ImagesLaws.{top_one, page-inside, page-image, meta-image, map-image}

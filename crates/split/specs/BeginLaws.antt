@@ -31,8 +31,8 @@ use Rattle.model.specs.TallyLaws.{any-more}
 use Rattle.model.proofs.LaidLaws.{begin-laid}
 use Rattle.image.specs.declared.Meta.{Meta}
 use Rattle.image.specs.Layout.{padded, meta_of}
-use Rattle.image.specs.BoundLaws.{max-under}
-use Rattle.image.specs.EncodeLaws.{bucket-inside}
+use Rattle.image.proofs.BoundLaws.{max-under}
+use Rattle.image.proofs.EncodeLaws.{bucket-inside}
 use Rattle.frame.specs.BeginLaws.{Stays, stays-point, stays-more}
 use Rattle.chain.specs.FindLaws.{is_some}
 use Rattle.model.proofs.FrameLaws.{SameStore}

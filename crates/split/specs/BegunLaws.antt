@@ -23,7 +23,7 @@ use Rattle.image.specs.declared.Meta.{Meta}
 use Rattle.image.specs.Layout.{paged, meta_front, padded, meta_of}
 use Rattle.store.specs.Flags.{no_link}
 use Rattle.image.specs.Decode.{decode}
-use Rattle.image.specs.BoundLaws.{length-meta}
+use Rattle.image.proofs.BoundLaws.{length-meta}
 use Rattle.image.specs.PageOkLaws.{length-page_front}
 use Rattle.frame.specs.Frame.{page_block, begin_blocks}
 use Rattle.frame.specs.ImagesLaws.{meta-image}

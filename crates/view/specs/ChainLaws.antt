@@ -16,10 +16,10 @@ use Rattle.store.specs.Flags.{no_link}
 use Rattle.image.specs.Decode.{max_at, block_of, trail, read_page, read_chain, decode}
 use Rattle.frame.specs.Frame.{block_of_bit, blocks_after, chain_blocks, page_block, place_entries, page_entries}
 use Rattle.lists.specs.TestLaws.{each_all}
-use Rattle.image.specs.BoundLaws.{bits-part}
-use Rattle.image.specs.EncodePagesLaws.{max-encode}
-use Rattle.image.specs.EncodeDecodeLaws.{trail-encode}
-use Rattle.image.specs.EncodeChainsLaws.{pages_rule, pages-encode}
+use Rattle.image.proofs.BoundLaws.{bits-part}
+use Rattle.image.proofs.EncodePagesLaws.{max-encode}
+use Rattle.image.proofs.EncodeDecodeLaws.{trail-encode}
+use Rattle.image.proofs.EncodeChainsLaws.{pages_rule, pages-encode}
 use Rattle.frame.specs.ListsLaws.{get_d_map}
 use Rattle.frame.specs.ImagesLaws.{page-inside}
 use Rattle.chain.specs.Walk.{walk, Walked, Bounded}

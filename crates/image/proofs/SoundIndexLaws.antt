@@ -23,12 +23,12 @@ use Rattle.image.specs.Layout.{encode}
 use Rattle.image.specs.Decode.{read_meta, max_at, block_of, trail, read_page, read_chain, decode}
 use Rattle.image.specs.Rules.{placed, buckets, rule5, rule7}
 use Rattle.image.specs.PageOkLaws.{allowed-page}
-use Rattle.image.specs.PairRuleLaws.{rules-placed}
-use Rattle.image.specs.SoundFieldsLaws.{SoundBytes, fields}
-use Rattle.image.specs.SoundChainsLaws.{Links, PageRead, chain-read, chain-decode}
-use Rattle.image.specs.SoundBitsLaws.{uses-made, uses-once}
-use Rattle.image.specs.SoundImagesLaws.{block-decode}
-use Rattle.image.specs.EncodeLaws.{length-encode, block-encode}
+use Rattle.image.proofs.PairRuleLaws.{rules-placed}
+use Rattle.image.proofs.SoundFieldsLaws.{SoundBytes, fields}
+use Rattle.image.proofs.SoundChainsLaws.{Links, PageRead, chain-read, chain-decode}
+use Rattle.image.proofs.SoundBitsLaws.{uses-made, uses-once}
+use Rattle.image.proofs.SoundImagesLaws.{block-decode}
+use Rattle.image.proofs.EncodeLaws.{length-encode, block-encode}
 
 module _ (s : List ℕ) (g : SoundBytes s) where
   abbrev x : Index

@@ -36,8 +36,8 @@ use Rattle.image.specs.Decode.{
 use Rattle.image.specs.Rules.{buckets, is_overflow, link_ok, linked, rule4, rule5}
 use Rattle.image.specs.PagedLaws.{paged-read}
 use Rattle.image.specs.PageOkLaws.{front-page}
-use Rattle.image.specs.SoundFieldsLaws.{SoundBytes}
-use Rattle.image.specs.SoundBlocksLaws.{BlockOk, block-ok, bucket-inside, Overflow, overflow-is}
+use Rattle.image.proofs.SoundFieldsLaws.{SoundBytes}
+use Rattle.image.proofs.SoundBlocksLaws.{BlockOk, block-ok, bucket-inside, Overflow, overflow-is}
 
 module _ (s : List ℕ) (g : SoundBytes s) where
   abbrev sp : List ℕ

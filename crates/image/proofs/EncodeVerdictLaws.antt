@@ -38,16 +38,16 @@ use Rattle.image.specs.Rules.{
   verdict,
 }
 use Rattle.image.specs.PagedLaws.{paged-parts}
-use Rattle.image.specs.MetaLaws.{front_ok-meta_front}
-use Rattle.image.specs.BoundLaws.{length-meta, meta-fits}
-use Rattle.image.specs.PairRuleLaws.{placed-distinct, placed-all, placed-copied}
+use Rattle.image.proofs.MetaLaws.{front_ok-meta_front}
+use Rattle.image.proofs.BoundLaws.{length-meta, meta-fits}
+use Rattle.image.proofs.PairRuleLaws.{placed-distinct, placed-all, placed-copied}
 use Rattle.image.specs.VerdictLaws.{Passes, passes-verdict}
-use Rattle.image.specs.EncodeLaws.{blocks-encode, meta-block, checked-encode}
-use Rattle.image.specs.EncodePagesLaws.{meta-encode, max-encode, block_of-encode, chain-is}
-use Rattle.image.specs.EncodeDecodeLaws.{decode-encode}
-use Rattle.image.specs.EncodeFitsLaws.{rule3-encode}
-use Rattle.image.specs.EncodeChainsLaws.{rule4-encode, pages-encode}
-use Rattle.image.specs.EncodeBitmapLaws.{rule6-encode}
+use Rattle.image.proofs.EncodeLaws.{blocks-encode, meta-block, checked-encode}
+use Rattle.image.proofs.EncodePagesLaws.{meta-encode, max-encode, block_of-encode, chain-is}
+use Rattle.image.proofs.EncodeDecodeLaws.{decode-encode}
+use Rattle.image.proofs.EncodeFitsLaws.{rule3-encode}
+use Rattle.image.proofs.EncodeChainsLaws.{rule4-encode, pages-encode}
+use Rattle.image.proofs.EncodeBitmapLaws.{rule6-encode}
 
 module _ (x : Index) (w : WF x) where
   abbrev l : Laid x

@@ -25,7 +25,7 @@ use Rattle.image.specs.declared.Meta.{Meta}
 use Rattle.image.specs.Layout.{padded}
 use Rattle.image.specs.Decode.{read_meta, meta_at, max_at, point_at, spares_at}
 use Rattle.image.specs.Rules.{spares_ok, meta_ok, rule2, length_ok}
-use Rattle.image.specs.MetaLaws.{length-words_at}
+use Rattle.image.proofs.MetaLaws.{length-words_at}
 use Rattle.image.specs.VerdictLaws.{Passes}
 
 -- bytes of legal length that pass every check and rule

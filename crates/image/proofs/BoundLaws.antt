@@ -22,7 +22,7 @@ use Rattle.model.specs.WellFormed.{Laid, WF}
 use Rattle.model.proofs.LaidLaws.{free-bit}
 use Rattle.model.proofs.BoundLaws.{laid-room, laid-point, count-le}
 use Rattle.image.specs.Layout.{meta_front, padded, meta_of, flags_in, flags_of}
-use Rattle.image.specs.MetaLaws.{Words, MetaFits, length-meta_front}
+use Rattle.image.proofs.MetaLaws.{Words, MetaFits, length-meta_front}
 use Rattle.lists.specs.TestLaws.{each_all}
 
 -- ---- chains

@@ -23,7 +23,7 @@ use Rattle.store.specs.Store.{bucket_at, flags_at, id_at, checked}
 use Rattle.image.specs.Layout.{flags_of}
 use Rattle.image.specs.Decode.{max_at, point_at, spares_at, role_at, block_of, new_flags, old_flags, decode}
 use Rattle.image.specs.Rules.{unused, bucket_flags_ok, fits, overflow_as, is_overflow, rule3, top_at}
-use Rattle.image.specs.SoundFieldsLaws.{SoundBytes, fields}
+use Rattle.image.proofs.SoundFieldsLaws.{SoundBytes, fields}
 use Rattle.image.specs.FlagLaws.{flags-job}
 use Rattle.lists.specs.TestLaws.{cond_yes}
 

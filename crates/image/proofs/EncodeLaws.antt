@@ -58,11 +58,11 @@ use Rattle.image.specs.PagedLaws.{
   Bytes-blank,
   paged-parts,
 }
-use Rattle.image.specs.MetaLaws.{Bytes-meta_front, number-meta_front}
+use Rattle.image.proofs.MetaLaws.{Bytes-meta_front, number-meta_front}
 use Rattle.image.specs.BitmapLaws.{length-map_front, Bytes-map_front}
 use Rattle.image.specs.PageOkLaws.{length-page_front}
 use Rattle.image.specs.LinkedLaws.{has_bit}
-use Rattle.image.specs.BoundLaws.{max-under, length-padded, length-meta}
+use Rattle.image.proofs.BoundLaws.{max-under, length-padded, length-meta}
 
 -- ---- a body
 

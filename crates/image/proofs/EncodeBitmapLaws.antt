@@ -26,11 +26,11 @@ use Rattle.image.specs.Decode.{bit_of, bit_from, point_at, spares_at}
 use Rattle.image.specs.Rules.{is_overflow, map_at, bit_at, top_at, free_at, bit_ok, rule6}
 use Rattle.image.specs.PagedLaws.{paged-parts}
 use Rattle.image.specs.BitmapLaws.{length-map_front, zeros-map_front, bit_of-map_front}
-use Rattle.image.specs.BoundLaws.{top_small}
+use Rattle.image.proofs.BoundLaws.{top_small}
 use Rattle.image.specs.FreeLaws.{free-same, first-zero}
-use Rattle.image.specs.EncodeLaws.{map_bit-lt, bit-inside}
-use Rattle.image.specs.EncodePagesLaws.{meta-encode, point-encode, spares-encode, image-at, role-of-bit}
-use Rattle.image.specs.EncodeChainsLaws.{overflow-uses}
+use Rattle.image.proofs.EncodeLaws.{map_bit-lt, bit-inside}
+use Rattle.image.proofs.EncodePagesLaws.{meta-encode, point-encode, spares-encode, image-at, role-of-bit}
+use Rattle.image.proofs.EncodeChainsLaws.{overflow-uses}
 
 module _ (x : Index) (w : WF x) where
   abbrev l : Laid x

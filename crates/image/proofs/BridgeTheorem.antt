@@ -14,12 +14,12 @@ use Rattle.image.specs.Layout.{meta_of, encode}
 use Rattle.image.specs.Decode.{read_meta, decode}
 use Rattle.image.specs.Rules.{sound, verdict, length_ok}
 use Rattle.image.specs.VerdictLaws.{verdict-passes}
-use Rattle.image.specs.SoundFieldsLaws.{sound-bytes}
-use Rattle.image.specs.SoundIndexLaws.{decode-wf, encode-decode}
-use Rattle.image.specs.EncodeLaws.{length-encode, blocks-encode, Bytes-encode, length_ok-encode}
-use Rattle.image.specs.EncodePagesLaws.{meta-encode}
-use Rattle.image.specs.EncodeDecodeLaws.{decode-encode}
-use Rattle.image.specs.EncodeVerdictLaws.{verdict-encode}
+use Rattle.image.proofs.SoundFieldsLaws.{sound-bytes}
+use Rattle.image.proofs.SoundIndexLaws.{decode-wf, encode-decode}
+use Rattle.image.proofs.EncodeLaws.{length-encode, blocks-encode, Bytes-encode, length_ok-encode}
+use Rattle.image.proofs.EncodePagesLaws.{meta-encode}
+use Rattle.image.proofs.EncodeDecodeLaws.{decode-encode}
+use Rattle.image.proofs.EncodeVerdictLaws.{verdict-encode}
 
 -- ---- from sound bytes to the index
 

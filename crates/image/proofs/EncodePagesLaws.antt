@@ -47,11 +47,11 @@ use Rattle.image.specs.Layout.{
 use Rattle.store.specs.Flags.{no_link}
 use Rattle.image.specs.Decode.{read_meta, meta_at, max_at, point_at, spares_at, role_at, block_of}
 use Rattle.image.specs.PagedLaws.{paged-parts, prev-paged, next-paged, bucket-paged, flags-paged, id-paged}
-use Rattle.image.specs.MetaLaws.{read_meta-meta_front}
+use Rattle.image.proofs.MetaLaws.{read_meta-meta_front}
 use Rattle.image.specs.PageOkLaws.{page-allowed, encode_page-append, length-page_front}
 use Rattle.image.specs.LinkedLaws.{has_bit, linked-uses, Found, found-each, each-chain}
-use Rattle.image.specs.BoundLaws.{max-under, max-small, length-meta, meta-fits, flags-small, last-le, bits-part}
-use Rattle.image.specs.EncodeLaws.{bit-inside, bucket-inside, LinkedOk, linked-ok, covered-encode, meta-block}
+use Rattle.image.proofs.BoundLaws.{max-under, max-small, length-meta, meta-fits, flags-small, last-le, bits-part}
+use Rattle.image.proofs.EncodeLaws.{bit-inside, bucket-inside, LinkedOk, linked-ok, covered-encode, meta-block}
 
 -- ---- what a page of entries holds
 

@@ -32,8 +32,8 @@ use Rattle.image.specs.Decode.{
   old_flags,
   decode,
 }
-use Rattle.image.specs.EncodeLaws.{bit-inside, blocks-encode}
-use Rattle.image.specs.EncodePagesLaws.{
+use Rattle.image.proofs.EncodeLaws.{bit-inside, blocks-encode}
+use Rattle.image.proofs.EncodePagesLaws.{
   meta-encode,
   max-encode,
   spares-encode,

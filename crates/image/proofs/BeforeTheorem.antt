@@ -5,7 +5,7 @@ use Rattle.lists.specs.Block.{blocks}
 use Rattle.model.specs.Index.{Index}
 use Rattle.model.specs.WellFormed.{Laid}
 use Rattle.image.specs.Before.{old_blocks, StoreAsBefore, IndexAsBefore}
-use Rattle.image.specs.BeforeLaws.{store-before, index-before}
+use Rattle.image.proofs.BeforeLaws.{store-before, index-before}
 
 -- of every byte string, sound or not
 pub old-stores : (s : List ℕ) → blocks s ≤ old_blocks → StoreAsBefore s

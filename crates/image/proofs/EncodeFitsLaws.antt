@@ -49,10 +49,10 @@ use Rattle.image.specs.PagedLaws.{
 }
 use Rattle.image.specs.BitmapLaws.{length-map_front}
 use Rattle.image.specs.LinkedLaws.{has_bit, linked-uses}
-use Rattle.image.specs.BoundLaws.{length-meta}
-use Rattle.image.specs.EncodeLaws.{blocks-encode}
-use Rattle.image.specs.EncodePagesLaws.{max-encode, role-encode, image-at, LinkedIs, linked-is, chain-is}
-use Rattle.image.specs.EncodeDecodeLaws.{new_flags-encode, old_flags-encode}
+use Rattle.image.proofs.BoundLaws.{length-meta}
+use Rattle.image.proofs.EncodeLaws.{blocks-encode}
+use Rattle.image.proofs.EncodePagesLaws.{max-encode, role-encode, image-at, LinkedIs, linked-is, chain-is}
+use Rattle.image.proofs.EncodeDecodeLaws.{new_flags-encode, old_flags-encode}
 
 -- ---- the tests of one block
 

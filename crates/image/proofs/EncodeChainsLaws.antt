@@ -26,10 +26,10 @@ use Rattle.model.specs.WellFormed.{uses, Laid, WF}
 use Rattle.image.specs.Layout.{next_of, linked_of, encode}
 use Rattle.image.specs.Decode.{bit_from, max_at, block_of, trail}
 use Rattle.image.specs.Rules.{overflow_as, buckets, is_overflow, link_ok, linked, rule4}
-use Rattle.image.specs.EncodeLaws.{blocks-encode}
-use Rattle.image.specs.EncodePagesLaws.{max-encode, role-encode, block_of-encode, role-of-bit, LinkedIs, chain-is}
-use Rattle.image.specs.EncodeDecodeLaws.{page_block, trail-encode}
-use Rattle.image.specs.EncodeFitsLaws.{BitBlock, in_chain, in_none, bit-block, blank-flags}
+use Rattle.image.proofs.EncodeLaws.{blocks-encode}
+use Rattle.image.proofs.EncodePagesLaws.{max-encode, role-encode, block_of-encode, role-of-bit, LinkedIs, chain-is}
+use Rattle.image.proofs.EncodeDecodeLaws.{page_block, trail-encode}
+use Rattle.image.proofs.EncodeFitsLaws.{BitBlock, in_chain, in_none, bit-block, blank-flags}
 
 pub overflow_bit : (n : ℕ) (l : List ℕ) → 1 ≤ n → overflow_as (bit_page n) l ≡ eqb (flags_at l) 1
 unfolding overflow_as

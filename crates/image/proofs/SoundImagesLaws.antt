@@ -42,13 +42,13 @@ use Rattle.store.specs.Flags.{no_link}
 use Rattle.image.specs.Decode.{read_meta, meta_at, max_at, point_at, spares_at, role_at, block_of, trail, decode}
 use Rattle.image.specs.Rules.{unused, unlinked, fits, overflow_as, buckets, is_overflow, rule1, rule8}
 use Rattle.image.specs.PagedLaws.{paged-read, blank-read}
-use Rattle.image.specs.MetaLaws.{size-front_ok, meta_front-read_meta}
+use Rattle.image.proofs.MetaLaws.{size-front_ok, meta_front-read_meta}
 use Rattle.lists.specs.TestLaws.{cond_no}
 use Rattle.image.specs.LinkedLaws.{has_bit, linked-uses}
-use Rattle.image.specs.SoundFieldsLaws.{SoundBytes, fields}
-use Rattle.image.specs.SoundBlocksLaws.{role-at, BlockOk, block-ok, bucket-inside, bucket-ok}
-use Rattle.image.specs.SoundChainsLaws.{chain-read, chain-decode, front_read, next-links, Shown, shown-all}
-use Rattle.image.specs.SoundBitsLaws.{uses-overflow, map_read, free-read}
+use Rattle.image.proofs.SoundFieldsLaws.{SoundBytes, fields}
+use Rattle.image.proofs.SoundBlocksLaws.{role-at, BlockOk, block-ok, bucket-inside, bucket-ok}
+use Rattle.image.proofs.SoundChainsLaws.{chain-read, chain-decode, front_read, next-links, Shown, shown-all}
+use Rattle.image.proofs.SoundBitsLaws.{uses-overflow, map_read, free-read}
 
 module _ (s : List ℕ) (g : SoundBytes s) where
   abbrev x : Index

@@ -28,9 +28,9 @@ use Rattle.image.specs.Decode.{read_chain, decode}
 use Rattle.image.specs.Rules.{buckets, is_overflow, linked, rule4, map_at, bit_at, top_at, free_at, bit_ok, rule6}
 use Rattle.image.specs.BitmapLaws.{map_front-bit_of}
 use Rattle.image.specs.FreeLaws.{free-same, first-zero}
-use Rattle.image.specs.SoundFieldsLaws.{SoundBytes, fields}
-use Rattle.image.specs.SoundBlocksLaws.{block-ok, bit-inside, Overflow}
-use Rattle.image.specs.SoundChainsLaws.{Links, chain-read}
+use Rattle.image.proofs.SoundFieldsLaws.{SoundBytes, fields}
+use Rattle.image.proofs.SoundBlocksLaws.{block-ok, bit-inside, Overflow}
+use Rattle.image.proofs.SoundChainsLaws.{Links, chain-read}
 
 module _ (s : List ℕ) (g : SoundBytes s) where
   abbrev sp : List ℕ
