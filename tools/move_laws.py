@@ -25,8 +25,8 @@ MOVES = {
         "BeforeTheorem", "BridgeTheorem",
     ],
     "journal": [
-        "LoopLaws", "PlanLaws", "ValidLaws", "RecoverLaws", "LookLaws", "StageLaws", "CrashLaws", "WholeLaws", "AlteredLaws",
-        "PlannedLaws", "LinkLaws", "BecomesLaws", "CrashTheorem", "WrittenLaws",
+        "LoopLaws", "PlanLaws", "ValidLaws", "RecoverLaws", "LookLaws", "StageLaws", "CrashLaws", "WholeLaws",
+        "AlteredLaws", "PlannedLaws", "LinkLaws", "BecomesLaws", "CrashTheorem", "WrittenLaws",
     ],
     "model": [
         "ViewLaws", "HeldLaws", "LaidLaws", "InsertLaws", "RemoveLaws", "StepLaws", "FormatLaws", "WorkLaws",
@@ -35,6 +35,11 @@ MOVES = {
         "KindLaws", "BoundLaws", "MachineLaws", "CounterexampleLaws", "RunLaws", "BusyLaws", "BusyTheorem",
         "NumberLaws", "Demand3AnswerLaws", "ShiftLaws", "Demand3SqueezeLaws", "Demand3InvLaws", "Demand3MomentLaws",
         "Demand3HoldLaws", "Demand3Theorem", "SimulationLaws", "TransferLaws", "BusyTransferLaws",
+    ],
+    "outcomes": [
+        "OutcomeLaws", "OutcomeIndexLaws", "OutcomeSoundLaws", "NumberLaws", "OutcomeHistoryLaws",
+        "OutcomeMachineLaws", "Demand3Theorem", "InUseLaws", "SqueezeLaws", "SqueezeTheorem", "BusyTheorem",
+        "RoomLaws", "RoomTheorem", "CardsLaws",
     ],
     "page": ["RuleLaws", "RunPartLaws", "RunLaws"],
     "store": ["CheckLaws", "ChangeLaws", "FinishLaws"],

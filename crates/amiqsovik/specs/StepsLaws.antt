@@ -8,7 +8,7 @@ use Rattle.model.specs.Machine.{of_splits, of_squeeze}
 use Rattle.model.proofs.MachineLaws.{never}
 use Rattle.model.specs.Answers.{work_steps}
 use Rattle.outcomes.specs.Outcomes.{Tested, passed, failed, bucket_tested}
-use Rattle.outcomes.specs.OutcomeLaws.{passed-numbers}
+use Rattle.outcomes.proofs.OutcomeLaws.{passed-numbers}
 use Rattle.journal.specs.Journal.{Disk}
 use Rattle.cuts.specs.Journalled.{tested_with, step_journalled, work_on, work_journalled, squeeze_journalled}
 use Rattle.cuts.specs.TestedLaws.{passed-ready}

@@ -11,8 +11,8 @@ use Rattle.model.specs.History.{Moment, start, within, after, history, last_of}
 use Rattle.model.specs.HistoryLaws.{last-append, after-state}
 use Rattle.image.specs.SoundStore.{StaysSound}
 use Rattle.outcomes.specs.Outcomes.{run_store, on_store}
-use Rattle.outcomes.specs.OutcomeHistoryLaws.{keeps-call}
-use Rattle.outcomes.specs.Demand3Theorem.{history-length}
+use Rattle.outcomes.proofs.OutcomeHistoryLaws.{keeps-call}
+use Rattle.outcomes.proofs.Demand3Theorem.{history-length}
 use Rattle.journal.specs.Journal.{Disk}
 use Rattle.journal.specs.Cut.{Ready}
 use Rattle.cuts.specs.Journalled.{run_disk}

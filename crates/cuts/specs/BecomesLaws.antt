@@ -22,8 +22,8 @@ use Rattle.image.specs.SoundStore.{Encodes}
 use Rattle.image.proofs.BridgeTheorem.{encoding-is-sound}
 use Rattle.image.proofs.EncodeLaws.{number-encode, checked-encode}
 use Rattle.outcomes.specs.Outcomes.{step_on, run_store, step_store}
-use Rattle.outcomes.specs.OutcomeIndexLaws.{step-encode, run-encode}
-use Rattle.outcomes.specs.OutcomeSoundLaws.{run-size}
+use Rattle.outcomes.proofs.OutcomeIndexLaws.{step-encode, run-encode}
+use Rattle.outcomes.proofs.OutcomeSoundLaws.{run-size}
 use Rattle.journal.specs.Journal.{Disk}
 use Rattle.journal.specs.Altered.{altered}
 use Rattle.journal.specs.Cut.{Becomes}

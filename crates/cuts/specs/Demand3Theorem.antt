@@ -11,9 +11,9 @@ use Rattle.model.specs.Demand.{Holds}
 use Rattle.image.specs.Decode.{decode}
 use Rattle.image.specs.SoundStore.{StaysSound}
 use Rattle.outcomes.specs.Outcomes.{run_store, on_store}
-use Rattle.outcomes.specs.OutcomeSoundLaws.{format-sound}
-use Rattle.outcomes.specs.OutcomeMachineLaws.{simulates}
-use Rattle.outcomes.specs.Demand3Theorem.{demand3-stores}
+use Rattle.outcomes.proofs.OutcomeSoundLaws.{format-sound}
+use Rattle.outcomes.proofs.OutcomeMachineLaws.{simulates}
+use Rattle.outcomes.proofs.Demand3Theorem.{demand3-stores}
 use Rattle.journal.specs.Journal.{Disk}
 use Rattle.journal.specs.Cut.{Ready}
 use Rattle.journal.proofs.RecoverLaws.{recover-store}

@@ -25,9 +25,9 @@ use Rattle.image.specs.Layout.{paged, blank, meta_front, padded, meta_of, map_fr
 use Rattle.image.specs.Layout.{encode_block, encode}
 use Rattle.image.specs.SoundStore.{Encodes}
 use Rattle.outcomes.specs.Outcomes.{changed, format_replacing, format_outcome, run_store, on_store}
-use Rattle.outcomes.specs.OutcomeIndexLaws.{run-encode}
-use Rattle.outcomes.specs.OutcomeMachineLaws.{simulates}
-use Rattle.outcomes.specs.OutcomeSoundLaws.{blocks_is, legal-is}
+use Rattle.outcomes.proofs.OutcomeIndexLaws.{run-encode}
+use Rattle.outcomes.proofs.OutcomeMachineLaws.{simulates}
+use Rattle.outcomes.proofs.OutcomeSoundLaws.{blocks_is, legal-is}
 use Rattle.journal.specs.Journal.{equal}
 use Rattle.journal.specs.Altered.{altered}
 use Rattle.cuts.specs.FewLaws.{framed-store, altered-bodies}

@@ -19,7 +19,7 @@ use Rattle.frame.specs.Frame.{put_blocks, remove_blocks, step_blocks, squeeze_bl
 use Rattle.frame.specs.CallsLaws.{frame-insert, frame-remove, frame_step, few-insert, few-remove, few-step}
 use Rattle.frame.specs.SqueezeLaws.{frame-squeeze, few-squeeze}
 use Rattle.outcomes.specs.Outcomes.{run_store, step_on, step_store}
-use Rattle.outcomes.specs.OutcomeIndexLaws.{run-encode, step-encode}
+use Rattle.outcomes.proofs.OutcomeIndexLaws.{run-encode, step-encode}
 use Rattle.journal.specs.Altered.{altered}
 use Rattle.cuts.specs.Events.{OneChange}
 use Rattle.cuts.specs.FewLaws.{framed-store, touches, settled-few}

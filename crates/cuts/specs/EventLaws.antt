@@ -14,9 +14,9 @@ use Rattle.model.proofs.SimulationLaws.{alike_next}
 use Rattle.image.specs.SoundStore.{Encodes, StaysSound}
 use Rattle.image.proofs.BridgeTheorem.{encoding-is-sound}
 use Rattle.outcomes.specs.Outcomes.{run_store, step_store, on_store}
-use Rattle.outcomes.specs.OutcomeIndexLaws.{step-alike}
-use Rattle.outcomes.specs.OutcomeMachineLaws.{simulates}
-use Rattle.outcomes.specs.OutcomeHistoryLaws.{keeps-call}
+use Rattle.outcomes.proofs.OutcomeIndexLaws.{step-alike}
+use Rattle.outcomes.proofs.OutcomeMachineLaws.{simulates}
+use Rattle.outcomes.proofs.OutcomeHistoryLaws.{keeps-call}
 use Rattle.journal.specs.Journal.{Disk, BlockStore, copy_stores, wipe, run, recover, recovery_stores}
 use Rattle.journal.specs.Altered.{change_stores}
 use Rattle.journal.specs.Cut.{Cut, Whole, Ready, Becomes}

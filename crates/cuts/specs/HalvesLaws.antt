@@ -11,7 +11,7 @@ use Rattle.lists.specs.ListsLaws.{each_append}
 use Rattle.lists.specs.Block.{block}
 use Rattle.store.specs.Store.{number_at}
 use Rattle.model.specs.Calls.{size_ok}
-use Rattle.outcomes.specs.OutcomeSoundLaws.{blocks_is, legal-is}
+use Rattle.outcomes.proofs.OutcomeSoundLaws.{blocks_is, legal-is}
 use Rattle.journal.specs.Journal.{Disk, BlockStore, image, mark, page, do_store, run, head, ending, wipe, image_stores}
 use Rattle.journal.specs.Journal.{page_stores, stores, write}
 use Rattle.journal.specs.Altered.{altered, images_of, change_stores, written}

@@ -18,9 +18,9 @@ use Rattle.outcomes.specs.Outcomes.{insert_outcome, remove_on, remove_outcome, W
 use Rattle.outcomes.specs.Outcomes.{work_outcome, squeeze_outcome, run_store, step_store}
 use Rattle.outcomes.specs.Outcomes.{work_on as work_store}
 use Rattle.outcomes.specs.Refusals.{call_numbers_ok, Tests, refused_as}
-use Rattle.outcomes.specs.OutcomeLaws.{run-failed}
-use Rattle.outcomes.specs.OutcomeIndexLaws.{step-alike}
-use Rattle.outcomes.specs.OutcomeSoundLaws.{passed-encodes}
+use Rattle.outcomes.proofs.OutcomeLaws.{run-failed}
+use Rattle.outcomes.proofs.OutcomeIndexLaws.{step-alike}
+use Rattle.outcomes.proofs.OutcomeSoundLaws.{passed-encodes}
 use Rattle.journal.specs.Journal.{Disk}
 use Rattle.journal.specs.Cut.{Ready, Becomes}
 use Rattle.journal.proofs.CrashTheorem.{whole}

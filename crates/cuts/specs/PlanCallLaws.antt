@@ -17,8 +17,8 @@ use Rattle.image.specs.Layout.{encode}
 use Rattle.image.specs.SoundStore.{Encodes}
 use Rattle.outcomes.specs.Outcomes.{Tested, passed, failed, tested, bucket_tested, changed, work_on as work_store}
 use Rattle.outcomes.specs.Outcomes.{run_store, step_store}
-use Rattle.outcomes.specs.OutcomeLaws.{passed-sound}
-use Rattle.outcomes.specs.OutcomeSoundLaws.{legal-is, passed-encodes}
+use Rattle.outcomes.proofs.OutcomeLaws.{passed-sound}
+use Rattle.outcomes.proofs.OutcomeSoundLaws.{legal-is, passed-encodes}
 use Rattle.journal.specs.Journal.{Disk}
 use Rattle.journal.specs.Altered.{altered, change_stores, written}
 use Rattle.journal.specs.Cut.{Becomes}

@@ -9,8 +9,8 @@ use Rattle.model.proofs.SimulationLaws.{alike_next}
 use Rattle.image.specs.Decode.{decode}
 use Rattle.image.specs.SoundStore.{Encodes}
 use Rattle.outcomes.specs.Outcomes.{run_store, step_store}
-use Rattle.outcomes.specs.OutcomeIndexLaws.{encodes-read, step-alike}
-use Rattle.outcomes.specs.OutcomeMachineLaws.{simulates}
+use Rattle.outcomes.proofs.OutcomeIndexLaws.{encodes-read, step-alike}
+use Rattle.outcomes.proofs.OutcomeMachineLaws.{simulates}
 use Rattle.journal.specs.Journal.{Disk}
 use Rattle.journal.specs.Altered.{altered, change_stores}
 use Rattle.journal.specs.Cut.{Becomes}

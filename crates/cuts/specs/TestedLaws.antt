@@ -13,7 +13,7 @@ use Rattle.model.proofs.MachineLaws.{never}
 use Rattle.image.specs.Rules.{length_ok}
 use Rattle.outcomes.specs.Outcomes.{Tested, passed, failed, tested, bucket_tested, run_store}
 use Rattle.outcomes.specs.Refusals.{call_numbers_ok, refused_as}
-use Rattle.outcomes.specs.OutcomeLaws.{tested-length, tested-number, refusal-leaves}
+use Rattle.outcomes.proofs.OutcomeLaws.{tested-length, tested-number, refusal-leaves}
 use Rattle.journal.specs.Journal.{Disk, sixteen, head_wiped}
 use Rattle.journal.specs.Cut.{Ready}
 use Rattle.journal.proofs.ValidLaws.{head_wiped-yes, head_wiped-eq}

@@ -23,10 +23,10 @@ use Rattle.image.specs.Decode.{decode}
 use Rattle.image.specs.VerdictLaws.{verdict-passes}
 use Rattle.outcomes.specs.Outcomes.{Tested, passed, failed, tested, Changed, format_outcome, standing_on}
 use Rattle.outcomes.specs.Outcomes.{standing_outcome, run_store, on_store}
-use Rattle.outcomes.specs.OutcomeLaws.{passed-sound}
-use Rattle.outcomes.specs.OutcomeIndexLaws.{tested-encode}
-use Rattle.outcomes.specs.OutcomeSoundLaws.{format-done}
-use Rattle.outcomes.specs.Demand3Theorem.{demand3-stores}
+use Rattle.outcomes.proofs.OutcomeLaws.{passed-sound}
+use Rattle.outcomes.proofs.OutcomeIndexLaws.{tested-encode}
+use Rattle.outcomes.proofs.OutcomeSoundLaws.{format-done}
+use Rattle.outcomes.proofs.Demand3Theorem.{demand3-stores}
 use Rattle.journal.specs.Journal.{Disk}
 use Rattle.journal.specs.Cut.{Ready}
 use Rattle.cuts.specs.Demand3Theorem.{Covered}

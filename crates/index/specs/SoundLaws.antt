@@ -24,7 +24,7 @@ use Rattle.image.specs.Layout.{encode}
 use Rattle.image.specs.Decode.{decode}
 use Rattle.image.proofs.EncodeDecodeLaws.{decode-encode}
 use Rattle.outcomes.specs.Outcomes.{changed, step_on}
-use Rattle.outcomes.specs.OutcomeLaws.{step-read}
+use Rattle.outcomes.proofs.OutcomeLaws.{step-read}
 use Rattle.plan.specs.declared.Advance.{Advance}
 use Rattle.journal.specs.Journal.{Disk, disk}
 use Rattle.journal.specs.Altered.{written}

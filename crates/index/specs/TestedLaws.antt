@@ -15,7 +15,7 @@ use Rattle.image.specs.Decode.{meta_at, decode}
 use Rattle.image.specs.Rules.{Judged, damaged, not_index, sound, verdict}
 use Rattle.image.proofs.BridgeTheorem.{sound-is-encoding}
 use Rattle.outcomes.specs.Outcomes.{Tested, passed, failed, judged, tested_in, tested, verdict_of, verify_outcome}
-use Rattle.outcomes.specs.OutcomeLaws.{passed-numbers}
+use Rattle.outcomes.proofs.OutcomeLaws.{passed-numbers}
 use Rattle.image.specs.Rules.{length_ok}
 use Rattle.chain.specs.WalkLaws.{length_ok-sized}
 use Rattle.view.specs.Reads.{Reads}

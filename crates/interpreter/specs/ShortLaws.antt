@@ -13,7 +13,7 @@ use Rattle.model.specs.Calls.{Looked, listed, lookup}
 use Rattle.model.proofs.MachineLaws.{never}
 use Rattle.outcomes.specs.Outcomes.{tested, lookup_outcome}
 use Rattle.image.specs.Rules.{length_ok}
-use Rattle.outcomes.specs.OutcomeIndexLaws.{lookup-encode}
+use Rattle.outcomes.proofs.OutcomeIndexLaws.{lookup-encode}
 use Rattle.interpreter.specs.Script.{lent, run_command, lines}
 use Rattle.interpreter.specs.Stores.{ScriptStore, empty, bytes, stands_at, NotShort}
 use Rattle.interpreter.specs.StoresLaws.{store-after}

@@ -22,8 +22,8 @@ use Rattle.image.proofs.BridgeTheorem.{encoding-is-sound}
 use Rattle.outcomes.specs.Outcomes.{tested, store_in_use, changed, format_replacing, insert_outcome, remove_outcome}
 use Rattle.image.specs.Rules.{length_ok}
 use Rattle.outcomes.specs.Outcomes.{work_outcome, run_store}
-use Rattle.outcomes.specs.OutcomeIndexLaws.{run-encode}
-use Rattle.outcomes.specs.OutcomeSoundLaws.{legal-size}
+use Rattle.outcomes.proofs.OutcomeIndexLaws.{run-encode}
+use Rattle.outcomes.proofs.OutcomeSoundLaws.{legal-size}
 use Rattle.interpreter.specs.Script.{script_blocks, format_turn, format_line, run_command}
 use Rattle.interpreter.specs.Stores.{Made, ScriptStore, empty, bytes}
 

@@ -27,9 +27,9 @@ use Rattle.image.specs.Decode.{decode}
 use Rattle.image.proofs.BridgeTheorem.{encoding-is-sound}
 use Rattle.outcomes.specs.Outcomes.{Tested, passed, failed, tested, lookup_outcome, standing_outcome, WorkDone}
 use Rattle.outcomes.specs.Outcomes.{work_on, unless_refused, bucket_tested, squeeze_step_outcome, squeeze_outcome}
-use Rattle.outcomes.specs.OutcomeLaws.{passed-numbers}
-use Rattle.outcomes.specs.OutcomeIndexLaws.{encodes-read, lookup-encode, standing-encode, squeeze-encode}
-use Rattle.outcomes.specs.OutcomeSoundLaws.{passed-encodes}
+use Rattle.outcomes.proofs.OutcomeLaws.{passed-numbers}
+use Rattle.outcomes.proofs.OutcomeIndexLaws.{encodes-read, lookup-encode, standing-encode, squeeze-encode}
+use Rattle.outcomes.proofs.OutcomeSoundLaws.{passed-encodes}
 
 -- ---- the index
 

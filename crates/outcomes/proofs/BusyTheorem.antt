@@ -20,8 +20,8 @@ use Rattle.image.specs.Rules.{length_ok, sound, verdict}
 use Rattle.image.proofs.BridgeTheorem.{sound-is-encoding}
 use Rattle.image.specs.SoundStore.{Encodes}
 use Rattle.outcomes.specs.Outcomes.{step_outcome, on_store}
-use Rattle.outcomes.specs.OutcomeIndexLaws.{encodes-read, step-alike}
-use Rattle.outcomes.specs.OutcomeMachineLaws.{simulates}
+use Rattle.outcomes.proofs.OutcomeIndexLaws.{encodes-read, step-alike}
+use Rattle.outcomes.proofs.OutcomeMachineLaws.{simulates}
 
 -- a sound store s without a job, a begin from s to t, and the pairs that s holds as a book
 pub store-over : (s t : List ℕ) (x : Index) → Bytes s → length_ok s ≡ true → verdict s ≡ sound x

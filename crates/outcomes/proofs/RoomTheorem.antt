@@ -15,8 +15,8 @@ use Rattle.model.proofs.RoomLaws.{step-no_room, room-not, room-or-none}
 use Rattle.model.proofs.MachineLaws.{never}
 use Rattle.image.specs.Decode.{decode}
 use Rattle.outcomes.specs.Outcomes.{work_outcome, on_store}
-use Rattle.outcomes.specs.OutcomeLaws.{WorkEnds, work-ends}
-use Rattle.outcomes.specs.RoomLaws.{step-stops, InJob, phase-read, first_stops, first_goes}
+use Rattle.outcomes.proofs.OutcomeLaws.{WorkEnds, work-ends}
+use Rattle.outcomes.proofs.RoomLaws.{step-stops, InJob, phase-read, first_stops, first_goes}
 
 -- an accepted work call stops for room exactly when its budget is not spent and there is no room for the step that
 -- would come next (`NoStep`): a begin, or a copy; while clearing there always is

@@ -18,9 +18,9 @@ use Rattle.model.proofs.RunLaws.{run-wf}
 use Rattle.image.proofs.EncodeLaws.{number-encode}
 use Rattle.outcomes.specs.Outcomes.{passed, tested, run_store}
 use Rattle.outcomes.specs.Refusals.{call_numbers_ok}
-use Rattle.outcomes.specs.OutcomeLaws.{StoreRun, refuses, formats, reads, accepts, store_view}
-use Rattle.outcomes.specs.OutcomeIndexLaws.{run-encode}
-use Rattle.outcomes.specs.OutcomeSoundLaws.{legal-size, passed-encodes}
+use Rattle.outcomes.proofs.OutcomeLaws.{StoreRun, refuses, formats, reads, accepts, store_view}
+use Rattle.outcomes.proofs.OutcomeIndexLaws.{run-encode}
+use Rattle.outcomes.proofs.OutcomeSoundLaws.{legal-size, passed-encodes}
 
 module _ (s : List ℕ) (b : Bytes s) (c : Call) (f : CallFits c) where
   pub call-number : accepted (run_store c s).reply ≡ true

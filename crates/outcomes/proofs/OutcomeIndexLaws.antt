@@ -35,7 +35,7 @@ use Rattle.outcomes.specs.Outcomes.{work_on, work_outcome, squeeze_step_outcome,
 use Rattle.outcomes.specs.Outcomes.{squeeze_outcome, run_store, step_store}
 use Rattle.image.specs.SoundStore.{Encodes}
 use Rattle.image.proofs.BridgeTheorem.{encoding-is-sound}
-use Rattle.outcomes.specs.OutcomeLaws.{tested-number, tested-verdict, step-read, bucket-passes}
+use Rattle.outcomes.proofs.OutcomeLaws.{tested-number, tested-verdict, step-read, bucket-passes}
 
 -- a store is read as the index whose bytes it is
 pub encodes-read : (s : List ℕ) (x : Index) → Encodes s x → decode s ≡ x

@@ -21,10 +21,10 @@ use Rattle.model.proofs.SimulationLaws.{Formats, Simulates}
 use Rattle.image.specs.Layout.{encode}
 use Rattle.outcomes.specs.Outcomes.{tested, Changed, run_store, on_store}
 use Rattle.image.proofs.BridgeTheorem.{count-encode}
-use Rattle.outcomes.specs.OutcomeLaws.{work-steps, squeeze-steps}
-use Rattle.outcomes.specs.OutcomeSoundLaws.{legal-size, Formatted, format-done}
+use Rattle.outcomes.proofs.OutcomeLaws.{work-steps, squeeze-steps}
+use Rattle.outcomes.proofs.OutcomeSoundLaws.{legal-size, Formatted, format-done}
 use Rattle.image.specs.SoundStore.{Encodes}
-use Rattle.outcomes.specs.OutcomeIndexLaws.{tested-encode, step-alike, run-encode}
+use Rattle.outcomes.proofs.OutcomeIndexLaws.{tested-encode, step-alike, run-encode}
 
 -- a store that format accepts becomes the bytes of what the model's format gives
 formats : (s : List ℕ) (o : Order) → CallFits (formatting o) → accepted (run_store (formatting o) s).reply ≡ true

@@ -13,10 +13,10 @@ use Rattle.model.proofs.TransferLaws.{transfer}
 use Rattle.image.specs.Decode.{decode}
 use Rattle.outcomes.specs.Outcomes.{run_store, on_store}
 use Rattle.image.specs.SoundStore.{Encodes, StaysSound}
-use Rattle.outcomes.specs.OutcomeIndexLaws.{encodes-read}
-use Rattle.outcomes.specs.OutcomeSoundLaws.{format-sound}
-use Rattle.outcomes.specs.OutcomeMachineLaws.{simulates}
-use Rattle.outcomes.specs.OutcomeHistoryLaws.{keeps-call, keeps-step}
+use Rattle.outcomes.proofs.OutcomeIndexLaws.{encodes-read}
+use Rattle.outcomes.proofs.OutcomeSoundLaws.{format-sound}
+use Rattle.outcomes.proofs.OutcomeMachineLaws.{simulates}
+use Rattle.outcomes.proofs.OutcomeHistoryLaws.{keeps-call, keeps-step}
 
 pub demand3-stores : Demand3 on_store decode
 demand3-stores = transfer Encodes simulates (λ x. x) decode encodes-read demand3

@@ -19,8 +19,8 @@ use Rattle.image.specs.Decode.{decode}
 use Rattle.image.specs.Rules.{length_ok, damaged, not_index, sound, verdict}
 use Rattle.outcomes.specs.Outcomes.{in_use_on, store_in_use, in_use_outcome, refusing, changed}
 use Rattle.outcomes.specs.Outcomes.{format_replacing, format_outcome, run_store, on_store}
-use Rattle.outcomes.specs.OutcomeLaws.{tested-verdict}
-use Rattle.outcomes.specs.Demand3Theorem.{demand3-stores}
+use Rattle.outcomes.proofs.OutcomeLaws.{tested-verdict}
+use Rattle.outcomes.proofs.Demand3Theorem.{demand3-stores}
 
 -- ---- by the verdict, under the store's own number
 

@@ -34,8 +34,8 @@ use Rattle.outcomes.specs.Outcomes.{on_store}
 use Rattle.image.proofs.EncodeLaws.{block-encode}
 use Rattle.image.proofs.EncodePagesLaws.{meta-encode, point-encode, spares-encode}
 use Rattle.image.specs.SoundStore.{Encodes}
-use Rattle.outcomes.specs.OutcomeSoundLaws.{blocks_is, legal-is}
-use Rattle.outcomes.specs.OutcomeMachineLaws.{simulates}
+use Rattle.outcomes.proofs.OutcomeSoundLaws.{blocks_is, legal-is}
+use Rattle.outcomes.proofs.OutcomeMachineLaws.{simulates}
 use Rattle.outcomes.specs.Cards.{state_after, replies, card_pair, evens, reply_numbers, slack_in, hashes_on, Card}
 use Rattle.outcomes.specs.Cards.{card_store, nos, cards, Bench}
 

@@ -4,9 +4,9 @@ use Rattle.std.proofs.Common.{sym, ◌∙◌, subst}
 use Rattle.model.specs.Steps.{next}
 use Rattle.model.specs.Machine.{Call, CallFits, Kind, accepted}
 use Rattle.outcomes.specs.Outcomes.{run_store, step_store}
-use Rattle.outcomes.specs.OutcomeLaws.{refusal-leaves}
+use Rattle.outcomes.proofs.OutcomeLaws.{refusal-leaves}
 use Rattle.image.specs.SoundStore.{StaysSound}
-use Rattle.outcomes.specs.OutcomeSoundLaws.{call-sound, step-sound}
+use Rattle.outcomes.proofs.OutcomeSoundLaws.{call-sound, step-sound}
 
 -- as long as a store that is as long as s
 longer : (s t u : List ℕ) → StaysSound s t → StaysSound t u → StaysSound s u

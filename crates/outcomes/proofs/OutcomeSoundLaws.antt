@@ -25,9 +25,9 @@ use Rattle.image.specs.Rules.{length_ok}
 use Rattle.outcomes.specs.Outcomes.{format_outcome, step_on, run_store, step_store}
 use Rattle.image.proofs.BridgeTheorem.{sound-is-encoding, encoding-is-sound}
 use Rattle.outcomes.specs.Refusals.{call_numbers_ok}
-use Rattle.outcomes.specs.OutcomeLaws.{passed-sound, StoreRun, refuses, formats, reads, accepts, store_view}
+use Rattle.outcomes.proofs.OutcomeLaws.{passed-sound, StoreRun, refuses, formats, reads, accepts, store_view}
 use Rattle.image.specs.SoundStore.{Encodes, StaysSound}
-use Rattle.outcomes.specs.OutcomeIndexLaws.{step-encode, run-encode}
+use Rattle.outcomes.proofs.OutcomeIndexLaws.{step-encode, run-encode}
 
 -- ---- the size stays
 

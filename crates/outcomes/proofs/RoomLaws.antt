@@ -19,8 +19,8 @@ use Rattle.model.proofs.MachineLaws.{never, job-stops}
 use Rattle.image.specs.Decode.{decode}
 use Rattle.outcomes.specs.Outcomes.{Tested, passed, failed, tested, standing_on, standing_outcome, step_on}
 use Rattle.outcomes.specs.Outcomes.{step_outcome, work_on, work_outcome, run_store, on_store}
-use Rattle.outcomes.specs.OutcomeIndexLaws.{encodes-read}
-use Rattle.outcomes.specs.OutcomeSoundLaws.{passed-encodes}
+use Rattle.outcomes.proofs.OutcomeIndexLaws.{encodes-read}
+use Rattle.outcomes.proofs.OutcomeSoundLaws.{passed-encodes}
 
 -- a store's step stops exactly as its index's
 pub step-stops : (s : List ℕ) (r : Stop) → (step_outcome s ≡ stopped r) ↔ (step (decode s) ≡ stopped r)

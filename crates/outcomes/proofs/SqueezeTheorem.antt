@@ -11,7 +11,7 @@ use Rattle.model.specs.Squeeze.{pages_for, pages_of}
 use Rattle.model.proofs.SqueezeStepLaws.{squeeze-enough, squeeze-ends, squeeze-forty, spare-bound}
 use Rattle.image.specs.Decode.{decode}
 use Rattle.outcomes.specs.Outcomes.{lookup_outcome, standing_outcome, squeeze_outcome}
-use Rattle.outcomes.specs.SqueezeLaws.{accepted, squeeze-pages}
+use Rattle.outcomes.proofs.SqueezeLaws.{accepted, squeeze-pages}
 
 module _ (s : List ℕ) (bytes : Bytes s) (b budget : ℕ) where
   -- the store afterwards
