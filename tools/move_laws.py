@@ -28,6 +28,7 @@ MOVES = {
         "LoopLaws", "PlanLaws", "ValidLaws", "RecoverLaws", "LookLaws", "StageLaws", "CrashLaws", "WholeLaws",
         "AlteredLaws", "PlannedLaws", "LinkLaws", "BecomesLaws", "CrashTheorem", "WrittenLaws",
     ],
+    "line": ["CommaLaws", "FitsLaws"],
     "model": [
         "ViewLaws", "HeldLaws", "LaidLaws", "InsertLaws", "RemoveLaws", "StepLaws", "FormatLaws", "WorkLaws",
         "SqueezeLaws", "PackedLaws", "SpareLaws", "MatchesLaws", "CountLaws", "RoomLaws", "StepsLeftLaws",

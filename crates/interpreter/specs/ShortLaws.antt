@@ -5,7 +5,7 @@ use Rattle.std.proofs.lemmas.List.{length-replicate}
 use Rattle.lists.specs.Lists.{Each}
 use Rattle.lists.specs.Block.{blocks}
 use Rattle.line.specs.Command.{read_line}
-use Rattle.line.specs.FitsLaws.{line-fits}
+use Rattle.line.proofs.FitsLaws.{line-fits}
 use Rattle.model.specs.declared.Refusal.{Refusal}
 use Rattle.model.specs.declared.LookupAnswer.{LookupAnswer}
 use Rattle.model.specs.Held.{matches}

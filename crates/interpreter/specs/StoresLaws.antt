@@ -4,7 +4,7 @@ use Rattle.std.proofs.Common.{sym, ap, ◌∙◌, subst, arith, leb-true}
 use Rattle.std.proofs.lemmas.List.{length-replicate}
 use Rattle.lists.specs.Block.{blocks}
 use Rattle.line.specs.declared.Command.{Command}
-use Rattle.line.specs.FitsLaws.{CommandFits}
+use Rattle.line.proofs.FitsLaws.{CommandFits}
 use Rattle.model.specs.declared.Order.{Order}
 use Rattle.model.specs.Index.{Job, idle, copying, clearing, Index}
 use Rattle.model.specs.Steps.{next, step}
