@@ -5,7 +5,8 @@ use Rattle.page.specs.declared.Pair.{Pair}
 use Rattle.model.specs.Index.{Index, bucket}
 use Rattle.model.specs.Steps.{Step, next, stopped}
 use Rattle.model.specs.Calls.{done, insert, remove}
-use Rattle.model.specs.Machine.{Call, inserting, removing, CallFits, Kind, of_splits, of_squeeze, Ran, run_index}
+use Rattle.model.specs.Machine.{Call, formatting, inserting, removing, looking, working, squeezing, asking, CallFits}
+use Rattle.model.specs.Machine.{Kind, of_splits, of_squeeze, Ran, run_index}
 use Rattle.model.specs.Machine.{step_index}
 use Rattle.model.specs.WellFormed.{WF}
 use Rattle.model.proofs.MachineLaws.{never}
@@ -52,6 +53,11 @@ module _ (x : Index) (w : WF x) where
   unfolding run_index
   run-touches (inserting p) f o = settled-few x w.laid 8 (insert x p) (λ y. insert-touches p y f)
   run-touches (removing p) f o = settled-few x w.laid 8 (remove x p) (remove-touches p)
+  run-touches (formatting order) f o = elim o [ ]
+  run-touches (looking hash output) f o = elim o [ ]
+  run-touches (working budget) f o = elim o [ ]
+  run-touches (squeezing b budget) f o = elim o [ ]
+  run-touches asking f o = elim o [ ]
 
 -- ---- of a store
 

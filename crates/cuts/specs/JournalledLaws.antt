@@ -124,6 +124,9 @@ sound-same {d} r e (working budget) j f =
 sound-same {d} r e (squeezing b budget) j f =
     rw (tested-ready (budget_ok budget) r)
     (work-same (of_squeeze b) budget r e (bucket_tested (tested (budget_ok budget) d.store) b))
+sound-same r e (formatting order) j f = elim j [ ]
+sound-same r e (looking hash output) j f = elim j [ ]
+sound-same r e asking j f = elim j [ ]
 
 -- ---- all calls, on any bytes: those of no index are refused
 

@@ -9,7 +9,7 @@ use Rattle.model.specs.Spare.{spare}
 use Rattle.model.specs.StepsLeft.{steps_left}
 use Rattle.model.specs.Steps.{next}
 use Rattle.model.specs.Calls.{Result, done, refused, insert, remove}
-use Rattle.model.specs.Machine.{Call, inserting, removing, CallFits, Kind, of_splits, of_squeeze, accepted, settled}
+use Rattle.model.specs.Machine.{Call, formatting, inserting, removing, looking, working, squeezing, asking, CallFits, Kind, of_splits, of_squeeze, accepted, settled}
 use Rattle.model.specs.Machine.{run_index, step_index}
 use Rattle.model.proofs.MachineLaws.{never}
 use Rattle.model.proofs.RunLaws.{refused-no}
@@ -67,3 +67,8 @@ call-other (removing p) f o x w e = go (remove x p) refl e
     go : (r : Result) → remove x p ≡ r → accepted (settled x r).reply ≡ true → x ≢ (settled x r).state
     go (done y) h e = remove-other x y w p h
     go (refused r) h e = never (let n = refused-no r in cc)
+call-other (formatting order) f o x w e = elim o [ ]
+call-other (looking hash output) f o x w e = elim o [ ]
+call-other (working budget) f o x w e = elim o [ ]
+call-other (squeezing b budget) f o x w e = elim o [ ]
+call-other asking f o x w e = elim o [ ]

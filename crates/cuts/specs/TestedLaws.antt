@@ -88,6 +88,9 @@ disk-fails (working budget) t d r e =
 disk-fails (squeezing b budget) t d r e =
     ap (λ (a : Tested). let c = work_on (bucket_tested a b) d (iterate (step_journalled (of_squeeze b)) budget d) in
     record { reply = worked c.answer; state = c.disk }) e
+disk-fails (formatting order) t d r e = elim t [ ]
+disk-fails (looking hash output) t d r e = elim t [ ]
+disk-fails asking t d r e = elim t [ ]
 
 -- ---- the head not wiped
 

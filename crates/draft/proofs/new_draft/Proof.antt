@@ -21,5 +21,5 @@ returns c = (
       },
 )
 
-pub new-draft-spec : {M : Type 1} → statement M
-new-draft-spec = tie.close (tie.spec returns)
+pub new_draft_spec : {M : Type 1} → statement M
+new_draft_spec = tie.close (tie.spec returns)

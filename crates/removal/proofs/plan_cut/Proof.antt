@@ -9,50 +9,46 @@ use Rattle.removal.specs.StartLaws.{findable, one-ending}
 use Rattle.removal.proofs.plan_cut.Statement.{statement}
 use Rattle.removal.proofs.plan_cut.Tie as tie
 
-new-draft-requires : tie.Need-new-draft-requires
+new-draft-requires : tie.Need-new_draft-requires
 new-draft-requires c κs = search rules
 
 -- the pair stands in the store's index
-stands : (c : tie.After-new-draft)
-    → let s = c.before.before.before in
-    Cuttable s.args.store.now s.args.m c.new-draft.result s.args.images.now s.args.block
-    s.args.slot 0 s.args.b s.args.pair (decode s.args.store.now)
+stands : (c : tie.After-new_draft)
+    →
+    Cuttable c.args.store.now c.args.m c.new_draft.result c.args.images.now c.args.block
+    c.args.slot 0 c.args.b c.args.pair (decode c.args.store.now)
 stands c =
-    let s = c.before.before.before in
-    let r = s.requires.0.0 in
-    let draft = c.new-draft.ensures.1 _ _ (reads_sized r).whole s.requires.0.2 in
+    let r = c.requires.0.0 in
+    let draft = c.new_draft.ensures.1 _ _ (reads_sized r).whole c.requires.0.2 in
     record {
-      findable = findable r s.args.pair draft c.new-draft.ensures.0 s.args.b s.requires.0.1;
-      found = s.requires.1.0;
+      findable = findable r c.args.pair draft c.new_draft.ensures.0 c.args.b c.requires.0.1;
+      found = c.requires.1.0;
     }
 
-cut-entry-requires : tie.Need-cut-entry-requires
+cut-entry-requires : tie.Need-cut_entry-cut-requires
 cut-entry-requires c κs =
-    let s = c.before.before.before.before in
-    (0, s.args.b, s.args.pair, decode s.args.store.now, stands c.before)
+    (0, c.args.b, c.args.pair, decode c.args.store.now, stands c.before)
 
-ending : (c : tie.After-cut-entry)
-    → let s = c.before.before.before.before.before in
-    Ending s.args.store.now s.args.m c.cut-entry.result.change c.cut-entry.new.1.1.1.0
-    s.args.held c.cut-entry.result.freed Freed.Nothing
-    (cut s.args.pair s.args.b (decode s.args.store.now))
+ending : (c : tie.After-cut_entry-cut)
+    →
+    Ending c.args.store.now c.args.m c.cut_entry-cut.result.change c.cut_entry-cut.new.images
+    c.args.held c.cut_entry-cut.result.freed Freed.Nothing
+    (cut c.args.pair c.args.b (decode c.args.store.now))
 ending c =
-    let s = c.before.before.before.before.before in
-    let a = s.args in
-    let e = c.cut-entry.ensures 0 a.b a.pair (decode a.store.now) (stands c.before.before) in
-    one-ending s.requires.0.0 a.pair a.b s.requires.0.1 e.0 e.1 s.requires.1.1.1
+    let a = c.args in
+    let e = c.cut_entry-cut.ensures 0 a.b a.pair (decode a.store.now) (stands c.before.before) in
+    one-ending c.requires.0.0 a.pair a.b c.requires.0.1 e.0 e.1 c.requires.1.1.1
 
-end-cut-requires : tie.Need-end-cut-requires
-end-cut-requires c κs = (_, ending c.before.before.before)
+end-cut-requires : tie.Need-end_cut-requires
+end-cut-requires c κs = (_, ending c.before.before.before.before)
 
-same_length : tie.Need-same-length
+same_length : tie.Need-shape_of-images
 same_length c = search rules
 
 returns : tie.Need-returns
 returns c =
-    let e = c.before.before in
-    e.end-cut.ensures _ (ending e.before.before.before.before)
+    c.end_cut.ensures _ (ending c.before.before.before.before.before.before.before)
 
-pub plan-cut-spec : {M : Type 1} → statement M
-plan-cut-spec =
+pub plan_cut_spec : {M : Type 1} → statement M
+plan_cut_spec =
     tie.close (tie.spec new-draft-requires cut-entry-requires end-cut-requires same_length returns)

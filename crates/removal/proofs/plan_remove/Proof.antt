@@ -12,128 +12,104 @@ use Rattle.removal.specs.RemovalLaws.{done-both, both-apart}
 use Rattle.removal.proofs.plan_remove.Statement.{statement}
 use Rattle.removal.proofs.plan_remove.Tie as tie
 
-find-held-requires : tie.Need-find-held-requires
+find-held-requires : tie.Need-find_held-found-requires
 find-held-requires c κs = search rules
 
-enum-known-found : tie.Need-enum-known-found
+enum-known-found : tie.Need-enum_known-found
 enum-known-found c = search rules
 
-enum_told : tie.Need-enum-told
+enum_told : tie.Need-enum_told-1
 enum_told c = search rules
 
 refuse-requires : tie.Need-refuse-requires
 refuse-requires c κs = search rules
 
-returns : tie.Need-returns
+returns : tie.Need-returns-in_default
 returns c =
-    let f = c.before.before.before in
-    let s = f.before.before.before in
-    refused_none s.requires.0 s.args.pair s.requires.2 (sym f.find-held.ensures ∙ c.before.enum_told.given.1)
+    refused_none c.requires.0 c.args.pair c.requires.2 (sym c.find_held-found.ensures ∙ c.in_default.is)
     c.refuse.ensures.0 c.refuse.ensures.1
 
 -- where the held entry stands
-stands : (c : tie.After-found)
-    → let s = c.before.before.before.before.before in
-    held_at (decode s.args.store.now) s.args.pair ≡ Found.At c.found.given.0.0 c.found.given.0.1.0
-stands c = sym c.before.before.find-held.ensures ∙ c.found.given.1
+stands : (c : tie.In-At)
+    →
+    held_at (decode c.args.store.now) c.args.pair ≡ Found.At c.in-At.block c.in-At.slot
+stands c = sym c.find_held-found.ensures ∙ c.in-At.is
 
-sub_held : tie.Need-overflow-sub-held
+sub_held : tie.Need-overflow_sub-held
 sub_held c =
-    let t = c.before.before in
-    let s = t.before.before.before.before.before in
-    done-some s.requires.0 s.args.pair s.requires.2 _
-    (done-any s.requires.0 s.args.pair s.requires.2 _ _ (stands t))
+    done-some c.requires.0 c.args.pair c.requires.2 _
+    (done-any c.requires.0 c.args.pair c.requires.2 _ _ (stands c.before))
 
-sources-of-requires : tie.Need-sources-of-requires
+sources-of-requires : tie.Need-sources_of-sources-requires
 sources-of-requires c κs = search rules
 
-enum-known-sources : tie.Need-enum-known-sources
+enum-known-sources : tie.Need-enum_known-sources
 enum-known-sources c = search rules
 
 -- out of the pair's own bucket
-home : (c : tie.After-sources)
-    → let s = c.before.before.before.before.before.before.before.before.before.before in
-    remove (decode s.args.store.now) s.args.pair
-    ≡ done (cut s.args.pair c.sources.given.0.0 (decode s.args.store.now))
+home : (c : tie.In-Home)
+    →
+    remove (decode c.args.store.now) c.args.pair
+    ≡ done (cut c.args.pair c.in-Home.home (decode c.args.store.now))
 home c =
-    let w = c.before.before in
-    let t = w.before.before.before in
-    let s = t.before.before.before.before.before in
-    done-home s.requires.0 s.args.pair s.requires.2 _ _ (stands t) _
-    (sym w.sources-of.ensures ∙ c.sources.given.1)
+    done-home c.requires.0 c.args.pair c.requires.2 _ _ (stands c.before.before.before) _
+    (sym c.sources_of-sources.ensures ∙ c.in-Home.is)
 
-plan-cut-requires : tie.Need-plan-cut-requires
+plan-cut-requires : tie.Need-plan_cut-change-requires
 plan-cut-requires c κs =
-    let e = c.before.before in
-    let w = e.before.before in
-    let t = w.before.before.before in
-    let s = t.before.before.before.before.before in
-    let r = s.requires.0 in
-    let q = sym w.sources-of.ensures ∙ e.sources.given.1 in (
-      (r, home-made r s.args.pair.hash _ q, s.requires.1),
+    let r = c.requires.0 in
+    let q = sym c.sources_of-sources.ensures ∙ c.in-Home.is in (
+      (r, home-made r c.args.pair.hash _ q, c.requires.1),
       (
-        held-home (decode s.args.store.now) s.args.pair _ q ∙ stands t,
+        held-home (decode c.args.store.now) c.args.pair _ q ∙ stands c.before.before.before.before,
         (
-          done-wf r s.args.pair s.requires.2 _ (home e),
-          done-count r s.args.pair s.requires.2 _ (home e),
+          done-wf r c.args.pair c.requires.2 _ (home c.before),
+          done-count r c.args.pair c.requires.2 _ (home c.before),
         ),
       ),
     )
 
-enum-known-sources-2 : tie.Need-enum-known-sources-2
+enum-known-sources-2 : tie.Need-enum_known-sources-in-Both-1
 enum-known-sources-2 c = search rules
 
 -- out of both chains of the job
-both : (c : tie.After-sources2)
-    → let s = c.before.before.before.before.before.before.before.before.before.before in
-    remove (decode s.args.store.now) s.args.pair
-    ≡ done (cut s.args.pair c.sources2.given.0.0
-    (cut s.args.pair c.sources2.given.0.1.0 (decode s.args.store.now)))
+both : (c : tie.In-Both)
+    →
+    remove (decode c.args.store.now) c.args.pair
+    ≡ done (cut c.args.pair c.in-Both.new
+    (cut c.args.pair c.in-Both.old (decode c.args.store.now)))
 both c =
-    let w = c.before.before in
-    let t = w.before.before.before in
-    let s = t.before.before.before.before.before in
-    done-both s.requires.0 s.args.pair s.requires.2 _ _ (stands t) _ _
-    (sym w.sources-of.ensures ∙ c.sources2.given.1)
+    done-both c.requires.0 c.args.pair c.requires.2 _ _ (stands c.before.before.before) _ _
+    (sym c.sources_of-sources.ensures ∙ c.in-Both.is)
 
-plan-cuts-requires : tie.Need-plan-cuts-requires
+plan-cuts-requires : tie.Need-plan_cuts-change-requires
 plan-cuts-requires c κs =
-    let e = c.before.before in
-    let w = e.before.before in
-    let t = w.before.before.before in
-    let s = t.before.before.before.before.before in
-    let r = s.requires.0 in
-    let q = sym w.sources-of.ensures ∙ e.sources2.given.1 in
-    let m = both-made r s.args.pair.hash _ _ q in (
-      (r, s.requires.1),
+    let r = c.requires.0 in
+    let q = sym c.sources_of-sources.ensures ∙ c.in-Both.is in
+    let m = both-made r c.args.pair.hash _ _ q in (
+      (r, c.requires.1),
       (
-        (m.0, m.1, both-apart r s.args.pair s.requires.2 _ _ q),
-        done-count r s.args.pair s.requires.2 _ (both e),
+        (m.0, m.1, both-apart r c.args.pair c.requires.2 _ _ q),
+        done-count r c.args.pair c.requires.2 _ (both c.before),
       ),
     )
 
-same_length : tie.Need-same-length
+same_length : tie.Need-shape_of-images-in-Home
 same_length c = search rules
 
-returns-2 : tie.Need-returns-2
+returns-2 : tie.Need-returns-in-Home
 returns-2 c =
-    let g = c.before.before in
-    let e = g.before.before.before in
-    let s = e.before.before.before.before.before.before.before.before.before.before in
-    settled s.requires.0 s.args.pair s.requires.2 _ (home e) g.plan-cut.ensures
+    settled c.requires.0 c.args.pair c.requires.2 _ (home c.before.before.before.before) c.plan_cut-change.ensures
 
-same-length-2 : tie.Need-same-length-2
+same-length-2 : tie.Need-shape_of-images-in-Both
 same-length-2 c = search rules
 
-returns-3 : tie.Need-returns-3
+returns-3 : tie.Need-returns-in-Both
 returns-3 c =
-    let g = c.before.before in
-    let e = g.before.before.before in
-    let s = e.before.before.before.before.before.before.before.before.before.before in
-    settled s.requires.0 s.args.pair s.requires.2 _ (both e) g.plan-cuts.ensures
+    settled c.requires.0 c.args.pair c.requires.2 _ (both c.before.before.before.before) c.plan_cuts-change.ensures
 
-pub plan-remove-spec : {M : Type 1} → statement M
-plan-remove-spec =
+pub plan_remove_spec : {M : Type 1} → statement M
+plan_remove_spec =
     tie.close
     (tie.spec
     find-held-requires

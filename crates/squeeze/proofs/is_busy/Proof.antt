@@ -9,48 +9,46 @@ use Rattle.model.proofs.Demand3SqueezeLaws.{busy-phase}
 use Rattle.squeeze.proofs.is_busy.Statement.{statement}
 use Rattle.squeeze.proofs.is_busy.Tie as tie
 
-read-job-requires : tie.Need-read-job-requires
-read-job-requires c κs = reads_known c.before.requires
+read-job-requires : tie.Need-read_job-phase-requires
+read-job-requires c κs = reads_known c.requires
 
-enum_told : tie.Need-enum-told
+enum_told : tie.Need-enum_told-1
 enum_told c = search rules
 
-enum-known-phase : tie.Need-enum-known-phase
+enum-known-phase : tie.Need-enum_known-phase
 enum-known-phase c = search rules
 
-is-either-requires : tie.Need-is-either-requires
+is-either-requires : tie.Need-is_either-requires
 is-either-requires c κs = search rules
 
-enum-known-phase-2 : tie.Need-enum-known-phase-2
+enum-known-phase-2 : tie.Need-enum_known-phase-in-Clearing-1
 enum-known-phase-2 c = search rules
 
-is-either-requires-2 : tie.Need-is-either-requires-2
+is-either-requires-2 : tie.Need-is_either-requires-in-Clearing
 is-either-requires-2 c κs = search rules
 
 -- by the phase that was read
-busy-by : (c : tie.After-read-job) (p : Phase) → c.read-job.result ≡ p
-    → let a = c.before.before.args in
+busy-by : (c : tie.After-read_job-phase) (p : Phase) → c.read_job-phase.result ≡ p
+    → let a = c.args in
     of_job p a.b ≡ is_busy (decode a.store.now) a.b
 busy-by c p e =
-    let a = c.before.before.args in
-    ap (λ (q : Phase). of_job q a.b) (sym e ∙ c.read-job.ensures)
+    let a = c.args in
+    ap (λ (q : Phase). of_job q a.b) (sym e ∙ c.read_job-phase.ensures)
     ∙ busy-phase (decode a.store.now) a.b
 
-returns : tie.Need-returns
-returns c = busy-by c.before.before _ c.enum_told.given.1
+returns : tie.Need-returns-in-None
+returns c = busy-by c.before _ c.in-None.is
 
-returns-2 : tie.Need-returns-2
+returns-2 : tie.Need-returns-in-Copying
 returns-2 c =
-    let g = c.before.before in
-    c.is-either.ensures ∙ busy-by g.before.before _ g.phase.given.1
+    c.is_either.ensures ∙ busy-by c.before.before _ c.in-Copying.is
 
-returns-3 : tie.Need-returns-3
+returns-3 : tie.Need-returns-in-Clearing
 returns-3 c =
-    let g = c.before.before in
-    c.is-either2.ensures ∙ busy-by g.before.before _ g.phase2.given.1
+    c.is_either-in-Clearing.ensures ∙ busy-by c.before.before _ c.in-Clearing.is
 
-pub is-busy-spec : {M : Type 1} → statement M
-is-busy-spec =
+pub is_busy_spec : {M : Type 1} → statement M
+is_busy_spec =
     tie.close
     (tie.spec
     read-job-requires

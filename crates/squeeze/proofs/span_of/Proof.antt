@@ -8,26 +8,23 @@ use Rattle.squeeze.specs.SpanLaws.{spans_all}
 use Rattle.squeeze.proofs.span_of.Statement.{statement}
 use Rattle.squeeze.proofs.span_of.Tie as tie
 
-home-of-requires : tie.Need-home-of-requires
-home-of-requires c κs = let s = c.before in (known-addressed (reads_known s.requires.0), s.requires.1)
+home-of-requires : tie.Need-home_of-first-requires
+home-of-requires c κs = (known-addressed (reads_known c.requires.0), c.requires.1)
 
-home : (c : tie.After-home-of)
-    → let a = c.before.before.args in
-    c.Home-of.result ≡ block_of a.store.now a.b
+home : (c : tie.After-home_of-first)
+    → let a = c.args in
+    c.home_of-first.result ≡ block_of a.store.now a.b
 home c =
-    let s = c.before.before in
-    let r = s.requires.0 in
-    c.Home-of.ensures ∙ bucket-is (reads_known r) s.args.b (under-max r s.args.b s.requires.1)
+    let r = c.requires.0 in
+    c.home_of-first.ensures ∙ bucket-is (reads_known r) c.args.b (under-max r c.args.b c.requires.1)
 
-last-block-requires : tie.Need-last-block-requires
+last-block-requires : tie.Need-last_block-last-requires
 last-block-requires c κs =
-    let s = c.before.before in
-    subst (Bounded s.args.store.now) (sym (home c)) (walk-bounded s.requires.0 s.args.b s.requires.1)
+    subst (Bounded c.args.store.now) (sym (home c)) (walk-bounded c.requires.0 c.args.b c.requires.1)
 
 returns : tie.Need-returns
 returns c =
-    let s = c.before.before.before in
-    spans_all s.requires.0 s.args.b s.requires.1 (home c.before) c.last_block.ensures
+    spans_all c.requires.0 c.args.b c.requires.1 (home c.before) c.last_block-last.ensures
 
-pub span-of-spec : {M : Type 1} → statement M
-span-of-spec = tie.close (tie.spec home-of-requires last-block-requires returns)
+pub span_of_spec : {M : Type 1} → statement M
+span_of_spec = tie.close (tie.spec home-of-requires last-block-requires returns)

@@ -8,23 +8,23 @@ use Rattle.image.specs.Rules.{length_ok}
 use Rattle.verify.proofs.check_length.Statement.{statement}
 use Rattle.verify.proofs.check_length.Tie as tie
 
-returns : tie.Need-returns
+returns : tie.Need-returns-then-store-ne0
 unfolding length_ok
 returns c =
-    let s = c.before.args.store.now in
-    rw (ne_eqb (length s % 512) 0 c.if1.true)
+    let s = c.args.store.now in
+    rw (ne_eqb (length s % 512) 0 c.if-store-ne0.true)
 
-returns-2 : tie.Need-returns-2
+returns-2 : tie.Need-returns-then-size-ge4
 unfolding length_ok blocks
 returns-2 c =
-    let s = c.before.before.args.store.now in
-    rw (eq-eqb (length s % 512) 0 c.before.if1.false, le-leb 4 (length s / 512) c.if2.true)
+    let s = c.args.store.now in
+    rw (eq-eqb (length s % 512) 0 c.if-store-ne0.false, le-leb 4 (length s / 512) c.if-size-ge4.true)
 
-returns-3 : tie.Need-returns-3
+returns-3 : tie.Need-returns-else-size-ge4
 unfolding length_ok blocks
 returns-3 c =
-    let s = c.before.before.args.store.now in
-    rw (eq-eqb (length s % 512) 0 c.before.if1.false, lt-leb 4 (length s / 512) c.if2.false)
+    let s = c.args.store.now in
+    rw (eq-eqb (length s % 512) 0 c.if-store-ne0.false, lt-leb 4 (length s / 512) c.if-size-ge4.false)
 
-pub check-length-spec : {M : Type 1} → statement M
-check-length-spec = tie.close (tie.spec returns returns-2 returns-3)
+pub check_length_spec : {M : Type 1} → statement M
+check_length_spec = tie.close (tie.spec returns returns-2 returns-3)

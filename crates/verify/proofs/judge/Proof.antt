@@ -14,87 +14,76 @@ use Rattle.verify.proofs.Judging.{undamaged}
 use Rattle.verify.proofs.judge.Statement.{statement}
 use Rattle.verify.proofs.judge.Tie as tie
 
-abbrev invariant-loop : tie.invariant-loop
+abbrev invariant-loop : tie.invariant-loop-k
 invariant-loop store size number k₀ k = (k ≤ size) × (damaged_from store k ≡ lowest_damaged store)
 
-abbrev decreases-loop : tie.decreases-loop
+abbrev decreases-loop : tie.decreases-loop-k
 decreases-loop store size number k₀ k = size - k
 
-number-at-requires : tie.Need-number-at-requires invariant-loop decreases-loop
-number-at-requires c κs = first-whole c.before.args.store.now c.before.requires
+number-at-requires : tie.Need-number_at-number-requires invariant-loop decreases-loop
+number-at-requires c κs = first-whole c.args.store.now c.requires
 
-loop-holds : tie.Need-loop-init invariant-loop decreases-loop
-loop-holds c = (omega arith, damaged-start c.before.before.args.store.now)
+loop-holds : tie.Need-loop-k-init invariant-loop decreases-loop
+loop-holds c = (omega arith, damaged-start c.args.store.now)
 
-cast-block : tie.Need-overflow-cast-block invariant-loop decreases-loop
+cast-block : tie.Need-overflow_cast-block invariant-loop decreases-loop
 unfolding blocks
 cast-block c =
-    let s = c.before.before.before.before in
-    omega (arith, (length_ok-sized s.args.store.now s.requires).few)
+    omega (arith, (length_ok-sized c.args.store.now c.requires).few)
 
-block-at-requires : tie.Need-block-at-requires invariant-loop decreases-loop
+block-at-requires : tie.Need-block_at-requires invariant-loop decreases-loop
 block-at-requires c κs = omega arith
 
-check-block-requires : tie.Need-check-block-requires invariant-loop decreases-loop
+check-block-requires : tie.Need-check_block-requires invariant-loop decreases-loop
 check-block-requires c κs =
-    let l = c.before.before in
     ap length c.block_at.ensures
-    ∙ length-block l.before.before.before.args.store.now l.loop.k (omega arith)
+    ∙ length-block c.args.store.now c.loop-k.k (omega arith)
 
 -- what the test of a block tells
-check : (c : tie.After-check-block invariant-loop decreases-loop)
-    → let l = c.before.before.before in
-    checked l.before.before.before.args.store.now l.loop.k ≡ c.check-block.result
+check : (c : tie.After-check_block invariant-loop decreases-loop)
+    →
+    checked c.args.store.now c.loop-k.k ≡ c.check_block.result
 unfolding checked
 check c =
-    let l = c.before.before.before in
-    sym (c.check-block.ensures
-    ∙ ap₂ (λ (n : ℕ) (b : List ℕ). checks n l.loop.k b) l.before.number_at.ensures
-    c.before.block_at.ensures)
+    sym (c.check_block.ensures
+    ∙ ap₂ (λ (n : ℕ) (b : List ℕ). checks n c.loop-k.k b) c.number_at-number.ensures
+    c.block_at.ensures)
 
-returns : tie.Need-returns invariant-loop decreases-loop
+returns : tie.Need-returns-then-not-check_block invariant-loop decreases-loop
 unfolding blocks
 returns c =
-    let n = c.before in
-    let l = n.before.before.before in
-    let s = l.before.before.before in
-    let a = s.args in
-    let inv = l.loop.invariant.1 in
-    damaged-here a.store.now l.loop.k inv n.before.before.loop-test.true
-    (check n ∙ not-true n.check-block.result c.if1.true)
+    let a = c.args in
+    let inv = c.loop-k.invariant.1 in
+    damaged-here a.store.now c.loop-k.k inv c.loop-k-test.true
+    (check c.before ∙ not-true c.check_block.result c.if-not-check_block.true-raw)
 
-add-k : tie.Need-overflow-add-k invariant-loop decreases-loop
+add-k : tie.Need-overflow_add-k invariant-loop decreases-loop
 add-k c = omega arith
 
-loop-less : tie.Need-loop-smaller invariant-loop decreases-loop
+loop-less : tie.Need-loop-k-smaller invariant-loop decreases-loop
 loop-less c = omega arith
 
-loop-again : tie.Need-loop-preserved invariant-loop decreases-loop
+loop-again : tie.Need-loop-k-preserved invariant-loop decreases-loop
 unfolding blocks
 loop-again c =
-    let n = c.before in
-    let l = n.before.before.before in
-    let s = l.before.before.before in
-    let a = s.args in
-    let inv = l.loop.invariant.1 in (
+    let a = c.args in
+    let inv = c.loop-k.invariant.1 in (
       omega arith,
-      damaged-later a.store.now l.loop.k inv n.before.before.loop-test.true
-          (check n ∙ not-false n.check-block.result c.if1.false),
+      damaged-later a.store.now c.loop-k.k inv c.loop-k-test.true
+          (check c.before ∙ not-false c.check_block.result c.if-not-check_block.false-raw),
     )
 
-judge-rules-requires : tie.Need-judge-rules-requires invariant-loop decreases-loop
-judge-rules-requires c κs = c.before.before.before.before.requires
+judge-rules-requires : tie.Need-judge_rules-requires invariant-loop decreases-loop
+judge-rules-requires c κs = c.requires
 
-returns-2 : tie.Need-returns-2 invariant-loop decreases-loop
+returns-2 : tie.Need-returns invariant-loop decreases-loop
 unfolding blocks
 returns-2 c =
-    let l = c.before.before in
-    let s = l.before.before.before in
-    c.judge-rules.ensures
-    ∙ undamaged s.args.store.now l.loop.k l.loop.invariant.1 c.before.loop-test.false
+    c.judge_rules.ensures
+    ∙ undamaged c.args.store.now c.loop-k.k c.loop-k.invariant.1 c.loop-k-test.false
 
-pub judge-spec : {M : Type 1} → statement M
-judge-spec =
+pub judge_spec : {M : Type 1} → statement M
+judge_spec =
     tie.close
     (tie.spec
     invariant-loop

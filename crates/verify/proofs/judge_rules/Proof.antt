@@ -3,7 +3,7 @@ use mathlib.Core.Bool.{true, false}
 use mathlib.Core.List.{List}
 use Prim.Native.Nat.{ℕ, ◌/◌}
 use native.Mathlib.Omega.{arith}
-use borrow.Author.Rules.{rules}
+use borrow.Author.Rules.{rules as goals}
 use borrow.Author.Tests.{not-true, not-false}
 use lib.ListN.{length}
 use Rattle.lists.specs.Block.{blocks, block}
@@ -19,83 +19,72 @@ whole : (s : List ℕ) → length_ok s ≡ true → (part : List ℕ) → part �
 whole s h part e = ap length e ∙ length-block s 0 (first-whole s h)
 
 -- what each test tells
-front : (c : tie.After-check-front) → rule1 c.before.before.before.args.store.now ≡ c.check-front.result
+front : (c : tie.After-check_front) → rule1 c.args.store.now ≡ c.check_front.result
 unfolding rule1 blocks
 front c =
-    let s = c.before.before.before.args.store.now in
-    sym (c.check-front.ensures ∙ ap (front_ok (length s / 512)) c.before.block_at.ensures)
+    let s = c.args.store.now in
+    sym (c.check_front.ensures ∙ ap (front_ok (length s / 512)) c.block_at-part.ensures)
 
-one : (c : tie.Else1) → rule1 c.before.before.before.before.args.store.now ≡ true
-one c = front c.before ∙ not-false c.before.check-front.result c.if1.left
+one : (c : tie.Else-not-check_front) → rule1 c.args.store.now ≡ true
+one c = front c.before ∙ not-false c.check_front.result c.if-not-check_front.false-raw
 
-read : (c : tie.After-read-meta) → c.read-meta.result ≡ meta_at c.before.before.before.before.before.args.store.now
-read c = c.read-meta.ensures ∙ ap read_meta c.before.before.before.block_at.ensures
+read : (c : tie.After-read_meta-m) → c.read_meta-m.result ≡ meta_at c.args.store.now
+read c = c.read_meta-m.ensures ∙ ap read_meta c.block_at-part.ensures
 
-fields : (c : tie.After-check-meta)
-    → rule2 c.before.before.before.before.before.before.args.store.now ≡ c.check-meta.result
+fields : (c : tie.After-check_meta)
+    → rule2 c.args.store.now ≡ c.check_meta.result
 unfolding rule2 blocks
 fields c =
-    let s = c.before.before.before.before.before.before.args.store.now in
-    sym (c.check-meta.ensures ∙ ap (meta_ok (length s / 512)) (read c.before))
+    let s = c.args.store.now in
+    sym (c.check_meta.ensures ∙ ap (meta_ok (length s / 512)) (read c.before))
 
-block-at-requires : tie.Need-block-at-requires
-block-at-requires c κs = first-whole c.before.args.store.now c.before.pre
+block-at-requires : tie.Need-block_at-part-requires
+block-at-requires c κs = first-whole c.args.store.now c.requires
 
-cast-size : tie.Need-cast-size
+cast-size : tie.Need-overflow_cast-size
 unfolding blocks
 cast-size c =
-    let s = c.before.before in
-    omega (arith, (length_ok-sized s.args.store.now s.pre).few)
+    omega (arith, (length_ok-sized c.args.store.now c.requires).few)
 
-check-front-requires : tie.Need-check-front-requires
+check-front-requires : tie.Need-check_front-requires
 check-front-requires c κs =
-    let s = c.before.before in
-    whole s.args.store.now s.pre c.block_at.result.now c.block_at.ensures
+    whole c.args.store.now c.requires c.block_at-part.result.now c.block_at-part.ensures
 
-returns : tie.Need-returns
+returns : tie.Need-returns-then-not-check_front
 unfolding lowest_broken rules
 returns c =
-    let f = c.before in
-    let s = f.before.before.before in
-    let broken : rule1 s.args.store.now ≡ false = front f ∙ not-true f.check-front.result c.if1.taken in
+    let broken : rule1 c.args.store.now ≡ false = front c.before ∙ not-true c.check_front.result c.if-not-check_front.true-raw in
     rw broken
 
-read-meta-requires : tie.Need-read-meta-requires
+read-meta-requires : tie.Need-read_meta-m-requires
 read-meta-requires c κs =
-    let b = c.before.before in
-    let s = b.before.before in
-    whole s.args.store.now s.pre b.block_at.result.now b.block_at.ensures
+    whole c.args.store.now c.requires c.block_at-part.result.now c.block_at-part.ensures
 
-check-meta-requires : tie.Need-check-meta-requires
+check-meta-requires : tie.Need-check_meta-requires
 check-meta-requires c κs = tt
 
-returns-2 : tie.Need-returns-2
+returns-2 : tie.Need-returns-then-not-check_meta
 unfolding lowest_broken rules
 returns-2 c =
-    let g = c.before in
-    let e = g.before.before in
-    let s = e.before.before.before.before in
-    let broken : rule2 s.args.store.now ≡ false = fields g ∙ not-true g.check-meta.result c.if2.taken in
-    rw (one e, broken)
+    let broken : rule2 c.args.store.now ≡ false = fields c.before ∙ not-true c.check_meta.result c.if-not-check_meta.true-raw in
+    rw (one c.before.before.before, broken)
 
-judge-blocks-requires : tie.Need-judge-blocks-requires
+judge-blocks-requires : tie.Need-judge_blocks-requires
 judge-blocks-requires c κs =
-    let g = c.before in
-    let r = g.before in
-    let s = r.before.before.before.before.before in (
-      one r.before,
+    (
+      one c.before.before.before,
       record {
-        whole = s.pre;
-        meta = read r;
-        holds = fields g ∙ not-false g.check-meta.result c.if2.left;
+        whole = c.requires;
+        meta = read c.before.before;
+        holds = fields c.before ∙ not-false c.check_meta.result c.if-not-check_meta.false-raw;
       },
     )
 
-returns-3 : tie.Need-returns-3
-returns-3 c = search rules
+returns-3 : tie.Need-returns
+returns-3 c = search goals
 
-pub judge-rules-spec : {M : Type 1} → statement M
-judge-rules-spec =
+pub judge_rules_spec : {M : Type 1} → statement M
+judge_rules_spec =
     tie.close
     (tie.spec
     block-at-requires

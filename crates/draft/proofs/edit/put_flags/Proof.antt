@@ -7,45 +7,43 @@ use Rattle.draft.proofs.Editing.{image-inside, edit-part}
 use Rattle.draft.proofs.edit.put_flags.Statement.{statement}
 use Rattle.draft.proofs.edit.put_flags.Tie as tie
 
-open-block-requires : tie.Need-open-block-requires
+open-block-requires : tie.Need-open_block-opened-requires
 open-block-requires c κs = search rules
 
-mul-from : tie.Need-overflow-mul-from
+mul-from : tie.Need-overflow_mul-from
 mul-from c = search rules
 
-add-put-u16 : tie.Need-overflow-add-put-u16
+add-put-u16 : tie.Need-overflow_add-from
 add-put-u16 c = search rules
 
-sub-put-u16 : tie.Need-overflow-sub-put-u16
+sub-put-u16 : tie.Need-slice_bounds-put_u16-count
 sub-put-u16 c = search rules
 
-part-put-u16-start : tie.Need-slice-bounds-put-u16-start
+part-put-u16-start : tie.Need-slice_bounds-put_u16-start
 part-put-u16-start c = search rules
 
-part-put-u16-end : tie.Need-slice-bounds-put-u16-end
+part-put-u16-end : tie.Need-slice_bounds-put_u16-end
 part-put-u16-end c =
-    let s = c.before.before.before.before.before.before.before in
-    let a = s.args in
-    let o = c.before.before.before.open_block in
-    omega (arith, image-inside o.ensures s.requires.1)
+    let a = c.args in
+    let o = c.open_block-opened in
+    omega (arith, image-inside o.ensures c.requires.1)
 
-put-u16-requires : tie.Need-put-u16-requires
+put-u16-requires : tie.Need-put_u16-requires
 put-u16-requires c κs = search rules
 
-same_length : tie.Need-same-length
+same_length : tie.Need-shape_of-images
 same_length c = search rules
 
 returns : tie.Need-returns
 returns c =
-    let s = c.before.before.before.before.before.before.before.before.before.before.before.before in
-    let a = s.args in
-    let o = c.before.before.before.before.before.before.before.before.open_block in
-    let p = c.before.before.before.put-u16 in
+    let a = c.args in
+    let o = c.open_block-opened in
+    let p = c.put_u16 in
     edit-part o.ensures
     (λ b. sets b 504 (le16 a.flags)) (λ b e. length-sets b 504 (le16 a.flags) ∙ e) _ p.ensures
 
-pub put-flags-spec : {M : Type 1} → statement M
-put-flags-spec =
+pub put_flags_spec : {M : Type 1} → statement M
+put_flags_spec =
     tie.close
     (tie.spec
     open-block-requires

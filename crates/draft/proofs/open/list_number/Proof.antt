@@ -9,40 +9,40 @@ use Rattle.draft.proofs.Shifting.{shift-start, shift-step, shift-insert}
 use Rattle.draft.proofs.open.list_number.Statement.{statement}
 use Rattle.draft.proofs.open.list_number.Tie as tie
 
-abbrev invariant-loop : tie.invariant-loop
+abbrev invariant-loop : tie.invariant-loop-i
 invariant-loop at k count numbers₀ i₀ numbers i =
     (at ≤ i) × (i ≤ count) × (length numbers ≡ 8) × Shifted i count (λ j. get_or numbers₀ j 0) (λ j. get_or numbers j 0)
 
-abbrev decreases-loop : tie.decreases-loop
+abbrev decreases-loop : tie.decreases-loop-i
 decreases-loop at k count numbers₀ i₀ numbers i = i
 
-loop-holds : tie.Need-loop-init invariant-loop decreases-loop
+loop-holds : tie.Need-loop-i-init invariant-loop decreases-loop
 loop-holds c = (omega arith, omega arith, search rules, shift-start _ _)
 
-sub-numbers : tie.Need-overflow-sub-numbers invariant-loop decreases-loop
+sub-numbers : tie.Need-overflow_sub-numbers invariant-loop decreases-loop
 sub-numbers c = omega arith
 
-mul-numbers : tie.Need-overflow-mul-numbers invariant-loop decreases-loop
+mul-numbers : tie.Need-offset_bounds-numbers-i invariant-loop decreases-loop
 mul-numbers c = omega arith
 
-array-read-numbers : tie.Need-array-read-numbers invariant-loop decreases-loop
+array-read-numbers : tie.Need-bounds-numbers-i invariant-loop decreases-loop
 array-read-numbers c = omega arith
 
-mul-numbers-2 : tie.Need-overflow-mul-numbers-2 invariant-loop decreases-loop
+mul-numbers-2 : tie.Need-offset_bounds-numbers-i-in-loop-i invariant-loop decreases-loop
 mul-numbers-2 c = omega arith
 
-array-write-numbers : tie.Need-array-write-numbers invariant-loop decreases-loop
+array-write-numbers : tie.Need-bounds-numbers-i-in-loop-i invariant-loop decreases-loop
 array-write-numbers c = omega arith
 
-sub-i : tie.Need-overflow-sub-i invariant-loop decreases-loop
+sub-i : tie.Need-overflow_sub-i invariant-loop decreases-loop
 sub-i c = omega arith
 
-loop-less : tie.Need-loop-smaller invariant-loop decreases-loop
+loop-less : tie.Need-loop-i-smaller invariant-loop decreases-loop
 loop-less c = omega arith
 
-loop-again : tie.Need-loop-preserved invariant-loop decreases-loop
+loop-again : tie.Need-loop-i-preserved invariant-loop decreases-loop
 loop-again c =
-    let l = c.before.loop in
+    let l = c.loop-i in
     let v : ℕ = get_or l.numbers (l.i - 1) 0 in (
       omega arith,
       omega arith,
@@ -53,19 +53,19 @@ loop-again c =
           (λ j b ne. get_or-set_other l.numbers l.i j v 0 ne),
     )
 
-mul-numbers-3 : tie.Need-overflow-mul-numbers-3 invariant-loop decreases-loop
+mul-numbers-3 : tie.Need-offset_bounds-numbers-at invariant-loop decreases-loop
 mul-numbers-3 c = omega arith
 
-array-write-numbers-2 : tie.Need-array-write-numbers-2 invariant-loop decreases-loop
+array-write-numbers-2 : tie.Need-bounds-numbers-at invariant-loop decreases-loop
 array-write-numbers-2 c = omega arith
 
-add-t16 : tie.Need-overflow-add-t16 invariant-loop decreases-loop
+add-t16 : tie.Need-overflow_add-result invariant-loop decreases-loop
 add-t16 c = omega arith
 
 returns : tie.Need-returns invariant-loop decreases-loop
 returns c =
-    let l = c.before.loop in
-    let a = c.before.before.before.args in
+    let l = c.loop-i in
+    let a = c.args in
     let done : l.i ≡ a.at = omega arith in
     let moved = rw done at l.invariant.3 in (
       refl,
@@ -75,8 +75,8 @@ returns c =
           (λ j b ne. get_or-set_other l.numbers a.at j a.k 0 ne),
     )
 
-pub list-number-spec : {M : Type 1} → statement M
-list-number-spec =
+pub list_number_spec : {M : Type 1} → statement M
+list_number_spec =
     tie.close
     (tie.spec
     invariant-loop

@@ -14,68 +14,62 @@ use Rattle.draft.proofs.open.open_block.Statement.{statement}
 use Rattle.draft.proofs.open.open_block.Tie as tie
 
 -- the place at which a number is listed
-listed_at : (c : tie.After-place)
-    → PlaceOf c.before.before.before.before.before.args.change.numbers
-    c.before.before.before.before.before.args.change.count
-    c.before.before.before.before.before.args.k (Place.Listed c.place.given.0.0)
+listed_at : (c : tie.In-Listed)
+    → PlaceOf c.args.change.numbers
+    c.args.change.count
+    c.args.k (Place.Listed c.in-Listed.at)
 listed_at c =
-    let a = c.before.before.before.before.before.args in
-    subst (PlaceOf a.change.numbers a.change.count a.k) c.place.given.1
-    c.before.before.find-image.ensures
+    let a = c.args in
+    subst (PlaceOf a.change.numbers a.change.count a.k) c.in-Listed.is
+    c.find_image-place.ensures
 
 -- the place at which it is put in
-absent-at : (c : tie.After-place2)
-    → PlaceOf c.before.before.before.before.before.args.change.numbers
-    c.before.before.before.before.before.args.change.count
-    c.before.before.before.before.before.args.k (Place.Absent c.place2.given.0.0)
+absent-at : (c : tie.In-Absent)
+    → PlaceOf c.args.change.numbers
+    c.args.change.count
+    c.args.k (Place.Absent c.in-Absent.at)
 absent-at c =
-    let a = c.before.before.before.before.before.args in
-    subst (PlaceOf a.change.numbers a.change.count a.k) c.place2.given.1
-    c.before.before.find-image.ensures
+    let a = c.args in
+    subst (PlaceOf a.change.numbers a.change.count a.k) c.in-Absent.is
+    c.find_image-place.ensures
 
-few : (c : tie.After-place2) → c.before.before.before.before.before.args.change.count < 8
+few : (c : tie.In-Absent) → c.args.change.count < 8
 few c =
-    let s = c.before.before.before.before.before in
-    let a = s.args in
-    room-absent s.requires.1.draft a.k c.place2.given.0.0 (absent-at c) s.requires.1.room
+    let a = c.args in
+    room-absent c.requires.1.draft a.k c.in-Absent.at (absent-at c) c.requires.1.room
 
-find-image-requires : tie.Need-find-image-requires
+find-image-requires : tie.Need-find_image-place-requires
 find-image-requires c κs = search rules
 
-enum-known-place : tie.Need-enum-known-place
+enum-known-place : tie.Need-enum_known-place
 enum-known-place c = search rules
 
-enum-known-place-2 : tie.Need-enum-known-place-2
+enum-known-place-2 : tie.Need-enum_known-place-in-Absent-1
 enum-known-place-2 c = search rules
 
-shift-images-requires : tie.Need-shift-images-requires
+shift-images-requires : tie.Need-shift_images-requires
 shift-images-requires c κs =
-    let m = c.before.before in
-    ((absent-at m).0, few m, m.before.before.before.before.before.requires.1.draft.eight)
+    ((absent-at c.before).0, few c.before, c.requires.1.draft.eight)
 
-block-at-requires : tie.Need-block-at-requires
+block-at-requires : tie.Need-block_at-requires
 block-at-requires c κs = search rules
 
-put-block-requires : tie.Need-put-block-requires
+put-block-requires : tie.Need-put_block-requires
 put-block-requires c κs =
-    let m = c.before.before.before.before.before.before.before in
-    let s = m.before.before.before.before.before in
-    let r = s.requires.1 in (
-      omega (arith, (absent-at m).0, few m, c.before.before.before.before.shift-images.auto.0, r.draft.eight),
+    let r = c.requires.1 in (
+      omega (arith, (absent-at c.before.before.before.before.before.before).0, few c.before.before.before.before.before.before, c.shift_images.auto.images, r.draft.eight),
       ap length c.block_at.ensures
-          ∙ length-block s.args.store.now s.args.k (omega (arith, r.inside, r.draft.whole)),
+          ∙ length-block c.args.store.now c.args.k (omega (arith, r.inside, r.draft.whole)),
     )
 
-list-number-requires : tie.Need-list-number-requires
+list-number-requires : tie.Need-list_number-requires
 list-number-requires c κs =
-    let m = c.before.before.before.before.before.before.before.before.before.before in
-    ((absent-at m).0, few m)
+    ((absent-at c.before.before.before.before.before.before.before.before.before).0, few c.before.before.before.before.before.before.before.before.before)
 
-returns : tie.Need-returns
+returns : tie.Need-returns-in-Listed
 returns c =
-    let m = c.before in
-    let w = listed_at m in
-    let at : ℕ = m.place.given.0.0 in
+    let w = listed_at c in
+    let at : ℕ = c.in-Listed.at in
     record {
       lists = lists-already _ _ (at, w.0, w.1);
       inside = w.0;
@@ -83,46 +77,44 @@ returns c =
       draft = λ d g. g;
     }
 
-same_length : tie.Need-same-length
+same_length : tie.Need-shape_of-images
 same_length c = search rules
 
-returns-2 : tie.Need-returns-2
+returns-2 : tie.Need-returns-in-Absent
 returns-2 c =
-    let m = c.before.before.before.before.before.before.before.before.before.before.before in
-    let s = m.before.before.before.before.before in
-    let a = s.args in
-    let r = s.requires.1 in
-    let at : ℕ = m.place2.given.0.0 in
-    let place = absent-at m in
-    let up = c.before.before.before.before.before.before.before.before.shift-images in
-    let p = c.before.before.before.put-block in
-    let l = c.list-number in
+    let a = c.args in
+    let r = c.requires.1 in
+    let at : ℕ = c.in-Absent.at in
+    let place = absent-at c.before.before.before.before.before.before.before.before.before.before in
+    let up = c.shift_images in
+    let p = c.put_block in
+    let l = c.list_number in
     let b = block a.store.now a.k in
     let full : length b ≡ 512 = length-block a.store.now a.k (omega (arith, r.inside, r.draft.whole)) in
-    let size : length up.new.0 ≡ 4096 = up.auto.0 ∙ r.draft.eight in
-    let here : 512 * at + 512 ≤ length up.new.0 = omega (arith, place.0, few m) in
-    let stored : p.new.0 ≡ set_block up.new.0 at b = cc in
+    let size : length up.new.images ≡ 4096 = up.auto.images ∙ r.draft.eight in
+    let here : 512 * at + 512 ≤ length up.new.images = omega (arith, place.0, few c.before.before.before.before.before.before.before.before.before.before) in
+    let stored : p.new.store ≡ set_block up.new.images at b = cc in
     let copied =
-    shift-insert a.change.count (block a.images.now) at b (block up.new.0) (block p.new.0) place.0
+    shift-insert a.change.count (block a.images.now) at b (block up.new.images) (block p.new.store) place.0
     up.ensures
-    (ap (λ (x : List ℕ). block x at) stored ∙ block_same up.new.0 at b here full)
+    (ap (λ (x : List ℕ). block x at) stored ∙ block_same up.new.images at b here full)
     (λ j h ne.
     ap (λ (x : List ℕ). block x j) stored
-    ∙ block-other up.new.0 at b here full j (omega (arith, few m)) ne) in
+    ∙ block-other up.new.images at b here full j (omega (arith, few c.before.before.before.before.before.before.before.before.before.before)) ne) in
     record {
       lists =
-          lists-more r.draft a.k at place r.inside (few m)
+          lists-more r.draft a.k at place r.inside (few c.before.before.before.before.before.before.before.before.before.before)
           l.result l.ensures.0 l.ensures.1;
       inside = omega (arith, place.0, l.ensures.0);
       names = l.ensures.1.here;
       draft =
           λ d g.
-          draft-more g a.k at place r.inside (few m)
-          l.result l.ensures.0 l.ensures.1 p.new.0 (p.auto.0 ∙ size) copied;
+          draft-more g a.k at place r.inside (few c.before.before.before.before.before.before.before.before.before.before)
+          l.result l.ensures.0 l.ensures.1 p.new.store (p.auto.store ∙ size) copied;
     }
 
-pub open-block-spec : {M : Type 1} → statement M
-open-block-spec =
+pub open_block_spec : {M : Type 1} → statement M
+open_block_spec =
     tie.close
     (tie.spec
     find-image-requires

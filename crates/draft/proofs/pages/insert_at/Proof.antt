@@ -9,52 +9,49 @@ use Rattle.draft.proofs.Editing.{image-inside, lent-block, edit-page}
 use Rattle.draft.proofs.pages.insert_at.Statement.{statement}
 use Rattle.draft.proofs.pages.insert_at.Tie as tie
 
-open-block-requires : tie.Need-open-block-requires
+open-block-requires : tie.Need-open_block-opened-requires
 open-block-requires c κs = search rules
 
-mul-from : tie.Need-overflow-mul-from
+mul-from : tie.Need-overflow_mul-from
 mul-from c = search rules
 
-add-insert-entry : tie.Need-overflow-add-insert-entry
+add-insert-entry : tie.Need-overflow_add-from
 add-insert-entry c = search rules
 
-sub-insert-entry : tie.Need-overflow-sub-insert-entry
+sub-insert-entry : tie.Need-slice_bounds-insert_entry-count
 sub-insert-entry c = search rules
 
-part-insert-entry-start : tie.Need-slice-bounds-insert-entry-start
+part-insert-entry-start : tie.Need-slice_bounds-insert_entry-start
 part-insert-entry-start c = search rules
 
-part-insert-entry-end : tie.Need-slice-bounds-insert-entry-end
+part-insert-entry-end : tie.Need-slice_bounds-insert_entry-end
 part-insert-entry-end c =
-    let s = c.before.before.before.before.before.before.before in
-    let a = s.args in
-    let o = c.before.before.before.open_block in
-    omega (arith, image-inside o.ensures s.requires.1)
+    let a = c.args in
+    let o = c.open_block-opened in
+    omega (arith, image-inside o.ensures c.requires.1)
 
-insert-entry-requires : tie.Need-insert-entry-requires
+insert-entry-requires : tie.Need-insert_entry-requires
 insert-entry-requires c κs =
-    let s = c.before.before.before.before.before.before.before.before in
-    let a = s.args in
-    let o = c.before.before.before.before.open_block in
+    let a = c.args in
+    let o = c.open_block-opened in
     subst (λ (b : List ℕ). Room b a.slot)
     (sym
-    (lent-block o.ensures s.requires.1.draft))
-    s.requires.2
+    (lent-block o.ensures c.requires.1.draft))
+    c.requires.2
 
-same_length : tie.Need-same-length
+same_length : tie.Need-shape_of-images
 same_length c = search rules
 
 returns : tie.Need-returns
 returns c =
-    let s = c.before.before.before.before.before.before.before.before.before.before.before.before in
-    let a = s.args in
-    let o = c.before.before.before.before.before.before.before.before.open_block in
-    let p = c.before.before.before.insert_entry in
-    edit-page o.ensures (insert_at a.slot a.e) _ p.auto.0
+    let a = c.args in
+    let o = c.open_block-opened in
+    let p = c.insert_entry in
+    edit-page o.ensures (insert_at a.slot a.e) _ p.auto.p
     p.ensures
 
-pub insert-at-spec : {M : Type 1} → statement M
-insert-at-spec =
+pub insert_at_spec : {M : Type 1} → statement M
+insert_at_spec =
     tie.close
     (tie.spec
     open-block-requires

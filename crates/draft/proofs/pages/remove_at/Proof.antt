@@ -9,52 +9,49 @@ use Rattle.draft.proofs.Editing.{image-inside, lent-block, edit-page}
 use Rattle.draft.proofs.pages.remove_at.Statement.{statement}
 use Rattle.draft.proofs.pages.remove_at.Tie as tie
 
-open-block-requires : tie.Need-open-block-requires
+open-block-requires : tie.Need-open_block-opened-requires
 open-block-requires c κs = search rules
 
-mul-from : tie.Need-overflow-mul-from
+mul-from : tie.Need-overflow_mul-from
 mul-from c = search rules
 
-add-remove-entry : tie.Need-overflow-add-remove-entry
+add-remove-entry : tie.Need-overflow_add-from
 add-remove-entry c = search rules
 
-sub-remove-entry : tie.Need-overflow-sub-remove-entry
+sub-remove-entry : tie.Need-slice_bounds-remove_entry-count
 sub-remove-entry c = search rules
 
-part-remove-entry-start : tie.Need-slice-bounds-remove-entry-start
+part-remove-entry-start : tie.Need-slice_bounds-remove_entry-start
 part-remove-entry-start c = search rules
 
-part-remove-entry-end : tie.Need-slice-bounds-remove-entry-end
+part-remove-entry-end : tie.Need-slice_bounds-remove_entry-end
 part-remove-entry-end c =
-    let s = c.before.before.before.before.before.before.before in
-    let a = s.args in
-    let o = c.before.before.before.open_block in
-    omega (arith, image-inside o.ensures s.requires.1)
+    let a = c.args in
+    let o = c.open_block-opened in
+    omega (arith, image-inside o.ensures c.requires.1)
 
-remove-entry-requires : tie.Need-remove-entry-requires
+remove-entry-requires : tie.Need-remove_entry-requires
 remove-entry-requires c κs =
-    let s = c.before.before.before.before.before.before.before.before in
-    let a = s.args in
-    let o = c.before.before.before.before.open_block in
+    let a = c.args in
+    let o = c.open_block-opened in
     subst (λ (b : List ℕ). Held b a.slot)
     (sym
-    (lent-block o.ensures s.requires.1.draft))
-    s.requires.2
+    (lent-block o.ensures c.requires.1.draft))
+    c.requires.2
 
-same_length : tie.Need-same-length
+same_length : tie.Need-shape_of-images
 same_length c = search rules
 
 returns : tie.Need-returns
 returns c =
-    let s = c.before.before.before.before.before.before.before.before.before.before.before.before in
-    let a = s.args in
-    let o = c.before.before.before.before.before.before.before.before.open_block in
-    let p = c.before.before.before.remove_entry in
-    edit-page o.ensures (remove_at a.slot) _ p.auto.0
+    let a = c.args in
+    let o = c.open_block-opened in
+    let p = c.remove_entry in
+    edit-page o.ensures (remove_at a.slot) _ p.auto.p
     p.ensures
 
-pub remove-at-spec : {M : Type 1} → statement M
-remove-at-spec =
+pub remove_at_spec : {M : Type 1} → statement M
+remove_at_spec =
     tie.close
     (tie.spec
     open-block-requires

@@ -1,7 +1,6 @@
 use mathlib.Core.Path.{◌≡◌, refl, sym, ap, ap₂, ◌∙◌}
 use mathlib.Core.Bool.{Bool, true, false, not}
 use mathlib.Core.List.{List}
-use mathlib.Core.Logic.{⊎_elim}
 use Prim.Native.Nat.{ℕ, ◌+◌, ◌*◌, ◌-◌, ◌≤◌, ◌<◌}
 use native.Mathlib.Omega.{arith}
 use borrow.Author.Rules.{rules}
@@ -12,124 +11,119 @@ use Rattle.store.specs.Store.{covered}
 use Rattle.draft.specs.Trim.{alike}
 use Rattle.draft.proofs.Trimming.{Sorted, stands, sort-start, sort-drop, sort-keep, sort-end}
 use Rattle.draft.proofs.trim.drop_unchanged.Statement.{statement}
+use Rattle.draft.proofs.trim.drop_unchanged.Lts.{else-not-same_bytes, then-not-same_bytes}
 use Rattle.draft.proofs.trim.drop_unchanged.Tie as tie
 
 not-false : (b : Bool) → not b ≡ false → b ≡ true
 not-false true h = refl
 not-false false h = sym h
 
-abbrev invariant-loop : tie.invariant-loop
+abbrev invariant-loop : tie.invariant-loop-i
 invariant-loop store images₀ count numbers kept₀ i₀ images kept i =
     (i ≤ count) × Sorted store numbers images₀ count i kept images
 
-abbrev decreases-loop : tie.decreases-loop
+abbrev decreases-loop : tie.decreases-loop-i
 decreases-loop store images₀ count numbers kept₀ i₀ images kept i = count - i
 
-new-draft-requires : tie.Need-new-draft-requires invariant-loop decreases-loop
+new-draft-requires : tie.Need-new_draft-kept-requires invariant-loop decreases-loop
 new-draft-requires c κs = search rules
 
-loop-holds : tie.Need-loop-init invariant-loop decreases-loop
+loop-holds : tie.Need-loop-i-init invariant-loop decreases-loop
 loop-holds c =
-    let s = c.before.before.before.before in
-    let a = s.args in (
+    let a = c.args in (
       omega arith,
-      sort-start a.images.now s.requires.0 s.requires.1
-          c.new-draft.result c.new-draft.ensures.0,
+      sort-start a.images.now c.requires.0 c.requires.1
+          c.new_draft-kept.result c.new_draft-kept.ensures.0,
     )
 
-mul-k : tie.Need-overflow-mul-k invariant-loop decreases-loop
-mul-k c = omega (arith, c.before.before.before.before.before.before.requires.0.few)
+mul-k : tie.Need-offset_bounds-numbers-i invariant-loop decreases-loop
+mul-k c = omega (arith, c.requires.0.few)
 
-array-read-k : tie.Need-array-read-k invariant-loop decreases-loop
-array-read-k c = omega (arith, c.before.before.before.before.before.before.requires.0.few)
+array-read-k : tie.Need-bounds-numbers-i invariant-loop decreases-loop
+array-read-k c = omega (arith, c.requires.0.few)
 
-cast-block-at : tie.Need-overflow-cast-block-at invariant-loop decreases-loop
+cast-block-at : tie.Need-overflow_cast-k invariant-loop decreases-loop
 cast-block-at c = search rules
 
 -- the block that number i names
-inside : (c : tie.In-loop invariant-loop decreases-loop)
-    → 512 * get_or c.before.before.before.before.before.before.args.change.numbers c.before.loop.i 0 + 512
-    ≤ length c.before.before.before.before.before.before.args.store.now
-inside c = c.before.before.before.before.before.before.requires.0.inside c.before.loop.i c.loop-test.true
+inside : (c : tie.In-loop-i invariant-loop decreases-loop)
+    → 512 * get_or c.args.change.numbers c.loop-i.i 0 + 512
+    ≤ length c.args.store.now
+inside c = c.requires.0.inside c.loop-i.i c.loop-i-test.true
 
 -- and image i
-image-inside : (c : tie.In-loop invariant-loop decreases-loop) → 512 * c.before.loop.i + 512 ≤ length c.before.loop.images
+image-inside : (c : tie.In-loop-i invariant-loop decreases-loop) → 512 * c.loop-i.i + 512 ≤ length c.loop-i.images
 image-inside c =
-    let s = c.before.before.before.before.before.before in
-    omega (arith, c.before.loop.invariant.1.eight, s.requires.0.few)
+    omega (arith, c.loop-i.invariant.1.eight, c.requires.0.few)
 
-block-at-requires : tie.Need-block-at-requires invariant-loop decreases-loop
+block-at-requires : tie.Need-block_at-requires invariant-loop decreases-loop
 block-at-requires c κs = inside c
 
-block-at-requires-2 : tie.Need-block-at-requires-2 invariant-loop decreases-loop
-block-at-requires-2 c κs = image-inside c.before.before
+block-at-requires-2 : tie.Need-block_at-requires-in-loop-i invariant-loop decreases-loop
+block-at-requires-2 c κs = image-inside c.before
 
-same-bytes-requires : tie.Need-same-bytes-requires invariant-loop decreases-loop
+same-bytes-requires : tie.Need-same_bytes-requires invariant-loop decreases-loop
 same-bytes-requires c κs =
-    let m = c.before.before.before in
-    let s = m.before.before.before.before.before.before in (
-      ap length c.before.before.block_at.ensures ∙ length-block s.args.store.now _ (inside m),
-      ap length c.block-at2.ensures ∙ length-block m.before.loop.images m.before.loop.i (image-inside m),
+    (
+      ap length c.block_at.ensures ∙ length-block c.args.store.now _ (inside c.before.before),
+      ap length c.block_at-in-loop-i.ensures ∙ length-block c.loop-i.images c.loop-i.i (image-inside c.before.before),
     )
 
-tested : (c : tie.After-same-bytes invariant-loop decreases-loop) → c.same_bytes.result
-    ≡ stands c.before.before.before.before.before.before.before.before.before.before.args.store.now
-    c.before.before.before.before.before.before.before.before.before.before.args.change.numbers
-    c.before.before.before.before.before.before.before.before.before.before.args.images.now
-    c.before.before.before.before.before.loop.i
+tested : (c : tie.After-same_bytes invariant-loop decreases-loop) → c.same_bytes.result
+    ≡ stands c.args.store.now
+    c.args.change.numbers
+    c.args.images.now
+    c.loop-i.i
 tested c =
-    let l = c.before.before.before.before.before.loop in
+    let l = c.loop-i in
     c.same_bytes.ensures
-    ∙ ap₂ (λ (x y : List ℕ). alike (covered x) (covered y)) c.before.before.before.block_at.ensures
-    (c.before.block-at2.ensures
-    ∙ l.invariant.1.rest l.i (omega arith) c.before.before.before.before.loop-test.true)
+    ∙ ap₂ (λ (x y : List ℕ). alike (covered x) (covered y)) c.block_at.ensures
+    (c.block_at-in-loop-i.ensures
+    ∙ l.invariant.1.rest l.i (omega arith) c.loop-i-test.true)
 
-keep-image-requires : tie.Need-keep-image-requires invariant-loop decreases-loop
+keep-image-requires : tie.Need-keep_image-kept-requires invariant-loop decreases-loop
 keep-image-requires c κs =
-    let l = c.before.before.before.before.before.before.before.loop in
-    let s = c.before.before.before.before.before.before.before.before.before.before.before.before in
-    (l.invariant.1.few, omega (arith, s.requires.0.few), l.invariant.1.eight)
+    let l = c.loop-i in
+    (l.invariant.1.few, omega (arith, c.requires.0.few), l.invariant.1.eight)
 
-add-i : tie.Need-overflow-add-i invariant-loop decreases-loop
+add-i : tie.Need-overflow_add-i invariant-loop decreases-loop
 add-i c = omega arith
 
-loop-less : tie.Need-loop-smaller invariant-loop decreases-loop
+loop-less : tie.Need-loop-i-smaller invariant-loop decreases-loop
 loop-less c = omega arith
 
-loop-again : tie.Need-loop-preserved invariant-loop decreases-loop
+loop-again : tie.Need-loop-i-preserved invariant-loop decreases-loop
 loop-again c =
-    let m = c.before in
-    let l = m.before.before.before.before.before.loop in
-    let s = m.before.before.before.before.before.before.before.before.before.before in
-    let a = s.args in
-    let small : l.i < a.change.count = m.before.before.before.before.loop-test.true in
-    ⊎_elim
-    (λ w. (
+    let l = c.loop-i in
+    let a = c.args in
+    let small : l.i < a.change.count = c.loop-i-test.true in
+    elim c.if-not-same_bytes.branch [
+      then-not-same_bytes w ↦ (
       omega arith,
-      rw (w.5, w.6)
-          (sort-keep a.images.now s.requires.0 small l.invariant.1 w.2.last.1.0
-          (sym (tested m) ∙ not_yes m.same_bytes.result w.0.taken) w.2.ensures.0 w.2.ensures.1),
-    ))
-    (λ w. (
+      rw (w.images-is, w.kept-is)
+          (sort-keep a.images.now c.requires.0 small l.invariant.1 w.keep_image-kept.new.images
+          (sym (tested c.before) ∙ not_yes c.same_bytes.result w.if-not-same_bytes.true-raw) w.keep_image-kept.ensures.0 w.keep_image-kept.ensures.1),
+    )
+    | else-not-same_bytes w ↦ (
       omega arith,
-      rw (w.1, w.2)
-          (sort-drop a.images.now s.requires.0 small l.invariant.1
-          (sym (tested m) ∙ not-false m.same_bytes.result w.0.left)),
-    ))
-    c.if1.branch
+      rw (w.images-is, w.kept-is)
+          (sort-drop a.images.now c.requires.0 small l.invariant.1
+          (sym (tested c.before) ∙ not-false c.same_bytes.result w.if-not-same_bytes.false-raw)),
+    )
+    ]
 
-same_length : tie.Need-same-length invariant-loop decreases-loop
-same_length c = c.before.loop.invariant.1.eight ∙ sym c.before.before.before.before.before.before.requires.1
+same_length : tie.Need-shape_of-images invariant-loop decreases-loop
+same_length c = c.loop-i.invariant.1.eight ∙ sym c.requires.1
 
 returns : tie.Need-returns invariant-loop decreases-loop
 returns c d g =
-    let l = c.before.loop in
-    let a = c.before.before.before.before.before.before.args in
+    let l = c.loop-i in
+    let a = c.args in
     let full : l.i ≡ a.change.count = omega arith in
     sort-end g (rw full at l.invariant.1)
 
-pub drop-unchanged-spec : {M : Type 1} → statement M
-drop-unchanged-spec =
+pub drop_unchanged_spec : {M : Type 1} → statement M
+drop_unchanged_spec =
     tie.close
     (tie.spec
     invariant-loop

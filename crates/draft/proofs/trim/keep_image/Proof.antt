@@ -9,35 +9,34 @@ use Rattle.draft.proofs.trim.keep_image.Tie as tie
 eight : (c : tie.Start) → length c.args.kept.numbers ≡ 8
 eight c = search rules
 
-mul-numbers : tie.Need-overflow-mul-numbers
+mul-numbers : tie.Need-offset_bounds-numbers-count
 mul-numbers c = search rules
 
-array-write-numbers : tie.Need-array-write-numbers
+array-write-numbers : tie.Need-bounds-numbers-count
 array-write-numbers c = search rules
 
-copy-image-requires : tie.Need-copy-image-requires
+copy-image-requires : tie.Need-copy_image-requires
 copy-image-requires c κs = search rules
 
-add-t7 : tie.Need-overflow-add-t7
+add-t7 : tie.Need-overflow_add-result
 add-t7 c = search rules
 
-same_length : tie.Need-same-length
+same_length : tie.Need-shape_of-images
 same_length c = search rules
 
 returns : tie.Need-returns
 returns c =
-    let s = c.before.before.before.before.before.before in
-    let n = s.args.kept.count in
-    let l = s.args.kept.numbers in (
+    let n = c.args.kept.count in
+    let l = c.args.kept.numbers in (
       record {
         more = refl;
-        last = get_or-set_same l n s.args.k 0 (omega (arith, eight s));
-        before = λ j h. get_or-set_other l n j s.args.k 0 (λ e. omega arith);
+        last = get_or-set_same l n c.args.k 0 (omega (arith, eight c.before.before.before.before.before.before));
+        before = λ j h. get_or-set_other l n j c.args.k 0 (λ e. omega arith);
       },
-      c.before.before.copy-image.ensures,
+      c.copy_image.ensures,
     )
 
-pub keep-image-spec : {M : Type 1} → statement M
-keep-image-spec =
+pub keep_image_spec : {M : Type 1} → statement M
+keep_image_spec =
     tie.close
     (tie.spec mul-numbers array-write-numbers copy-image-requires add-t7 same_length returns)

@@ -3,18 +3,18 @@ use borrow.Author.Tests.{eq-eqb, ne_eqb}
 use Rattle.index.proofs.change.check_pair.Statement.{statement}
 use Rattle.index.proofs.change.check_pair.Tie as tie
 
-returns : tie.Need-returns
-returns c h = let a = c.before.args in rw (eq-eqb a.offset 0 c.if1.true)
+returns : tie.Need-returns-then-offset-eq0
+returns c h = let a = c.args in rw (eq-eqb a.offset 0 c.if-offset-eq0.true)
 
-returns-2 : tie.Need-returns-2
+returns-2 : tie.Need-returns-then-block-eq4294967295
 returns-2 c h =
-    let a = c.before.before.args in
-    rw (ne_eqb a.offset 0 c.before.if1.false, eq-eqb a.block 4294967295 c.if2.true)
+    let a = c.args in
+    rw (ne_eqb a.offset 0 c.if-offset-eq0.false, eq-eqb a.block 4294967295 c.if-block-eq4294967295.true)
 
-returns-3 : tie.Need-returns-3
+returns-3 : tie.Need-returns
 returns-3 c h =
-    let a = c.before.before.args in
-    rw (ne_eqb a.offset 0 c.before.if1.false, ne_eqb a.block 4294967295 c.if2.false)
+    let a = c.args in
+    rw (ne_eqb a.offset 0 c.if-offset-eq0.false, ne_eqb a.block 4294967295 c.if-block-eq4294967295.false)
 
-pub check-pair-spec : {M : Type 1} → statement M
-check-pair-spec = tie.close (tie.spec returns returns-2 returns-3)
+pub check_pair_spec : {M : Type 1} → statement M
+check_pair_spec = tie.close (tie.spec returns returns-2 returns-3)

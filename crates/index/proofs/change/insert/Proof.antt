@@ -10,49 +10,39 @@ use Rattle.index.proofs.change.insert.Tie as tie
 abbrev pair : tie.Start → Pair
 pair c = let a = c.args in record { hash = a.hash; block = a.block; offset = a.offset }
 
-test-pair-requires : tie.Need-test-pair-requires
+test-pair-requires : tie.Need-test_pair-test-requires
 test-pair-requires c κs = search rules
 
-enum-known-test : tie.Need-enum-known-test
+enum-known-test : tie.Need-enum_known-test
 enum-known-test c = search rules
 
-enum-known-test-2 : tie.Need-enum-known-test-2
+enum-known-test-2 : tie.Need-enum_known-test-in-Passed-1
 enum-known-test-2 c = search rules
 
-insert-sound-requires : tie.Need-insert-sound-requires
+insert-sound-requires : tie.Need-insert_sound-requires
 insert-sound-requires c κs =
-    let v = c.before.before in
-    let t = v.before.before in
-    let s = t.before.before.before in
-    let g = pair-sound s.args.store.now (pair s) t.test-pair.ensures v.test2.given.1 in
+    let g = pair-sound c.args.store.now (pair c.before.before.before.before) c.test_pair-test.ensures c.in-Passed.is in
     (g.1, g.2)
 
-same_length : tie.Need-same-length
+same_length : tie.Need-shape_of-store-in-Failed
 same_length c = search rules
 
-returns : tie.Need-returns
+returns : tie.Need-returns-in-Failed
 returns c =
-    let k = c.before in
-    let t = k.before.before in
-    let s = t.before.before.before in
-    let e = insert-fails s.args.store.now (pair s) t.test-pair.ensures k.test.given.1 in
+    let e = insert-fails c.args.store.now (pair c.before.before.before) c.test_pair-test.ensures c.in-Failed.is in
     (sym (ap (λ (q : Changed). q.answer) e), sym (ap (λ (q : Changed). q.store) e))
 
-same-length-2 : tie.Need-same-length-2
+same-length-2 : tie.Need-shape_of-store-in-Passed
 same-length-2 c = search rules
 
-returns-2 : tie.Need-returns-2
+returns-2 : tie.Need-returns-in-Passed
 returns-2 c =
-    let i = c.before.before in
-    let v = i.before.before.before in
-    let t = v.before.before in
-    let s = t.before.before.before in
-    let e = insert-passes s.args.store.now (pair s) t.test-pair.ensures v.test2.given.1
-    ∙ i.insert-sound.ensures in
+    let e = insert-passes c.args.store.now (pair c.before.before.before.before.before.before.before) c.test_pair-test.ensures c.in-Passed.is
+    ∙ c.insert_sound.ensures in
     (sym (ap (λ (q : Changed). q.answer) e), sym (ap (λ (q : Changed). q.store) e))
 
-pub insert-spec : {M : Type 1} → statement M
-insert-spec =
+pub insert_spec : {M : Type 1} → statement M
+insert_spec =
     tie.close
     (tie.spec
     test-pair-requires

@@ -12,50 +12,46 @@ use Rattle.index.proofs.change.test_pair.Statement.{statement}
 use Rattle.index.proofs.change.test_pair.Tie as tie
 
 -- the pair
-abbrev pair : tie.After-test-call → Pair
+abbrev pair : tie.After-test_call-test → Pair
 pair c =
-    let a = c.before.before.before.args in
+    let a = c.args in
     record { hash = a.hash; block = a.block; offset = a.offset }
 
 -- what the tests found
-found : (c : tie.After-test-call)
-    → c.test-call.result ≡ test_of (tested (pair_ok (pair c)) c.before.before.before.args.store.now)
+found : (c : tie.After-test_call-test)
+    → c.test_call-test.result ≡ test_of (tested (pair_ok (pair c)) c.args.store.now)
 found c =
-    let a = c.before.before.before.args in
-    c.test-call.ensures
-    ∙ ap (λ (n : Bool). test_of (tested n a.store.now)) (c.before.check-pair.ensures a.hash)
+    let a = c.args in
+    c.test_call-test.ensures
+    ∙ ap (λ (n : Bool). test_of (tested n a.store.now)) (c.check_pair.ensures a.hash)
 
-check-pair-requires : tie.Need-check-pair-requires
+check-pair-requires : tie.Need-check_pair-requires
 check-pair-requires c κs = search rules
 
-test-call-requires : tie.Need-test-call-requires
+test-call-requires : tie.Need-test_call-test-requires
 test-call-requires c κs = search rules
 
-enum-known-test : tie.Need-enum-known-test
+enum-known-test : tie.Need-enum_known-test
 enum-known-test c = search rules
 
-enum_told : tie.Need-enum-told
+enum_told : tie.Need-enum_told-1
 enum_told c = search rules
 
-cast-t9 : tie.Need-overflow-cast-t9
+cast-t9 : tie.Need-overflow_cast-result
 cast-t9 c =
-    let t = c.before.before in
-    omega (arith, pair-offset (pair t) (passes-numbers _ _ (sym (found t) ∙ c.enum_told.given.1)))
+    omega (arith, pair-offset (pair c.before) (passes-numbers _ _ (sym (found c.before) ∙ c.in-Passed.is)))
 
-returns : tie.Need-returns
+returns : tie.Need-returns-in-Failed
 returns c =
-    let k = c.before in
-    let t = k.before.before in
-    pair-fails t.before.before.before.args.store.now (pair t) t.test-call.result _ (found t) k.test.given.1
+    pair-fails c.args.store.now (pair c.before) c.test_call-test.result _ (found c.before) c.in-Failed.is
 
-returns-2 : tie.Need-returns-2
+returns-2 : tie.Need-returns-in-Passed
 returns-2 c =
-    let t = c.before.before in
-    pair-passes t.before.before.before.args.store.now (pair t) t.test-call.result
-    (λ i. omega (arith, t.before.before.shared-slice-known.given i)) (found t) c.enum_told.given.1
+    pair-passes c.args.store.now (pair c.before) c.test_call-test.result
+    (λ i. omega (arith, c.shared_slice_known-1.given i)) (found c.before) c.in-Passed.is
 
-pub test-pair-spec : {M : Type 1} → statement M
-test-pair-spec =
+pub test_pair_spec : {M : Type 1} → statement M
+test_pair_spec =
     tie.close
     (tie.spec
     check-pair-requires

@@ -7,49 +7,49 @@ use borrow.Author.Rules.{rules}
 use Rattle.index.proofs.format.build_body.Statement.{statement}
 use Rattle.index.proofs.format.build_body.Tie as tie
 
-build-meta-requires : tie.Need-build-meta-requires
+build-meta-requires : tie.Need-build_meta-requires
 build-meta-requires c κs = search rules
 
-build-bucket-requires : tie.Need-build-bucket-requires
+build-bucket-requires : tie.Need-build_bucket-requires
 build-bucket-requires c κs = search rules
 
-build-bucket-requires-2 : tie.Need-build-bucket-requires-2
+build-bucket-requires-2 : tie.Need-build_bucket-requires-in-2
 build-bucket-requires-2 c κs = search rules
 
-build-bitmap-requires : tie.Need-build-bitmap-requires
+build-bitmap-requires : tie.Need-build_bitmap-requires
 build-bitmap-requires c κs = search rules
 
-returns : tie.Need-returns
+returns : tie.Need-returns-in-0
 unfolding format_block
 returns c =
-    let a = c.before.before.args in
-    c.build-meta.ensures ∙ ap (format_block a.size a.order) (sym c.before.match.keys1)
+    let a = c.args in
+    c.build_meta.ensures ∙ ap (format_block a.size a.order) (sym c.in-0.is)
 
-returns-2 : tie.Need-returns-2
+returns-2 : tie.Need-returns-in-1
 unfolding format_block
 returns-2 c =
-    let a = c.before.before.args in
-    c.build-bucket.ensures ∙ ap (format_block a.size a.order) (sym c.before.match.keys2)
+    let a = c.args in
+    c.build_bucket.ensures ∙ ap (format_block a.size a.order) (sym c.in-1.is)
 
-returns-3 : tie.Need-returns-3
+returns-3 : tie.Need-returns-in-2
 unfolding format_block
 returns-3 c =
-    let a = c.before.before.args in
-    c.build-bucket2.ensures ∙ ap (format_block a.size a.order) (sym c.before.match.keys3)
+    let a = c.args in
+    c.build_bucket-in-2.ensures ∙ ap (format_block a.size a.order) (sym c.in-2.is)
 
-returns-4 : tie.Need-returns-4
+returns-4 : tie.Need-returns-in-3
 unfolding format_block
 returns-4 c =
-    let a = c.before.before.args in
-    c.build-bitmap.ensures ∙ ap (format_block a.size a.order) (sym c.before.match.keys4)
+    let a = c.args in
+    c.build_bitmap.ensures ∙ ap (format_block a.size a.order) (sym c.in-3.is)
 
-returns-5 : tie.Need-returns-5
+returns-5 : tie.Need-returns-in_default
 returns-5 c =
-    let a = c.before.args in
+    let a = c.args in
     covered-zeros ∙ sym (format-unused a.size a.order a.k (omega arith))
 
-pub build-body-spec : {M : Type 1} → statement M
-build-body-spec =
+pub build_body_spec : {M : Type 1} → statement M
+build_body_spec =
     tie.close
     (tie.spec
     build-meta-requires

@@ -13,35 +13,35 @@ use borrow.Author.Rules.{rules}
 use Rattle.index.proofs.format.build_meta.Statement.{statement}
 use Rattle.index.proofs.format.build_meta.Tie as tie
 
-cast-fill : tie.Need-overflow-cast-fill
+cast-fill : tie.Need-overflow_cast-fill
 cast-fill c = search rules
 
-array-write-spares : tie.Need-array-write-spares
+array-write-spares : tie.Need-bounds-spares-1
 array-write-spares c = search rules
 
-slice-aggregate-put-meta : tie.Need-slice-aggregate-put-meta
+slice-aggregate-put-meta : tie.Need-slice_bounds-put_meta-end
 slice-aggregate-put-meta c = search rules
 
-put-meta-requires : tie.Need-put-meta-requires
+put-meta-requires : tie.Need-put_meta-requires
 put-meta-requires c κs = search rules
 
-slice-aggregate-put-trailer : tie.Need-slice-aggregate-put-trailer
+slice-aggregate-put-trailer : tie.Need-slice_bounds-put_trailer-end
 slice-aggregate-put-trailer c = search rules
 
-put-trailer-requires : tie.Need-put-trailer-requires
+put-trailer-requires : tie.Need-put_trailer-requires
 put-trailer-requires c κs = search rules
 
 returns : tie.Need-returns
 unfolding meta_front format_meta le16 le32
 returns c =
-    let a = c.before.before.before.before.before.before.before.args in
-    ap covered c.before.put-trailer.ensures
+    let a = c.args in
+    ap covered c.put_trailer.ensures
     ∙ ap (λ (x : List ℕ). covered (sets x 492 (trailer no_link no_link no_link 8)))
-    c.before.before.before.before.put-meta.ensures
+    c.put_meta.ensures
     ∙ covered-trailer (format_meta a.size a.order) (replicate 20 0) no_link no_link no_link 8 refl refl
 
-pub build-meta-spec : {M : Type 1} → statement M
-build-meta-spec =
+pub build_meta_spec : {M : Type 1} → statement M
+build_meta_spec =
     tie.close
     (tie.spec
     cast-fill

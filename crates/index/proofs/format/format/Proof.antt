@@ -13,77 +13,73 @@ use Rattle.index.proofs.format.format.Statement.{statement}
 use Rattle.index.proofs.format.format.Tie as tie
 
 -- what the three tests let through
-legal : (c : tie.Else1) → length_ok c.before.before.before.before.args.store.now ≡ true
-legal c = sym c.before.check-length.ensures ∙ not-false _ c.if1.false
+legal : (c : tie.Else-not-check_length) → length_ok c.args.store.now ≡ true
+legal c = sym c.check_length.ensures ∙ not-false _ c.if-not-check_length.false-raw
 
-numbers : (c : tie.Else2) → format_ok c.before.before.before.before.before.before.args.order ≡ true
-numbers c = sym c.before.check-format.ensures ∙ not-false _ c.if2.false
+numbers : (c : tie.Else-not-check_format) → format_ok c.args.order ≡ true
+numbers c = sym c.check_format.ensures ∙ not-false _ c.if-not-check_format.false-raw
 
-open-to : (c : tie.Else3) → let a = c.before.before.before.before.before.before.before.before.before.args in
+open-to : (c : tie.Else-is_protected) → let a = c.args in
     (not (overwrites a.order) && store_in_use a.store.now) ≡ false
-open-to c = sym c.before.is-protected.ensures ∙ c.if3.false
+open-to c = sym c.is_protected.ensures ∙ c.if-is_protected.false
 
-check-length-requires : tie.Need-check-length-requires
+check-length-requires : tie.Need-check_length-requires
 check-length-requires c κs = search rules
 
-same_length : tie.Need-same-length
+same_length : tie.Need-shape_of-store-then-not-check_length
 same_length c = search rules
 
-returns : tie.Need-returns
+returns : tie.Need-returns-then-not-check_length
 unfolding format_replacing format_outcome
 returns c =
-    let no : length_ok c.before.before.before.before.args.store.now ≡ false =
-    sym c.before.check-length.ensures ∙ not-true _ c.if1.true in
+    let no : length_ok c.args.store.now ≡ false =
+    sym c.check_length.ensures ∙ not-true _ c.if-not-check_length.true-raw in
     rw no (refl, refl)
 
-check-format-requires : tie.Need-check-format-requires
+check-format-requires : tie.Need-check_format-requires
 check-format-requires c κs = search rules
 
-same-length-2 : tie.Need-same-length-2
+same-length-2 : tie.Need-shape_of-store-then-not-check_format
 same-length-2 c = search rules
 
-returns-2 : tie.Need-returns-2
+returns-2 : tie.Need-returns-then-not-check_format
 unfolding format_replacing format_outcome
 returns-2 c =
-    let no : format_ok c.before.before.before.before.before.before.args.order ≡ false =
-    sym c.before.check-format.ensures ∙ not-true _ c.if2.true in
+    let no : format_ok c.args.order ≡ false =
+    sym c.check_format.ensures ∙ not-true _ c.if-not-check_format.true-raw in
     rw (legal c.before.before, no) (refl, refl)
 
-is-protected-requires : tie.Need-is-protected-requires
+is-protected-requires : tie.Need-is_protected-requires
 is-protected-requires c κs = search rules
 
-same-length-3 : tie.Need-same-length-3
+same-length-3 : tie.Need-shape_of-store-then-is_protected
 same-length-3 c = search rules
 
-returns-3 : tie.Need-returns-3
+returns-3 : tie.Need-returns-then-is_protected
 unfolding format_replacing format_outcome
 returns-3 c =
-    let e = c.before.before.before in
-    let a = e.before.before.before.before.before.before.args in
+    let a = c.args in
     let yes : (not (overwrites a.order) && store_in_use a.store.now) ≡ true =
-    sym c.before.is-protected.ensures ∙ c.if3.true in
-    rw (legal e.before.before, numbers e, yes) (refl, refl)
+    sym c.is_protected.ensures ∙ c.if-is_protected.true in
+    rw (legal c.before.before.before.before, numbers c.before.before, yes) (refl, refl)
 
-format-blocks-requires : tie.Need-format-blocks-requires
+format-blocks-requires : tie.Need-format_blocks-requires
 format-blocks-requires c κs =
-    let e = c.before.before.before.before in
-    let o = e.before.before.before.before.before.before.args.order in
-    (length_ok-sized _ (legal e.before.before), fill-high o (numbers e))
+    let o = c.args.order in
+    (length_ok-sized _ (legal c.before.before.before.before.before), fill-high o (numbers c.before.before.before))
 
-same-length-4 : tie.Need-same-length-4
+same-length-4 : tie.Need-shape_of-store
 same-length-4 c = search rules
 
-returns-4 : tie.Need-returns-4
+returns-4 : tie.Need-returns
 unfolding format_replacing format_outcome
 returns-4 c =
-    let o = c.before.before.before.before in
-    let e = o.before.before.before in
-    let a = e.before.before.before.before.before.before.args in
-    rw (legal e.before.before, numbers e, open-to o)
-    (refl, c.before.before.format-blocks.ensures ∙ sym (format-bytes (blocks a.store.now) a.order))
+    let a = c.args in
+    rw (legal c.before.before.before.before.before.before.before.before, numbers c.before.before.before.before.before.before, open-to c.before.before.before.before)
+    (refl, c.format_blocks.ensures ∙ sym (format-bytes (blocks a.store.now) a.order))
 
-pub format-spec : {M : Type 1} → statement M
-format-spec =
+pub format_spec : {M : Type 1} → statement M
+format_spec =
     tie.close
     (tie.spec
     check-length-requires

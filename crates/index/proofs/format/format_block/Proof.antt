@@ -7,42 +7,39 @@ use borrow.Author.Rules.{rules}
 use Rattle.index.proofs.format.format_block.Statement.{statement}
 use Rattle.index.proofs.format.format_block.Tie as tie
 
-build-body-requires : tie.Need-build-body-requires
+build-body-requires : tie.Need-build_body-body-requires
 build-body-requires c κs = search rules
 
-slice-aggregate-put-block : tie.Need-slice-aggregate-put-block
+slice-aggregate-put-block : tie.Need-slice_bounds-put_block-end
 slice-aggregate-put-block c = search rules
 
-slice-aggregate-put-block-2 : tie.Need-slice-aggregate-put-block-2
+slice-aggregate-put-block-2 : tie.Need-slice_bounds-put_block-end-2
 slice-aggregate-put-block-2 c = search rules
 
-put-block-requires : tie.Need-put-block-requires
+put-block-requires : tie.Need-put_block-requires
 put-block-requires c κs = search rules
 
-slice-aggregate-finish-as : tie.Need-slice-aggregate-finish-as
+slice-aggregate-finish-as : tie.Need-slice_bounds-finish_as-end
 slice-aggregate-finish-as c = search rules
 
-finish-as-requires : tie.Need-finish-as-requires
+finish-as-requires : tie.Need-finish_as-requires
 finish-as-requires c κs =
-    let s = c.before.before.before.before.before.before.before.before in
-    (fits_one _ _ s.requires.0, search rules)
+    (fits_one _ _ c.requires.0, search rules)
 
-same_length : tie.Need-same-length
+same_length : tie.Need-shape_of-store
 same_length c = search rules
 
 returns : tie.Need-returns
 returns c =
-    let p = c.before.before.before.before.before.before.before in
-    let b = p.before.before.before in
-    let a = b.before.before.args in
-    c.before.before.before.finish-as.ensures
-    ∙ finished-one a.order.number a.store.now _ (replicate 4096 0) b.build-body.result _ refl (search rules)
-    p.put-block.ensures
+    let a = c.args in
+    c.finish_as.ensures
+    ∙ finished-one a.order.number a.store.now _ (replicate 4096 0) c.build_body-body.result _ refl (search rules)
+    c.put_block.ensures
     ∙ ap (set_block a.store.now a.k)
-    (sealed-body a.order.number a.k b.build-body.result _ b.build-body.ensures)
+    (sealed-body a.order.number a.k c.build_body-body.result _ c.build_body-body.ensures)
 
-pub format-block-spec : {M : Type 1} → statement M
-format-block-spec =
+pub format_block_spec : {M : Type 1} → statement M
+format_block_spec =
     tie.close
     (tie.spec
     build-body-requires

@@ -9,61 +9,54 @@ use Rattle.index.specs.HalvesLaws.{too_short, call-refused, call-passed}
 use Rattle.index.proofs.halves.plan_remove.Statement.{statement}
 use Rattle.index.proofs.halves.plan_remove.Tie as tie
 
-abbrev pair : tie.Else1 → Pair
+abbrev pair : tie.Else-plan-lt5632 → Pair
 pair c =
-    let a = c.before.before.before.before.args in
+    let a = c.args in
     record { hash = a.hash; block = a.block; offset = a.offset }
 
-returns : tie.Need-returns
+returns : tie.Need-returns-then-plan-lt5632
 unfolding plan_remove
-returns c = too_short _ _ c.if1.true
+returns c = too_short _ _ c.if-plan-lt5632.true
 
-test-pair-ready-requires : tie.Need-test-pair-ready-requires
+test-pair-ready-requires : tie.Need-test_pair_ready-test-requires
 test-pair-ready-requires c κs = search rules
 
-enum-known-test : tie.Need-enum-known-test
+enum-known-test : tie.Need-enum_known-test
 enum-known-test c = search rules
 
-enum-known-test-2 : tie.Need-enum-known-test-2
+enum-known-test-2 : tie.Need-enum_known-test-in-Passed-1
 enum-known-test-2 c = search rules
 
-slice-aggregate-lay-remove : tie.Need-slice-aggregate-lay-remove
+slice-aggregate-lay-remove : tie.Need-slice_bounds-lay_remove-end
 slice-aggregate-lay-remove c = search rules
 
-lay-remove-requires : tie.Need-lay-remove-requires
+lay-remove-requires : tie.Need-lay_remove-requires
 lay-remove-requires c κs =
-    let k = c.before.before.before in
-    let t = k.before.before in
-    let a = t.before.before.before.before.before.args in
+    let a = c.args in
     let g =
-    ready-pair (disk a.store.now a.journal.now) (pair t.before) t.test-pair-ready.ensures
-    k.test2.given.1 in
-    ((g.1, g.2), (t.before.if1.false, refl))
+    ready-pair (disk a.store.now a.journal.now) (pair c.before.before.before.before) c.test_pair_ready-test.ensures
+    c.in-Passed.is in
+    ((g.1, g.2), (c.if-plan-lt5632.false, refl))
 
-returns-2 : tie.Need-returns-2
+returns-2 : tie.Need-returns-in-Failed
 unfolding plan_remove
 returns-2 c =
-    let k = c.before in
-    let t = k.before.before in
-    let a = t.before.before.before.before.before.args in
-    call-refused a.plan.now t.before.if1.false remove a.store.now a.journal.now (pair t.before)
-    t.test-pair-ready.ensures k.test.given.1
+    let a = c.args in
+    call-refused a.plan.now c.if-plan-lt5632.false remove a.store.now a.journal.now (pair c.before.before)
+    c.test_pair_ready-test.ensures c.in-Failed.is
 
-same_length : tie.Need-same-length
+same_length : tie.Need-shape_of-plan
 same_length c = search rules
 
-returns-3 : tie.Need-returns-3
+returns-3 : tie.Need-returns-in-Passed
 unfolding plan_remove
 returns-3 c =
-    let l = c.before.before.before in
-    let k = l.before.before.before.before in
-    let t = k.before.before in
-    let a = t.before.before.before.before.before.args in
-    call-passed a.plan.now t.before.if1.false remove a.store.now a.journal.now (pair t.before)
-    t.test-pair-ready.ensures k.test2.given.1 l.lay-remove.ensures
+    let a = c.args in
+    call-passed a.plan.now c.if-plan-lt5632.false remove a.store.now a.journal.now (pair c.before.before.before.before.before.before.before.before)
+    c.test_pair_ready-test.ensures c.in-Passed.is c.lay_remove.ensures
 
-pub plan-remove-spec : {M : Type 1} → statement M
-plan-remove-spec =
+pub plan_remove_spec : {M : Type 1} → statement M
+plan_remove_spec =
     tie.close
     (tie.spec
     returns

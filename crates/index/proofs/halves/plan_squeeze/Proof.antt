@@ -15,68 +15,61 @@ use Rattle.index.specs.HalvesLaws.{too_short, step-refused, step-passed}
 use Rattle.index.proofs.halves.plan_squeeze.Statement.{statement}
 use Rattle.index.proofs.halves.plan_squeeze.Tie as tie
 
-bytes : (c : tie.After-test-squeeze) → Bytes c.before.before.before.before.before.args.store.now
-bytes c = λ i. omega (arith, c.before.before.before.before.shared-slice-known.given i)
+bytes : (c : tie.After-test_squeeze-test) → Bytes c.args.store.now
+bytes c = λ i. omega (arith, c.shared_slice_known-1.given i)
 
-good : (c : tie.After-enum-told)
-    → let a = c.before.before.before.before.before.before.before.args in
+good : (c : tie.In-Passed)
+    → let a = c.args in
     test_of (bucket_tested (tested_with true (disk a.store.now a.journal.now)) a.bucket) ≡ Test.Passed
-good c = sym c.before.before.test-squeeze.ensures ∙ c.enum_told.given.1
+good c = sym c.test_squeeze-test.ensures ∙ c.in-Passed.is
 
-returns : tie.Need-returns
+returns : tie.Need-returns-then-plan-lt5632
 unfolding plan_squeeze
-returns c = too_short _ _ c.if1.true
+returns c = too_short _ _ c.if-plan-lt5632.true
 
-test-squeeze-requires : tie.Need-test-squeeze-requires
+test-squeeze-requires : tie.Need-test_squeeze-test-requires
 test-squeeze-requires c κs = search rules
 
-enum-known-test : tie.Need-enum-known-test
+enum-known-test : tie.Need-enum_known-test
 enum-known-test c = search rules
 
-enum_told : tie.Need-enum-told
+enum_told : tie.Need-enum_told-1
 enum_told c = search rules
 
-slice-aggregate-lay-squeeze : tie.Need-slice-aggregate-lay-squeeze
+slice-aggregate-lay-squeeze : tie.Need-slice_bounds-lay_squeeze-end
 slice-aggregate-lay-squeeze c = search rules
 
-lay-squeeze-requires : tie.Need-lay-squeeze-requires
+lay-squeeze-requires : tie.Need-lay_squeeze-requires
 lay-squeeze-requires c κs =
-    let u = c.before.before in
-    let t = u.before.before in
-    let a = t.before.before.before.before.before.args in (
+    let a = c.args in (
       (
-        squeeze-sound (disk a.store.now a.journal.now) a.bucket true (bytes t) (good u),
-        squeeze-range (disk a.store.now a.journal.now) a.bucket true (bytes t) (good u),
+        squeeze-sound (disk a.store.now a.journal.now) a.bucket true (bytes c.before.before.before) (good c.before.before),
+        squeeze-range (disk a.store.now a.journal.now) a.bucket true (bytes c.before.before.before) (good c.before.before),
       ),
-      (t.before.if1.false, refl),
+      (c.if-plan-lt5632.false, refl),
     )
 
-returns-2 : tie.Need-returns-2
+returns-2 : tie.Need-returns-in-Failed
 unfolding plan_squeeze
 returns-2 c =
-    let k = c.before in
-    let t = k.before.before in
-    let a = t.before.before.before.before.before.args in
-    step-refused a.plan.now t.before.if1.false (of_squeeze a.bucket) a.store.now a.journal.now
+    let a = c.args in
+    step-refused a.plan.now c.if-plan-lt5632.false (of_squeeze a.bucket) a.store.now a.journal.now
     (bucket_tested (tested_with true (disk a.store.now a.journal.now)) a.bucket) _
-    (sym t.test-squeeze.ensures ∙ k.test.given.1)
+    (sym c.test_squeeze-test.ensures ∙ c.in-Failed.is)
 
-same_length : tie.Need-same-length
+same_length : tie.Need-shape_of-plan
 same_length c = search rules
 
-returns-3 : tie.Need-returns-3
+returns-3 : tie.Need-returns-in-Passed
 unfolding plan_squeeze
 returns-3 c =
-    let l = c.before.before.before in
-    let u = l.before.before.before in
-    let t = u.before.before in
-    let a = t.before.before.before.before.before.args in
-    step-passed a.plan.now t.before.if1.false (of_squeeze a.bucket) a.store.now a.journal.now
+    let a = c.args in
+    step-passed a.plan.now c.if-plan-lt5632.false (of_squeeze a.bucket) a.store.now a.journal.now
     (bucket_tested (tested_with true (disk a.store.now a.journal.now)) a.bucket)
-    (all-passed (disk a.store.now a.journal.now) a.bucket true (bytes t) (good u)) l.lay-squeeze.ensures
+    (all-passed (disk a.store.now a.journal.now) a.bucket true (bytes c.before.before.before.before.before.before.before) (good c.before.before.before.before.before.before)) c.lay_squeeze.ensures
 
-pub plan-squeeze-spec : {M : Type 1} → statement M
-plan-squeeze-spec =
+pub plan_squeeze_spec : {M : Type 1} → statement M
+plan_squeeze_spec =
     tie.close
     (tie.spec
     returns

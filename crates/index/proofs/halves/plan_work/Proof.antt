@@ -14,62 +14,55 @@ use Rattle.index.specs.HalvesLaws.{too_short, step-refused, step-passed}
 use Rattle.index.proofs.halves.plan_work.Statement.{statement}
 use Rattle.index.proofs.halves.plan_work.Tie as tie
 
-bytes : (c : tie.After-test-ready) → Bytes c.before.before.before.before.before.args.store.now
-bytes c = λ i. omega (arith, c.before.before.before.before.shared-slice-known.given i)
+bytes : (c : tie.After-test_ready-test) → Bytes c.args.store.now
+bytes c = λ i. omega (arith, c.shared_slice_known-1.given i)
 
-good : (c : tie.After-enum-told)
-    → let a = c.before.before.before.before.before.before.before.args in
+good : (c : tie.In-Passed)
+    → let a = c.args in
     test_of (tested_with true (disk a.store.now a.journal.now)) ≡ Test.Passed
-good c = sym c.before.before.test-ready.ensures ∙ c.enum_told.given.1
+good c = sym c.test_ready-test.ensures ∙ c.in-Passed.is
 
-returns : tie.Need-returns
+returns : tie.Need-returns-then-plan-lt5632
 unfolding plan_work
-returns c = too_short _ _ c.if1.true
+returns c = too_short _ _ c.if-plan-lt5632.true
 
-test-ready-requires : tie.Need-test-ready-requires
+test-ready-requires : tie.Need-test_ready-test-requires
 test-ready-requires c κs = search rules
 
-enum-known-test : tie.Need-enum-known-test
+enum-known-test : tie.Need-enum_known-test
 enum-known-test c = search rules
 
-enum_told : tie.Need-enum-told
+enum_told : tie.Need-enum_told-1
 enum_told c = search rules
 
-slice-aggregate-lay-step : tie.Need-slice-aggregate-lay-step
+slice-aggregate-lay-step : tie.Need-slice_bounds-lay_step-end
 slice-aggregate-lay-step c = search rules
 
-lay-step-requires : tie.Need-lay-step-requires
+lay-step-requires : tie.Need-lay_step-requires
 lay-step-requires c κs =
-    let u = c.before.before in
-    let t = u.before.before in
-    let a = t.before.before.before.before.before.args in
-    (ready-sound true (disk a.store.now a.journal.now) (bytes t) (good u), (t.before.if1.false, refl))
+    let a = c.args in
+    (ready-sound true (disk a.store.now a.journal.now) (bytes c.before.before.before) (good c.before.before), (c.if-plan-lt5632.false, refl))
 
-returns-2 : tie.Need-returns-2
+returns-2 : tie.Need-returns-in-Failed
 unfolding plan_work
 returns-2 c =
-    let k = c.before in
-    let t = k.before.before in
-    let a = t.before.before.before.before.before.args in
-    step-refused a.plan.now t.before.if1.false of_splits a.store.now a.journal.now
-    (tested_with true (disk a.store.now a.journal.now)) _ (sym t.test-ready.ensures ∙ k.test.given.1)
+    let a = c.args in
+    step-refused a.plan.now c.if-plan-lt5632.false of_splits a.store.now a.journal.now
+    (tested_with true (disk a.store.now a.journal.now)) _ (sym c.test_ready-test.ensures ∙ c.in-Failed.is)
 
-same_length : tie.Need-same-length
+same_length : tie.Need-shape_of-plan
 same_length c = search rules
 
-returns-3 : tie.Need-returns-3
+returns-3 : tie.Need-returns-in-Passed
 unfolding plan_work
 returns-3 c =
-    let l = c.before.before.before in
-    let u = l.before.before.before in
-    let t = u.before.before in
-    let a = t.before.before.before.before.before.args in
-    step-passed a.plan.now t.before.if1.false of_splits a.store.now a.journal.now
+    let a = c.args in
+    step-passed a.plan.now c.if-plan-lt5632.false of_splits a.store.now a.journal.now
     (tested_with true (disk a.store.now a.journal.now))
-    (ready-passed true (disk a.store.now a.journal.now) (bytes t) (good u)) l.lay_step.ensures
+    (ready-passed true (disk a.store.now a.journal.now) (bytes c.before.before.before.before.before.before.before) (good c.before.before.before.before.before.before)) c.lay_step.ensures
 
-pub plan-work-spec : {M : Type 1} → statement M
-plan-work-spec =
+pub plan_work_spec : {M : Type 1} → statement M
+plan_work_spec =
     tie.close
     (tie.spec
     returns

@@ -13,63 +13,57 @@ use Rattle.index.specs.HalvesLaws.{place_none, place-many, place-past, place-ima
 use Rattle.index.proofs.halves.store_place.Statement.{statement}
 use Rattle.index.proofs.halves.store_place.Tie as tie
 
-some : (c : tie.Else1) → 1 ≤ c.before.plan-count.result
-some c = omega (arith, c.if1.false)
+some : (c : tie.Else-count-eq0) → 1 ≤ c.plan_count-count.result
+some c = omega (arith, c.if-count-eq0.false)
 
-plan-count-requires : tie.Need-plan-count-requires
+plan-count-requires : tie.Need-plan_count-count-requires
 plan-count-requires c κs = search rules
 
-returns : tie.Need-returns
+returns : tie.Need-returns-then-count-eq0
 returns c =
-    let k = c.before in
-    let a = k.before.before.before.args in
-    place_none a.store.now a.plan.now a.n _ k.plan-count.ensures c.if1.true
+    let a = c.args in
+    place_none a.store.now a.plan.now a.n _ c.plan_count-count.ensures c.if-count-eq0.true
 
-returns-2 : tie.Need-returns-2
+returns-2 : tie.Need-returns-then-count-gt8
 returns-2 c =
-    let k = c.before.before in
-    let a = k.before.before.before.args in
-    place-many a.store.now a.plan.now a.n _ k.plan-count.ensures (some c.before) c.if2.true
+    let a = c.args in
+    place-many a.store.now a.plan.now a.n _ c.plan_count-count.ensures (some c.before) c.if-count-gt8.true
 
-mul-if3 : tie.Need-overflow-mul-if3
+mul-if3 : tie.Need-overflow_mul-count
 mul-if3 c = search rules
 
-add-if3 : tie.Need-overflow-add-if3
+add-if3 : tie.Need-overflow_add-count
 add-if3 c = search rules
 
-returns-3 : tie.Need-returns-3
+returns-3 : tie.Need-returns-then-n-count
 returns-3 c =
-    let k = c.before.before.before in
-    let a = k.before.before.before.args in
-    place-past a.store.now a.plan.now a.n _ k.plan-count.ensures (some c.before.before)
-    c.before.if2.false c.if3.true
+    let a = c.args in
+    place-past a.store.now a.plan.now a.n _ c.plan_count-count.ensures (some c.before.before)
+    c.if-count-gt8.false c.if-n-count.true
 
-add-t11 : tie.Need-overflow-add-t11
+add-t11 : tie.Need-overflow_add-result
 add-t11 c = search rules
 
-returns-4 : tie.Need-returns-4
+returns-4 : tie.Need-returns-then-n-count-2
 returns-4 c =
-    let e = c.before in
-    let k = e.before.before.before in
-    let a = k.before.before.before.args in
-    place-image a.store.now a.plan.now a.n _ k.plan-count.ensures (some e.before.before)
-    e.before.if2.false e.if3.false c.if4.true
+    let a = c.args in
+    place-image a.store.now a.plan.now a.n _ c.plan_count-count.ensures (some c.before.before.before)
+    c.if-count-gt8.false c.if-n-count.false c.if-n-count-2.true
 
-past-place-requires : tie.Need-past-place-requires
+past-place-requires : tie.Need-past_place-requires
 past-place-requires c κs = search rules
 
-returns-5 : tie.Need-returns-5
+returns-5 : tie.Need-returns
 returns-5 c =
-    let k = c.before.before.before.before.before in
-    let a = k.before.before.before.args in
-    let z : k.plan-count.result + (a.n - k.plan-count.result) ≡ a.n = omega arith in
-    c.past-place.ensures
+    let a = c.args in
+    let z : c.plan_count-count.result + (a.n - c.plan_count-count.result) ≡ a.n = omega arith in
+    c.past_place.ensures
     ∙ ap
     (λ (i : ℕ). cond (store_ok (disk a.store.now []) a.plan.now i) (place_of (plan_store a.plan.now i))
     (PlaceAnswer.Refused Refusal.Number)) z
 
-pub store-place-spec : {M : Type 1} → statement M
-store-place-spec =
+pub store_place_spec : {M : Type 1} → statement M
+store_place_spec =
     tie.close
     (tie.spec
     plan-count-requires

@@ -11,66 +11,60 @@ use Rattle.index.proofs.laid.lay_insert.Statement.{statement}
 use Rattle.index.proofs.laid.lay_insert.Tie as tie
 
 -- the images as they were planned
-abbrev images : tie.After-plan-insert → List ℕ
-images c = c.plan-insert.new.1.1.1.0
+abbrev images : tie.After-plan_insert-plan → List ℕ
+images c = c.plan_insert-plan.new.images
 
-settled : (c : tie.After-plan-insert)
-    → let a = c.before.before.before.before.before.before.args in
-    Settles a.store.now c.plan-insert.result.change (images c) (insert (decode a.store.now) a.pair)
-    c.plan-insert.result.answer
-settled c = c.plan-insert.ensures
+settled : (c : tie.After-plan_insert-plan)
+    → let a = c.args in
+    Settles a.store.now c.plan_insert-plan.result.change (images c) (insert (decode a.store.now) a.pair)
+    c.plan_insert-plan.result.answer
+settled c = c.plan_insert-plan.ensures
 
-read-fields-requires : tie.Need-read-fields-requires
+read-fields-requires : tie.Need-read_fields-m-requires
 read-fields-requires c κs = search rules
 
-plan-insert-requires : tie.Need-plan-insert-requires
+plan-insert-requires : tie.Need-plan_insert-plan-requires
 plan-insert-requires c κs = search rules
 
-lay-change-requires : tie.Need-lay-change-requires
+lay-change-requires : tie.Need-lay_change-stores-requires
 lay-change-requires c κs =
-    let p = c.before.before.before.before in
-    let s = p.before.before.before.before.before.before in (
-      (s.requires.0.0, settles-alters (settled p)),
-      (s.requires.1.0, p.plan-insert.auto.1.1.1.0 ∙ s.requires.1.1),
+    (
+      (c.requires.0.0, settles-alters (settled c.before.before.before.before)),
+      (c.requires.1.0, c.plan_insert-plan.auto.images ∙ c.requires.1.1),
     )
 
-enum-known-answer : tie.Need-enum-known-answer
+enum-known-answer : tie.Need-enum_known-answer
 enum-known-answer c = search rules
 
-enum_told : tie.Need-enum-told
+enum_told : tie.Need-enum_told-1
 enum_told c = search rules
 
-same_length : tie.Need-same-length
+same_length : tie.Need-shape_of-images-in-Refused
 same_length c = search rules
 
-same-length-2 : tie.Need-same-length-2
+same-length-2 : tie.Need-shape_of-buffer-in-Refused
 same-length-2 c = search rules
 
-returns : tie.Need-returns
+returns : tie.Need-returns-in-Refused
 returns c =
-    let k = c.before in
-    let l = k.before.before.before.before in
-    let p = l.before.before.before.before.before in
-    let a = p.before.before.before.before.before.before.args in
-    settles-declined a.store.now p.plan-insert.result.change (images p) a.buffer.now _ _
-    l.lay-change.ensures.0 l.lay-change.ensures.1 (settled p) _ k.answer.given.1
+    let a = c.args in
+    settles-declined a.store.now c.plan_insert-plan.result.change (images c.before.before.before.before.before.before.before.before) a.buffer.now _ _
+    c.lay_change-stores.ensures.0 c.lay_change-stores.ensures.1 (settled c.before.before.before.before.before.before.before.before) _ c.in-Refused.is
 
-same-length-3 : tie.Need-same-length-3
+same-length-3 : tie.Need-shape_of-images-in-Done
 same-length-3 c = search rules
 
-same-length-4 : tie.Need-same-length-4
+same-length-4 : tie.Need-shape_of-buffer-in-Done
 same-length-4 c = search rules
 
-returns-2 : tie.Need-returns-2
+returns-2 : tie.Need-returns-in-Done
 returns-2 c =
-    let l = c.before.before.before.before in
-    let p = l.before.before.before.before.before in
-    let a = p.before.before.before.before.before.before.args in
-    settles-laid a.store.now p.plan-insert.result.change (images p) a.buffer.now _ _
-    l.lay-change.ensures.0 l.lay-change.ensures.1 (settled p) c.enum_told.given.1
+    let a = c.args in
+    settles-laid a.store.now c.plan_insert-plan.result.change (images c.before.before.before.before.before.before.before.before) a.buffer.now _ _
+    c.lay_change-stores.ensures.0 c.lay_change-stores.ensures.1 (settled c.before.before.before.before.before.before.before.before) c.in-Done.is
 
-pub lay-insert-spec : {M : Type 1} → statement M
-lay-insert-spec =
+pub lay_insert_spec : {M : Type 1} → statement M
+lay_insert_spec =
     tie.close
     (tie.spec
     read-fields-requires

@@ -11,66 +11,60 @@ use Rattle.index.proofs.laid.lay_remove.Statement.{statement}
 use Rattle.index.proofs.laid.lay_remove.Tie as tie
 
 -- the images as they were planned
-abbrev images : tie.After-plan-remove → List ℕ
-images c = c.plan-remove.new.1.1.1.0
+abbrev images : tie.After-plan_remove-plan → List ℕ
+images c = c.plan_remove-plan.new.images
 
-settled : (c : tie.After-plan-remove)
-    → let a = c.before.before.before.before.before.before.args in
-    Settles a.store.now c.plan-remove.result.change (images c) (remove (decode a.store.now) a.pair)
-    c.plan-remove.result.answer
-settled c = c.plan-remove.ensures
+settled : (c : tie.After-plan_remove-plan)
+    → let a = c.args in
+    Settles a.store.now c.plan_remove-plan.result.change (images c) (remove (decode a.store.now) a.pair)
+    c.plan_remove-plan.result.answer
+settled c = c.plan_remove-plan.ensures
 
-read-fields-requires : tie.Need-read-fields-requires
+read-fields-requires : tie.Need-read_fields-m-requires
 read-fields-requires c κs = search rules
 
-plan-remove-requires : tie.Need-plan-remove-requires
+plan-remove-requires : tie.Need-plan_remove-plan-requires
 plan-remove-requires c κs = search rules
 
-lay-change-requires : tie.Need-lay-change-requires
+lay-change-requires : tie.Need-lay_change-stores-requires
 lay-change-requires c κs =
-    let p = c.before.before.before.before in
-    let s = p.before.before.before.before.before.before in (
-      (s.requires.0.0, settles-alters (settled p)),
-      (s.requires.1.0, p.plan-remove.auto.1.1.1.0 ∙ s.requires.1.1),
+    (
+      (c.requires.0.0, settles-alters (settled c.before.before.before.before)),
+      (c.requires.1.0, c.plan_remove-plan.auto.images ∙ c.requires.1.1),
     )
 
-enum-known-answer : tie.Need-enum-known-answer
+enum-known-answer : tie.Need-enum_known-answer
 enum-known-answer c = search rules
 
-enum_told : tie.Need-enum-told
+enum_told : tie.Need-enum_told-1
 enum_told c = search rules
 
-same_length : tie.Need-same-length
+same_length : tie.Need-shape_of-images-in-Refused
 same_length c = search rules
 
-same-length-2 : tie.Need-same-length-2
+same-length-2 : tie.Need-shape_of-buffer-in-Refused
 same-length-2 c = search rules
 
-returns : tie.Need-returns
+returns : tie.Need-returns-in-Refused
 returns c =
-    let k = c.before in
-    let l = k.before.before.before.before in
-    let p = l.before.before.before.before.before in
-    let a = p.before.before.before.before.before.before.args in
-    settles-declined a.store.now p.plan-remove.result.change (images p) a.buffer.now _ _
-    l.lay-change.ensures.0 l.lay-change.ensures.1 (settled p) _ k.answer.given.1
+    let a = c.args in
+    settles-declined a.store.now c.plan_remove-plan.result.change (images c.before.before.before.before.before.before.before.before) a.buffer.now _ _
+    c.lay_change-stores.ensures.0 c.lay_change-stores.ensures.1 (settled c.before.before.before.before.before.before.before.before) _ c.in-Refused.is
 
-same-length-3 : tie.Need-same-length-3
+same-length-3 : tie.Need-shape_of-images-in-Done
 same-length-3 c = search rules
 
-same-length-4 : tie.Need-same-length-4
+same-length-4 : tie.Need-shape_of-buffer-in-Done
 same-length-4 c = search rules
 
-returns-2 : tie.Need-returns-2
+returns-2 : tie.Need-returns-in-Done
 returns-2 c =
-    let l = c.before.before.before.before in
-    let p = l.before.before.before.before.before in
-    let a = p.before.before.before.before.before.before.args in
-    settles-laid a.store.now p.plan-remove.result.change (images p) a.buffer.now _ _
-    l.lay-change.ensures.0 l.lay-change.ensures.1 (settled p) c.enum_told.given.1
+    let a = c.args in
+    settles-laid a.store.now c.plan_remove-plan.result.change (images c.before.before.before.before.before.before.before.before) a.buffer.now _ _
+    c.lay_change-stores.ensures.0 c.lay_change-stores.ensures.1 (settled c.before.before.before.before.before.before.before.before) c.in-Done.is
 
-pub lay-remove-spec : {M : Type 1} → statement M
-lay-remove-spec =
+pub lay_remove_spec : {M : Type 1} → statement M
+lay_remove_spec =
     tie.close
     (tie.spec
     read-fields-requires

@@ -15,72 +15,65 @@ use Rattle.index.proofs.laid.lay_squeeze.Statement.{statement}
 use Rattle.index.proofs.laid.lay_squeeze.Tie as tie
 
 -- the images as they were planned
-abbrev images : tie.After-plan-squeeze → List ℕ
-images c = c.plan-squeeze.new.1.1.1.0
+abbrev images : tie.After-plan_squeeze-plan → List ℕ
+images c = c.plan_squeeze-plan.new.images
 
-advance : (c : tie.After-plan-squeeze)
-    → let a = c.before.before.before.before.before.before.before.args in
-    Advances a.store.now c.plan-squeeze.result.step.change (images c)
-    (squeeze_step a.bucket (decode a.store.now)) c.plan-squeeze.result.step.advance
-advance c = c.plan-squeeze.ensures.0 _ c.before.before.Span-of.ensures
+advance : (c : tie.After-plan_squeeze-plan)
+    → let a = c.args in
+    Advances a.store.now c.plan_squeeze-plan.result.step.change (images c)
+    (squeeze_step a.bucket (decode a.store.now)) c.plan_squeeze-plan.result.step.advance
+advance c = c.plan_squeeze-plan.ensures.0 _ c.span_of-span.ensures
 
-read-fields-requires : tie.Need-read-fields-requires
+read-fields-requires : tie.Need-read_fields-m-requires
 read-fields-requires c κs = search rules
 
-span-of-requires : tie.Need-span-of-requires
+span-of-requires : tie.Need-span_of-span-requires
 span-of-requires c κs =
-    let s = c.before.before.before.before in
-    let r = subst (Reads s.args.store.now) (sym c.read-fields.ensures) s.requires.0.0 in
-    (r, omega (arith, reads-max r, s.requires.0.1))
+    let r = subst (Reads c.args.store.now) (sym c.read_fields-m.ensures) c.requires.0.0 in
+    (r, omega (arith, reads-max r, c.requires.0.1))
 
-plan-squeeze-requires : tie.Need-plan-squeeze-requires
+plan-squeeze-requires : tie.Need-plan_squeeze-plan-requires
 plan-squeeze-requires c κs = search rules
 
-lay-change-requires : tie.Need-lay-change-requires
+lay-change-requires : tie.Need-lay_change-stores-requires
 lay-change-requires c κs =
-    let p = c.before.before.before.before.before in
-    let s = p.before.before.before.before.before.before.before in (
-      (s.requires.0.0, advances-alters (advance p)),
-      (s.requires.1.0, p.plan-squeeze.auto.1.1.1.0 ∙ s.requires.1.1),
+    (
+      (c.requires.0.0, advances-alters (advance c.before.before.before.before.before)),
+      (c.requires.1.0, c.plan_squeeze-plan.auto.images ∙ c.requires.1.1),
     )
 
-enum-known-advance : tie.Need-enum-known-advance
+enum-known-advance : tie.Need-enum_known-advance
 enum-known-advance c = search rules
 
-enum_told : tie.Need-enum-told
+enum_told : tie.Need-enum_told-1
 enum_told c = search rules
 
-same_length : tie.Need-same-length
+same_length : tie.Need-shape_of-images-in-Stopped
 same_length c = search rules
 
-same-length-2 : tie.Need-same-length-2
+same-length-2 : tie.Need-shape_of-buffer-in-Stopped
 same-length-2 c = search rules
 
-returns : tie.Need-returns
+returns : tie.Need-returns-in-Stopped
 returns c =
-    let k = c.before in
-    let l = k.before.before.before.before in
-    let p = l.before.before.before.before.before.before in
-    let a = p.before.before.before.before.before.before.before.args in
-    advances-stopped a.store.now p.plan-squeeze.result.step.change (images p) a.buffer.now _ _
-    l.lay-change.ensures.0 l.lay-change.ensures.1 (of_squeeze _) refl (advance p) _ k.advance.given.1
+    let a = c.args in
+    advances-stopped a.store.now c.plan_squeeze-plan.result.step.change (images c.before.before.before.before.before.before.before.before.before) a.buffer.now _ _
+    c.lay_change-stores.ensures.0 c.lay_change-stores.ensures.1 (of_squeeze _) refl (advance c.before.before.before.before.before.before.before.before.before) _ c.in-Stopped.is
 
-same-length-3 : tie.Need-same-length-3
+same-length-3 : tie.Need-shape_of-images-in-Next
 same-length-3 c = search rules
 
-same-length-4 : tie.Need-same-length-4
+same-length-4 : tie.Need-shape_of-buffer-in-Next
 same-length-4 c = search rules
 
-returns-2 : tie.Need-returns-2
+returns-2 : tie.Need-returns-in-Next
 returns-2 c =
-    let l = c.before.before.before.before in
-    let p = l.before.before.before.before.before.before in
-    let a = p.before.before.before.before.before.before.before.args in
-    advances-laid a.store.now p.plan-squeeze.result.step.change (images p) a.buffer.now _ _
-    l.lay-change.ensures.0 l.lay-change.ensures.1 (of_squeeze _) refl (advance p) c.enum_told.given.1
+    let a = c.args in
+    advances-laid a.store.now c.plan_squeeze-plan.result.step.change (images c.before.before.before.before.before.before.before.before.before) a.buffer.now _ _
+    c.lay_change-stores.ensures.0 c.lay_change-stores.ensures.1 (of_squeeze _) refl (advance c.before.before.before.before.before.before.before.before.before) c.in-Next.is
 
-pub lay-squeeze-spec : {M : Type 1} → statement M
-lay-squeeze-spec =
+pub lay_squeeze_spec : {M : Type 1} → statement M
+lay_squeeze_spec =
     tie.close
     (tie.spec
     read-fields-requires

@@ -11,56 +11,49 @@ use Rattle.index.proofs.read.lookup.Statement.{statement}
 use Rattle.index.proofs.read.lookup.Tie as tie
 
 -- the store passed the tests
-passed-tests : (c : tie.After-enum-told) → Passes c.before.before.before.before.before.args.store.now
+passed-tests : (c : tie.In-Passed) → Passes c.args.store.now
 passed-tests c =
-    let t = c.before.before in
-    passes t.before.before.before.args.store.now (λ i. omega (arith, t.before.before.shared-slice-known.given i))
-    (sym t.test-store.ensures ∙ c.enum_told.given.1)
+    passes c.args.store.now (λ i. omega (arith, c.shared_slice_known-1.given i))
+    (sym c.test_store-test.ensures ∙ c.in-Passed.is)
 
-test-store-requires : tie.Need-test-store-requires
+test-store-requires : tie.Need-test_store-test-requires
 test-store-requires c κs = search rules
 
-enum-known-test : tie.Need-enum-known-test
+enum-known-test : tie.Need-enum_known-test
 enum-known-test c = search rules
 
-enum_told : tie.Need-enum-told
+enum_told : tie.Need-enum_told-1
 enum_told c = search rules
 
-block-at-requires : tie.Need-block-at-requires
+block-at-requires : tie.Need-block_at-requires
 block-at-requires c κs = passes-room (passed-tests c)
 
-read-meta-requires : tie.Need-read-meta-requires
+read-meta-requires : tie.Need-read_meta-m-requires
 read-meta-requires c κs =
     ap length c.block_at.ensures ∙ length-block _ 0 (passes-room (passed-tests c.before))
 
-lookup-in-requires : tie.Need-lookup-in-requires
+lookup-in-requires : tie.Need-lookup_in-requires
 lookup-in-requires c κs =
-    let m = c.before in
-    let b = m.before in
-    (passed-tests b.before).reads m.read-meta.result (m.read-meta.ensures ∙ ap read_meta b.block_at.ensures)
+    (passed-tests c.before.before.before).reads c.read_meta-m.result (c.read_meta-m.ensures ∙ ap read_meta c.block_at.ensures)
 
-returns : tie.Need-returns
+returns : tie.Need-returns-in-Failed
 unfolding lookup_outcome
 returns c =
-    let k = c.before in
-    let t = k.before.before in
-    let a = t.before.before.before.args in
+    let a = c.args in
     ap (λ (x : Tested). lookup_on x a.hash a.output.now)
-    (fails true a.store.now _ (sym t.test-store.ensures ∙ k.test.given.1))
+    (fails true a.store.now _ (sym c.test_store-test.ensures ∙ c.in-Failed.is))
 
-same_length : tie.Need-same-length
+same_length : tie.Need-shape_of-output
 same_length c = search rules
 
-returns-2 : tie.Need-returns-2
+returns-2 : tie.Need-returns-in-Passed
 unfolding lookup_outcome
 returns-2 c =
-    let l = c.before.before in
-    let t = l.before.before.before.before in
-    let a = t.before.before.before.before.before.args in
-    ap (λ (x : Tested). lookup_on x a.hash a.output.now) (passed-tests t).index ∙ l.lookup-in.ensures
+    let a = c.args in
+    ap (λ (x : Tested). lookup_on x a.hash a.output.now) (passed-tests c.before.before.before.before.before.before).index ∙ c.lookup_in.ensures
 
-pub lookup-spec : {M : Type 1} → statement M
-lookup-spec =
+pub lookup_spec : {M : Type 1} → statement M
+lookup_spec =
     tie.close
     (tie.spec
     test-store-requires

@@ -14,56 +14,52 @@ use Rattle.index.proofs.ready.test_pair_ready.Statement.{statement}
 use Rattle.index.proofs.ready.test_pair_ready.Tie as tie
 
 -- store and journal, and the pair
-abbrev given : tie.After-test-ready → Disk
-given c = let a = c.before.before.before.before.args in disk a.store.now a.journal.now
+abbrev given : tie.After-test_ready-test → Disk
+given c = let a = c.args in disk a.store.now a.journal.now
 
-abbrev pair : tie.After-test-ready → Pair
+abbrev pair : tie.After-test_ready-test → Pair
 pair c =
-    let a = c.before.before.before.before.args in
+    let a = c.args in
     record { hash = a.hash; block = a.block; offset = a.offset }
 
 -- what the tests found
-found : (c : tie.After-test-ready) → c.test-ready.result ≡ test_of (tested_with (pair_ok (pair c)) (given c))
+found : (c : tie.After-test_ready-test) → c.test_ready-test.result ≡ test_of (tested_with (pair_ok (pair c)) (given c))
 found c =
-    c.test-ready.ensures
+    c.test_ready-test.ensures
     ∙ ap (λ (n : Bool). test_of (tested_with n (given c)))
-    (c.before.check-pair.ensures c.before.before.before.before.args.hash)
+    (c.check_pair.ensures c.args.hash)
 
-check-pair-requires : tie.Need-check-pair-requires
+check-pair-requires : tie.Need-check_pair-requires
 check-pair-requires c κs = search rules
 
-test-ready-requires : tie.Need-test-ready-requires
+test-ready-requires : tie.Need-test_ready-test-requires
 test-ready-requires c κs = search rules
 
-enum-known-test : tie.Need-enum-known-test
+enum-known-test : tie.Need-enum_known-test
 enum-known-test c = search rules
 
-enum_told : tie.Need-enum-told
+enum_told : tie.Need-enum_told-1
 enum_told c = search rules
 
-cast-t10 : tie.Need-overflow-cast-t10
+cast-t10 : tie.Need-overflow_cast-result
 cast-t10 c =
-    let t = c.before.before in
     omega (
       arith,
-      pair-offset (pair t)
-          (passes-numbers _ _ (passing _ (given t) (sym (found t) ∙ c.enum_told.given.1)).store),
+      pair-offset (pair c.before)
+          (passes-numbers _ _ (passing _ (given c.before) (sym (found c.before) ∙ c.in-Passed.is)).store),
     )
 
-returns : tie.Need-returns
+returns : tie.Need-returns-in-Failed
 returns c =
-    let k = c.before in
-    let t = k.before.before in
-    pair-unready (given t) (pair t) t.test-ready.result _ (found t) k.test.given.1
+    pair-unready (given c.before) (pair c.before) c.test_ready-test.result _ (found c.before) c.in-Failed.is
 
-returns-2 : tie.Need-returns-2
+returns-2 : tie.Need-returns-in-Passed
 returns-2 c =
-    let t = c.before.before in
-    pair-ready (given t) (pair t) t.test-ready.result
-    (λ i. omega (arith, t.before.before.before.shared-slice-known.given i)) (found t) c.enum_told.given.1
+    pair-ready (given c.before) (pair c.before) c.test_ready-test.result
+    (λ i. omega (arith, c.shared_slice_known-1.given i)) (found c.before) c.in-Passed.is
 
-pub test-pair-ready-spec : {M : Type 1} → statement M
-test-pair-ready-spec =
+pub test_pair_ready_spec : {M : Type 1} → statement M
+test_pair_ready_spec =
     tie.close
     (tie.spec
     check-pair-requires

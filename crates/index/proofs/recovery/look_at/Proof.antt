@@ -15,76 +15,68 @@ use Rattle.index.proofs.recovery.look_at.Statement.{statement}
 use Rattle.index.proofs.recovery.look_at.Tie as tie
 
 -- store and journal
-abbrev given : tie.After-check-length → Disk
-given c = let a = c.before.before.before.args in disk a.store.now a.journal.now
+abbrev given : tie.After-check_length → Disk
+given c = let a = c.args in disk a.store.now a.journal.now
 
-abbrev number : tie.After-check-length → ℕ
-number c = c.before.before.before.args.k
+abbrev number : tie.After-check_length → ℕ
+number c = c.args.k
 
-legal : (c : tie.Else1) → length_ok (given c.before).store ≡ true
-legal c = sym c.before.check-length.ensures ∙ not-false _ c.if1.false
+legal : (c : tie.Else-not-check_length) → length_ok (given c.before).store ≡ true
+legal c = sym c.check_length.ensures ∙ not-false _ c.if-not-check_length.false-raw
 
-long : (c : tie.Else2) → sixteen (given c.before.before).journal ≡ true
-long c = eq-eqb _ 8192 c.if2.false
+long : (c : tie.Else-journal-ne8192) → sixteen (given c.before.before).journal ≡ true
+long c = eq-eqb _ 8192 c.if-journal-ne8192.false
 
-below : (c : tie.Else3) → let l = c.before.before.before in ltb (number l) (blocks (given l).store) ≡ true
+below : (c : tie.Else-k-store) → ltb (number c.before.before.before) (blocks (given c.before.before.before).store) ≡ true
 unfolding blocks
-below c = lt-ltb _ _ c.if3.false
+below c = lt-ltb _ _ c.if-k-store.false
 
-check-length-requires : tie.Need-check-length-requires
+check-length-requires : tie.Need-check_length-requires
 check-length-requires c κs = search rules
 
-returns : tie.Need-returns
+returns : tie.Need-returns-then-not-check_length
 unfolding look_outcome
 returns c =
     let no : length_ok (given c.before).store ≡ false =
-    sym c.before.check-length.ensures ∙ not-true _ c.if1.true in
+    sym c.check_length.ensures ∙ not-true _ c.if-not-check_length.true-raw in
     rw no refl
 
-returns-2 : tie.Need-returns-2
+returns-2 : tie.Need-returns-then-journal-ne8192
 unfolding look_outcome
 returns-2 c =
-    let no : sixteen (given c.before.before).journal ≡ false = ne_eqb _ 8192 c.if2.true in
+    let no : sixteen (given c.before.before).journal ≡ false = ne_eqb _ 8192 c.if-journal-ne8192.true in
     rw (legal c.before, no) refl
 
-returns-3 : tie.Need-returns-3
+returns-3 : tie.Need-returns-then-k-store
 unfolding look_outcome blocks
 returns-3 c =
-    let e = c.before in
-    let l = e.before.before in
-    let no : ltb (number l) (blocks (given l).store) ≡ false = le-ltb _ _ c.if3.true in
-    rw (legal e.before, long e, no) refl
+    let no : ltb (number c.before.before.before) (blocks (given c.before.before.before).store) ≡ false = le-ltb _ _ c.if-k-store.true in
+    rw (legal c.before.before, long c.before, no) refl
 
-image-for-requires : tie.Need-image-for-requires
+image-for-requires : tie.Need-image_for-i-requires
 image-for-requires c κs = search rules
 
-cast-t13 : tie.Need-overflow-cast-t13
+cast-t13 : tie.Need-overflow_cast-result
 cast-t13 c = search rules
 
-add-t14 : tie.Need-overflow-add-t14
+add-t14 : tie.Need-overflow_add-result
 add-t14 c = search rules
 
-returns-4 : tie.Need-returns-4
+returns-4 : tie.Need-returns-then-i-lt14
 unfolding look_outcome
 returns-4 c =
-    let f = c.before in
-    let e = f.before in
-    let l = e.before.before.before in
-    rw (legal e.before.before, long e.before, below e)
+    rw (legal c.before.before.before.before, long c.before.before.before, below c.before.before)
     (ap (λ (i : ℕ). PlaceAnswer.At true i) (add-one _)
-    ∙ sym (ap (λ (i : Option ℕ). look_place i (number l)) (f.image-for.ensures.0 c.if4.true)))
+    ∙ sym (ap (λ (i : Option ℕ). look_place i (number c.before.before.before.before.before)) (c.image_for-i.ensures.0 c.if-i-lt14.true)))
 
-returns-5 : tie.Need-returns-5
+returns-5 : tie.Need-returns
 unfolding look_outcome
 returns-5 c =
-    let f = c.before in
-    let e = f.before in
-    let l = e.before.before.before in
-    rw (legal e.before.before, long e.before, below e)
-    (sym (ap (λ (i : Option ℕ). look_place i (number l)) (f.image-for.ensures.1 c.if4.false)))
+    rw (legal c.before.before.before.before, long c.before.before.before, below c.before.before)
+    (sym (ap (λ (i : Option ℕ). look_place i (number c.before.before.before.before.before)) (c.image_for-i.ensures.1 c.if-i-lt14.false)))
 
-pub look-at-spec : {M : Type 1} → statement M
-look-at-spec =
+pub look_at_spec : {M : Type 1} → statement M
+look_at_spec =
     tie.close
     (tie.spec
     check-length-requires

@@ -10,25 +10,23 @@ use Rattle.cuts.specs.Journalled.{wipe_outcome}
 use Rattle.index.proofs.recovery.wipe.Statement.{statement}
 use Rattle.index.proofs.recovery.wipe.Tie as tie
 
-returns : tie.Need-returns
+returns : tie.Need-returns-then-journal-ne8192
 unfolding wipe_outcome
 returns c =
-    let no : sixteen c.before.before.args.journal.now ≡ false = ne_eqb _ 8192 c.if1.true in
+    let no : sixteen c.args.journal.now ≡ false = ne_eqb _ 8192 c.if-journal-ne8192.true in
     rw no refl
 
-wipe-head-requires : tie.Need-wipe-head-requires
+wipe-head-requires : tie.Need-wipe_head-requires
 wipe-head-requires c κs = search rules
 
-same_length : tie.Need-same-length
+same_length : tie.Need-shape_of-journal
 same_length c = search rules
 
-returns-2 : tie.Need-returns-2
+returns-2 : tie.Need-returns
 unfolding wipe_outcome
 returns-2 c =
-    let w = c.before.before in
-    let e = w.before.before in
-    let yes : sixteen e.before.before.args.journal.now ≡ true = eq-eqb _ 8192 e.if1.false in
-    rw yes (ap (λ (j : List ℕ). record { answer = Answer.Done; journal = j }) (sym w.wipe-head.ensures))
+    let yes : sixteen c.args.journal.now ≡ true = eq-eqb _ 8192 c.if-journal-ne8192.false in
+    rw yes (ap (λ (j : List ℕ). record { answer = Answer.Done; journal = j }) (sym c.wipe_head.ensures))
 
-pub wipe-spec : {M : Type 1} → statement M
-wipe-spec = tie.close (tie.spec returns wipe-head-requires same_length returns-2)
+pub wipe_spec : {M : Type 1} → statement M
+wipe_spec = tie.close (tie.spec returns wipe-head-requires same_length returns-2)

@@ -5,39 +5,36 @@ use Rattle.index.specs.SoundLaws.{sound-first, settles-fits, settles-changed}
 use Rattle.index.proofs.sound.insert_sound.Statement.{statement}
 use Rattle.index.proofs.sound.insert_sound.Tie as tie
 
-read-fields-requires : tie.Need-read-fields-requires
-read-fields-requires c κs = c.before.before.requires.0
+read-fields-requires : tie.Need-read_fields-m-requires
+read-fields-requires c κs = c.requires.0
 
-slice-aggregate-plan-insert : tie.Need-slice-aggregate-plan-insert
+slice-aggregate-plan-insert : tie.Need-slice_bounds-plan_insert-end
 slice-aggregate-plan-insert c = search rules
 
-plan-insert-requires : tie.Need-plan-insert-requires
+plan-insert-requires : tie.Need-plan_insert-plan-requires
 plan-insert-requires c κs =
-    let m = c.before.before in
-    let s = m.before.before.before in
-    (subst (Reads s.args.store.now) (sym m.read-fields.ensures) s.requires.0, refl, s.requires.1)
+    (subst (Reads c.args.store.now) (sym c.read_fields-m.ensures) c.requires.0, refl, c.requires.1)
 
-slice-aggregate-finish : tie.Need-slice-aggregate-finish
+slice-aggregate-finish : tie.Need-slice_bounds-finish-end
 slice-aggregate-finish c = search rules
 
 finish-requires : tie.Need-finish-requires
 finish-requires c κs =
-    let p = c.before.before.before in
-    let s = p.before.before.before.before.before.before in (
-      settles-fits p.plan-insert.ensures,
-      (sound-first s.requires.0, p.plan-insert.auto.1.1.1.0),
+    (
+      settles-fits c.plan_insert-plan.ensures,
+      (sound-first c.requires.0, c.plan_insert-plan.auto.images),
     )
 
-same_length : tie.Need-same-length
+same_length : tie.Need-shape_of-store
 same_length c = search rules
 
 returns : tie.Need-returns
 returns c =
-    let p = c.before.before.before.before.before.before.before.plan-insert in
-    settles-changed p.ensures _ c.before.before.before.finish.ensures
+    let p = c.plan_insert-plan in
+    settles-changed p.ensures _ c.finish.ensures
 
-pub insert-sound-spec : {M : Type 1} → statement M
-insert-sound-spec =
+pub insert_sound_spec : {M : Type 1} → statement M
+insert_sound_spec =
     tie.close
     (tie.spec
     read-fields-requires

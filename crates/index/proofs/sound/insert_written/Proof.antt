@@ -3,38 +3,35 @@ use Rattle.index.specs.SoundLaws.{settles-alters, settles-journalled}
 use Rattle.index.proofs.sound.insert_written.Statement.{statement}
 use Rattle.index.proofs.sound.insert_written.Tie as tie
 
-read-fields-requires : tie.Need-read-fields-requires
+read-fields-requires : tie.Need-read_fields-m-requires
 read-fields-requires c κs = search rules
 
-slice-aggregate-plan-insert : tie.Need-slice-aggregate-plan-insert
+slice-aggregate-plan-insert : tie.Need-slice_bounds-plan_insert-end
 slice-aggregate-plan-insert c = search rules
 
-plan-insert-requires : tie.Need-plan-insert-requires
+plan-insert-requires : tie.Need-plan_insert-plan-requires
 plan-insert-requires c κs = search rules
 
-slice-aggregate-write-change : tie.Need-slice-aggregate-write-change
+slice-aggregate-write-change : tie.Need-slice_bounds-write_change-end
 slice-aggregate-write-change c = search rules
 
-write-change-requires : tie.Need-write-change-requires
+write-change-requires : tie.Need-write_change-requires
 write-change-requires c κs =
-    let p = c.before.before.before.before in
-    let s = p.before.before.before.before.before.before.before in
-    ((s.requires.0, settles-alters p.plan-insert.ensures), (s.requires.2, p.plan-insert.auto.1.1.1.0))
+    ((c.requires.0, settles-alters c.plan_insert-plan.ensures), (c.requires.2, c.plan_insert-plan.auto.images))
 
-same_length : tie.Need-same-length
+same_length : tie.Need-shape_of-store
 same_length c = search rules
 
-same-length-2 : tie.Need-same-length-2
+same-length-2 : tie.Need-shape_of-journal
 same-length-2 c = search rules
 
 returns : tie.Need-returns
 returns c =
-    let w = c.before.before.before.before in
-    let p = w.before.before.before.before.before.plan-insert in
-    settles-journalled p.ensures _ _ w.write-change.ensures.0
+    let p = c.plan_insert-plan in
+    settles-journalled p.ensures _ _ c.write_change.ensures.0
 
-pub insert-written-spec : {M : Type 1} → statement M
-insert-written-spec =
+pub insert_written_spec : {M : Type 1} → statement M
+insert_written_spec =
     tie.close
     (tie.spec
     read-fields-requires

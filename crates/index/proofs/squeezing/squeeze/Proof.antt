@@ -15,65 +15,59 @@ use Rattle.index.proofs.squeezing.squeeze.Tie as tie
 use Rattle.index.proofs.squeezing.squeeze.Reads as reads
 
 -- store and journal
-abbrev given : tie.After-test-squeeze → Disk
-given c = let a = c.before.before.before.before.before.args in disk a.store.now a.journal.now
+abbrev given : tie.After-test_squeeze-test → Disk
+given c = let a = c.args in disk a.store.now a.journal.now
 
-bytes : (c : tie.After-test-squeeze) → Bytes (given c).store
-bytes c = λ i. omega (arith, c.before.before.before.before.slice-known.given i)
+bytes : (c : tie.After-test_squeeze-test) → Bytes (given c).store
+bytes c = λ i. omega (arith, c.slice_known-1.given i)
 
-good : (c : tie.After-enum-told)
-    → let t = c.before.before in
-    let a = t.before.before.before.before.before.args in
-    test_of (bucket_tested (tested_with (budget_ok a.budget) (given t)) a.bucket) ≡ Test.Passed
-good c = sym c.before.before.test-squeeze.ensures ∙ c.enum_told.given.1
+good : (c : tie.In-Passed)
+    →
+    let a = c.args in
+    test_of (bucket_tested (tested_with (budget_ok a.budget) (given c.before)) a.bucket) ≡ Test.Passed
+good c = sym c.test_squeeze-test.ensures ∙ c.in-Passed.is
 
-test-squeeze-requires : tie.Need-test-squeeze-requires
+test-squeeze-requires : tie.Need-test_squeeze-test-requires
 test-squeeze-requires c κs = search rules
 
-enum-known-test : tie.Need-enum-known-test
+enum-known-test : tie.Need-enum_known-test
 enum-known-test c = search rules
 
-enum_told : tie.Need-enum-told
+enum_told : tie.Need-enum_told-1
 enum_told c = search rules
 
-squeeze-sound-requires : tie.Need-squeeze-sound-requires
+squeeze-sound-requires : tie.Need-squeeze_sound-requires
 squeeze-sound-requires c κs =
-    let u = c.before.before in
-    let t = u.before.before in (
-      squeeze-sound _ _ _ (bytes t) (good u),
-      squeeze-range _ _ _ (bytes t) (good u),
-      (passing _ _ (all-early _ _ _ (bytes t) (good u))).journal,
+    (
+      squeeze-sound _ _ _ (bytes c.before.before.before) (good c.before.before),
+      squeeze-range _ _ _ (bytes c.before.before.before) (good c.before.before),
+      (passing _ _ (all-early _ _ _ (bytes c.before.before.before) (good c.before.before))).journal,
     )
 
-same_length : tie.Need-same-length
+same_length : tie.Need-shape_of-store-in-Failed
 same_length c = search rules
 
-same-length-2 : tie.Need-same-length-2
+same-length-2 : tie.Need-shape_of-journal-in-Failed
 same-length-2 c = search rules
 
-returns : tie.Need-returns
+returns : tie.Need-returns-in-Failed
 returns c =
-    let k = c.before in
-    let t = k.before.before in
-    let a = t.before.before.before.before.before.args in
-    squeeze-fails (given t) a.bucket a.budget _ (sym t.test-squeeze.ensures ∙ k.test.given.1)
+    let a = c.args in
+    squeeze-fails (given c.before) a.bucket a.budget _ (sym c.test_squeeze-test.ensures ∙ c.in-Failed.is)
 
-same-length-3 : tie.Need-same-length-3
+same-length-3 : tie.Need-shape_of-store-in-Passed
 same-length-3 c = search rules
 
-same-length-4 : tie.Need-same-length-4
+same-length-4 : tie.Need-shape_of-journal-in-Passed
 same-length-4 c = search rules
 
-returns-2 : tie.Need-returns-2
+returns-2 : tie.Need-returns-in-Passed
 returns-2 c =
-    let w = c.before.before.before.before in
-    let u = w.before.before.before in
-    let t = u.before.before in
-    let a = t.before.before.before.before.before.args in
-    squeeze-passes (given t) a.bucket a.budget (bytes t) (good u) ∙ w.squeeze-sound.ensures
+    let a = c.args in
+    squeeze-passes (given c.before.before.before.before.before.before.before.before) a.bucket a.budget (bytes c.before.before.before.before.before.before.before.before) (good c.before.before.before.before.before.before.before) ∙ c.squeeze_sound.ensures
 
-pub squeeze-spec : {M : Type 1} → statement M
-squeeze-spec =
+pub squeeze_spec : {M : Type 1} → statement M
+squeeze_spec =
     tie.close
     (tie.spec
     test-squeeze-requires

@@ -14,89 +14,80 @@ use Rattle.index.proofs.squeezing.squeeze_sound.Statement.{statement}
 use Rattle.index.proofs.squeezing.squeeze_sound.Tie as tie
 use Rattle.index.proofs.squeezing.squeeze_sound.Reads as reads
 
-abbrev invariant-loop : tie.invariant-loop
+abbrev invariant-loop : tie.invariant-loop-steps
 invariant-loop store₀ journal₀ bucket budget span₀ images₀ steps₀ store journal span images steps =
     Working (of_squeeze bucket) budget (disk store₀ journal₀) (disk store journal) steps
     × Spans (decode store) bucket span × (length images ≡ 4096)
 
-abbrev decreases-loop : tie.decreases-loop
+abbrev decreases-loop : tie.decreases-loop-steps
 decreases-loop store₀ journal₀ bucket budget span₀ images₀ steps₀ store journal span images steps = budget - steps
 
-read-fields-requires : tie.Need-read-fields-requires invariant-loop decreases-loop
-read-fields-requires c κs = c.before.before.before.requires.0
+read-fields-requires : tie.Need-read_fields-m-requires invariant-loop decreases-loop
+read-fields-requires c κs = c.requires.0
 
-span-of-requires : tie.Need-span-of-requires invariant-loop decreases-loop
+span-of-requires : tie.Need-span_of-span-requires invariant-loop decreases-loop
 span-of-requires c κs =
-    let f = c.before in
-    let s = f.before.before.before.before in
-    let r = subst (Reads s.args.store.now) (sym f.read-fields.ensures) s.requires.0 in
-    (r, omega (arith, reads-max r, s.requires.1))
+    let r = subst (Reads c.args.store.now) (sym c.read_fields-m.ensures) c.requires.0 in
+    (r, omega (arith, reads-max r, c.requires.1))
 
-loop-holds : tie.Need-loop-init invariant-loop decreases-loop
+loop-holds : tie.Need-loop-steps-init invariant-loop decreases-loop
 loop-holds c =
-    let s = c.before.before.before.before.before.before in
-    (working-none (of_squeeze _) _ _ s.requires.0 s.requires.2, c.Span-of.ensures, refl)
+    (working-none (of_squeeze _) _ _ c.requires.0 c.requires.2, c.span_of-span.ensures, refl)
 
-slice-aggregate-squeeze-written : tie.Need-slice-aggregate-squeeze-written invariant-loop decreases-loop
+slice-aggregate-squeeze-written : tie.Need-slice_bounds-squeeze_written-end invariant-loop decreases-loop
 slice-aggregate-squeeze-written c = search rules
 
-squeeze-written-requires : tie.Need-squeeze-written-requires invariant-loop decreases-loop
+squeeze-written-requires : tie.Need-squeeze_written-stride-requires invariant-loop decreases-loop
 squeeze-written-requires c κs =
-    let h = c.before.before.before.before.loop.invariant in ((h.0.sound, (_, h.1)), (h.0.sixteen, h.2))
+    let h = c.loop-steps.invariant in ((h.0.sound, (_, h.1)), (h.0.sixteen, h.2))
 
-enum-known-advance : tie.Need-enum-known-advance invariant-loop decreases-loop
+enum-known-advance : tie.Need-enum_known-advance invariant-loop decreases-loop
 enum-known-advance c = search rules
 
-same_length : tie.Need-same-length invariant-loop decreases-loop
+same_length : tie.Need-shape_of-store-in-Stopped invariant-loop decreases-loop
 same_length c = search rules
 
-same-length-2 : tie.Need-same-length-2 invariant-loop decreases-loop
+same-length-2 : tie.Need-shape_of-journal-in-Stopped invariant-loop decreases-loop
 same-length-2 c = search rules
 
-returns : tie.Need-returns invariant-loop decreases-loop
+returns : tie.Need-returns-in-Stopped invariant-loop decreases-loop
 returns c =
-    let k = c.before in
-    let a = k.before.before.before.before.before.before.before in
-    let l = a.before.before.before.before in
-    let i = l.before.loop.invariant in
-    working-stop (of_squeeze _) i.0 l.loop-test.true (a.squeeze-written.ensures.0 _ i.1) _
-    k.advance.given.1
+    let i = c.loop-steps.invariant in
+    working-stop (of_squeeze _) i.0 c.loop-steps-test.true (c.squeeze_written-stride.ensures.0 _ i.1) _
+    c.in-Stopped.is
 
-enum_told : tie.Need-enum-told invariant-loop decreases-loop
+enum_told : tie.Need-enum_told-1 invariant-loop decreases-loop
 enum_told c = search rules
 
-add-steps : tie.Need-overflow-add-steps invariant-loop decreases-loop
+add-steps : tie.Need-overflow_add-steps invariant-loop decreases-loop
 add-steps c = omega arith
 
-loop-less : tie.Need-loop-smaller invariant-loop decreases-loop
+loop-less : tie.Need-loop-steps-smaller invariant-loop decreases-loop
 loop-less c = omega arith
 
-loop-again : tie.Need-loop-preserved invariant-loop decreases-loop
+loop-again : tie.Need-loop-steps-preserved invariant-loop decreases-loop
 loop-again c =
-    let k = c.before in
-    let a = k.before.before.before.before.before.before.before in
-    let l = a.before.before.before.before in
-    let i = l.before.loop.invariant in
-    let e = a.squeeze-written.ensures in
-    let n = k.enum_told.given.1 in (
-      working-next (of_squeeze _) i.0 l.loop-test.true (e.0 _ i.1) n
-          a.squeeze-written.auto.0
-          (a.squeeze-written.auto.1.0 ∙ i.0.sixteen),
+    let i = c.loop-steps.invariant in
+    let e = c.squeeze_written-stride.ensures in
+    let n = c.in_default.is in (
+      working-next (of_squeeze _) i.0 c.loop-steps-test.true (e.0 _ i.1) n
+          c.squeeze_written-stride.auto.store
+          (c.squeeze_written-stride.auto.journal ∙ i.0.sixteen),
       e.1 _ i.1 n,
-      a.squeeze-written.auto.1.1.0 ∙ i.2,
+      c.squeeze_written-stride.auto.images ∙ i.2,
     )
 
-same-length-3 : tie.Need-same-length-3 invariant-loop decreases-loop
+same-length-3 : tie.Need-shape_of-store invariant-loop decreases-loop
 same-length-3 c = search rules
 
-same-length-4 : tie.Need-same-length-4 invariant-loop decreases-loop
+same-length-4 : tie.Need-shape_of-journal invariant-loop decreases-loop
 same-length-4 c = search rules
 
-returns-2 : tie.Need-returns-2 invariant-loop decreases-loop
-returns-2 c = working-spent (of_squeeze _) c.before.loop.invariant.0 c.loop-test.false
+returns-2 : tie.Need-returns invariant-loop decreases-loop
+returns-2 c = working-spent (of_squeeze _) c.loop-steps.invariant.0 c.loop-steps-test.false
 
-pub squeeze-sound-spec : {M : Type 1} → statement M
-squeeze-sound-spec =
+pub squeeze_sound_spec : {M : Type 1} → statement M
+squeeze_sound_spec =
     tie.close
     (tie.spec
     invariant-loop

@@ -12,44 +12,40 @@ use Rattle.index.proofs.squeezing.test_squeeze.Statement.{statement}
 use Rattle.index.proofs.squeezing.test_squeeze.Tie as tie
 
 -- store and journal
-abbrev given : tie.After-test-ready → Disk
-given c = let a = c.before.before.before.args in disk a.store.now a.journal.now
+abbrev given : tie.After-test_ready-test → Disk
+given c = let a = c.args in disk a.store.now a.journal.now
 
-bytes : (c : tie.After-test-ready) → Bytes (given c).store
-bytes c = λ i. omega (arith, c.before.before.shared-slice-known.given i)
+bytes : (c : tie.After-test_ready-test) → Bytes (given c).store
+bytes c = λ i. omega (arith, c.shared_slice_known-1.given i)
 
-good : (c : tie.After-enum-told)
-    → let t = c.before.before in
-    test_of (tested_with t.before.before.before.args.numbers (given t)) ≡ Test.Passed
-good c = sym c.before.before.test-ready.ensures ∙ c.enum_told.given.1
+good : (c : tie.In-Passed)
+    →
+    test_of (tested_with c.args.numbers (given c.before)) ≡ Test.Passed
+good c = sym c.test_ready-test.ensures ∙ c.in-Passed.is
 
-test-ready-requires : tie.Need-test-ready-requires
+test-ready-requires : tie.Need-test_ready-test-requires
 test-ready-requires c κs = search rules
 
-enum-known-test : tie.Need-enum-known-test
+enum-known-test : tie.Need-enum_known-test
 enum-known-test c = search rules
 
-enum_told : tie.Need-enum-told
+enum_told : tie.Need-enum_told-1
 enum_told c = search rules
 
-test-bucket-requires : tie.Need-test-bucket-requires
-test-bucket-requires c κs = ready-sound _ _ (bytes c.before.before) (good c)
+test-bucket-requires : tie.Need-test_bucket-requires
+test-bucket-requires c κs = ready-sound _ _ (bytes c.before) (good c)
 
-returns : tie.Need-returns
+returns : tie.Need-returns-in-Failed
 returns c =
-    let g = c.before in
-    let t = g.before.before in
-    let a = t.before.before.before.args in
-    early-fails (given t) a.bucket a.numbers _ (sym t.test-ready.ensures ∙ g.test.given.1)
+    let a = c.args in
+    early-fails (given c.before) a.bucket a.numbers _ (sym c.test_ready-test.ensures ∙ c.in-Failed.is)
 
-returns-2 : tie.Need-returns-2
+returns-2 : tie.Need-returns-in-Passed
 returns-2 c =
-    let e = c.before in
-    let t = e.before.before in
-    let a = t.before.before.before.args in
-    c.test-bucket.ensures ∙ early-passes (given t) a.bucket a.numbers (bytes t) (good e)
+    let a = c.args in
+    c.test_bucket.ensures ∙ early-passes (given c.before.before) a.bucket a.numbers (bytes c.before.before) (good c.before)
 
-pub test-squeeze-spec : {M : Type 1} → statement M
-test-squeeze-spec =
+pub test_squeeze_spec : {M : Type 1} → statement M
+test_squeeze_spec =
     tie.close
     (tie.spec test-ready-requires enum-known-test enum_told test-bucket-requires returns returns-2)

@@ -18,29 +18,27 @@ bad : (n l : Bool) (s : List ℕ) → n ≡ false → length_ok s ≡ l
 unfolding tested
 bad n l s e f = sym (λ i. test_of (tested_in (f i) (e i) (verdict s)))
 
-test-store-requires : tie.Need-test-store-requires
+test-store-requires : tie.Need-test_store-requires
 test-store-requires c κs = search rules
 
-returns : tie.Need-returns
+returns : tie.Need-returns-then-numbers
 returns c =
-    let a = c.before.before.before.args in
-    c.test-store.ensures ∙ ap (λ (n : Bool). test_of (tested n a.store.now)) (sym c.before.if1.true)
+    let a = c.args in
+    c.test_store.ensures ∙ ap (λ (n : Bool). test_of (tested n a.store.now)) (sym c.if-numbers.true)
 
-check-length-requires : tie.Need-check-length-requires
+check-length-requires : tie.Need-check_length-requires
 check-length-requires c κs = search rules
 
-returns-2 : tie.Need-returns-2
+returns-2 : tie.Need-returns-then-check_length
 returns-2 c =
-    let l = c.before in
-    let a = l.before.before.before.args in
-    bad a.numbers true a.store.now l.before.if1.false (sym l.check-length.ensures ∙ c.if2.true)
+    let a = c.args in
+    bad a.numbers true a.store.now c.if-numbers.false (sym c.check_length.ensures ∙ c.if-check_length.true)
 
-returns-3 : tie.Need-returns-3
+returns-3 : tie.Need-returns-else-check_length
 returns-3 c =
-    let l = c.before in
-    let a = l.before.before.before.args in
-    bad a.numbers false a.store.now l.before.if1.false (sym l.check-length.ensures ∙ c.if2.false)
+    let a = c.args in
+    bad a.numbers false a.store.now c.if-numbers.false (sym c.check_length.ensures ∙ c.if-check_length.false)
 
-pub test-call-spec : {M : Type 1} → statement M
-test-call-spec =
+pub test_call_spec : {M : Type 1} → statement M
+test_call_spec =
     tie.close (tie.spec test-store-requires returns check-length-requires returns-2 returns-3)

@@ -4,47 +4,43 @@ use Rattle.index.specs.TestedLaws.{test_from, test-verdict}
 use Rattle.index.proofs.tests.test_store.Statement.{statement}
 use Rattle.index.proofs.tests.test_store.Tie as tie
 
-verify-requires : tie.Need-verify-requires
+verify-requires : tie.Need-verify-verdict-requires
 verify-requires c κs = search rules
 
-enum_told : tie.Need-enum-told
+enum_told : tie.Need-enum_told-1
 enum_told c = search rules
 
-enum-known-verdict : tie.Need-enum-known-verdict
+enum-known-verdict : tie.Need-enum_known-verdict
 enum-known-verdict c = search rules
 
-enum-known-verdict-2 : tie.Need-enum-known-verdict-2
+enum-known-verdict-2 : tie.Need-enum_known-verdict-in-NotIndex-1
 enum-known-verdict-2 c = search rules
 
-enum-told-2 : tie.Need-enum-told-2
+enum-told-2 : tie.Need-enum_told-in-Sound
 enum-told-2 c = search rules
 
-returns : tie.Need-returns
+returns : tie.Need-returns-in-BadLength
 returns c =
-    let v = c.before.before in
-    sym (ap test_from c.enum_told.given.1) ∙ ap test_from v.verify.ensures
-    ∙ test-verdict v.before.before.args.store.now
+    sym (ap test_from c.in-BadLength.is) ∙ ap test_from c.verify-verdict.ensures
+    ∙ test-verdict c.args.store.now
 
-returns-2 : tie.Need-returns-2
+returns-2 : tie.Need-returns-in-Damaged
 returns-2 c =
-    let v = c.before.before.before in
-    sym (ap test_from c.before.verdict.given.1) ∙ ap test_from v.verify.ensures
-    ∙ test-verdict v.before.before.args.store.now
+    sym (ap test_from c.in-Damaged.is) ∙ ap test_from c.verify-verdict.ensures
+    ∙ test-verdict c.args.store.now
 
-returns-3 : tie.Need-returns-3
+returns-3 : tie.Need-returns-in-NotIndex
 returns-3 c =
-    let v = c.before.before.before in
-    sym (ap test_from c.before.verdict2.given.1) ∙ ap test_from v.verify.ensures
-    ∙ test-verdict v.before.before.args.store.now
+    sym (ap test_from c.in-NotIndex.is) ∙ ap test_from c.verify-verdict.ensures
+    ∙ test-verdict c.args.store.now
 
-returns-4 : tie.Need-returns-4
+returns-4 : tie.Need-returns-in-Sound
 returns-4 c =
-    let v = c.before.before in
-    sym (ap test_from c.enum-told2.given.1) ∙ ap test_from v.verify.ensures
-    ∙ test-verdict v.before.before.args.store.now
+    sym (ap test_from c.in-Sound.is) ∙ ap test_from c.verify-verdict.ensures
+    ∙ test-verdict c.args.store.now
 
-pub test-store-spec : {M : Type 1} → statement M
-test-store-spec =
+pub test_store_spec : {M : Type 1} → statement M
+test_store_spec =
     tie.close
     (tie.spec
     verify-requires

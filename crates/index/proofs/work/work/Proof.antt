@@ -13,61 +13,54 @@ use Rattle.index.proofs.work.work.Tie as tie
 use Rattle.index.proofs.work.work.Reads as reads
 
 -- store and journal
-abbrev given : tie.After-test-ready → Disk
-given c = let a = c.before.before.before.before.before.args in disk a.store.now a.journal.now
+abbrev given : tie.After-test_ready-test → Disk
+given c = let a = c.args in disk a.store.now a.journal.now
 
-bytes : (c : tie.After-test-ready) → Bytes (given c).store
-bytes c = λ i. omega (arith, c.before.before.before.before.slice-known.given i)
+bytes : (c : tie.After-test_ready-test) → Bytes (given c).store
+bytes c = λ i. omega (arith, c.slice_known-1.given i)
 
-good : (c : tie.After-enum-told)
-    → let t = c.before.before in
-    test_of (tested_with (budget_ok t.before.before.before.before.before.args.budget) (given t)) ≡ Test.Passed
-good c = sym c.before.before.test-ready.ensures ∙ c.enum_told.given.1
+good : (c : tie.In-Passed)
+    →
+    test_of (tested_with (budget_ok c.args.budget) (given c.before)) ≡ Test.Passed
+good c = sym c.test_ready-test.ensures ∙ c.in-Passed.is
 
-test-ready-requires : tie.Need-test-ready-requires
+test-ready-requires : tie.Need-test_ready-test-requires
 test-ready-requires c κs = search rules
 
-enum-known-test : tie.Need-enum-known-test
+enum-known-test : tie.Need-enum_known-test
 enum-known-test c = search rules
 
-enum_told : tie.Need-enum-told
+enum_told : tie.Need-enum_told-1
 enum_told c = search rules
 
-work-sound-requires : tie.Need-work-sound-requires
+work-sound-requires : tie.Need-work_sound-requires
 work-sound-requires c κs =
-    let u = c.before.before in
-    let t = u.before.before in
-    (ready-sound _ _ (bytes t) (good u), (passing _ _ (good u)).journal)
+    (ready-sound _ _ (bytes c.before.before.before) (good c.before.before), (passing _ _ (good c.before.before)).journal)
 
-same_length : tie.Need-same-length
+same_length : tie.Need-shape_of-store-in-Failed
 same_length c = search rules
 
-same-length-2 : tie.Need-same-length-2
+same-length-2 : tie.Need-shape_of-journal-in-Failed
 same-length-2 c = search rules
 
-returns : tie.Need-returns
+returns : tie.Need-returns-in-Failed
 returns c =
-    let k = c.before in
-    let t = k.before.before in
-    work-refused (given t) t.before.before.before.before.before.args.budget _
-    (sym t.test-ready.ensures ∙ k.test.given.1)
+    work-refused (given c.before) c.args.budget _
+    (sym c.test_ready-test.ensures ∙ c.in-Failed.is)
 
-same-length-3 : tie.Need-same-length-3
+same-length-3 : tie.Need-shape_of-store-in-Passed
 same-length-3 c = search rules
 
-same-length-4 : tie.Need-same-length-4
+same-length-4 : tie.Need-shape_of-journal-in-Passed
 same-length-4 c = search rules
 
-returns-2 : tie.Need-returns-2
+returns-2 : tie.Need-returns-in-Passed
 returns-2 c =
-    let w = c.before.before.before.before in
-    let u = w.before.before.before in
-    let t = u.before.before in
-    work-made (given t) t.before.before.before.before.before.args.budget (bytes t)
-    (good u) ∙ w.work-sound.ensures
+    work-made (given c.before.before.before.before.before.before.before.before) c.args.budget (bytes c.before.before.before.before.before.before.before.before)
+    (good c.before.before.before.before.before.before.before) ∙ c.work_sound.ensures
 
-pub work-spec : {M : Type 1} → statement M
-work-spec =
+pub work_spec : {M : Type 1} → statement M
+work_spec =
     tie.close
     (tie.spec
     test-ready-requires

@@ -14,96 +14,92 @@ eight : (c : tie.Start) → length c.args.change.numbers ≡ 8
 eight c = search rules
 
 -- the branch of a change of some blocks
-abbrev start : tie.Else1 → tie.Start
+abbrev start : tie.Else-count-eq0 → tie.Start
 start e = e.before.before.before.before
 
-some : (e : tie.Else1) → 1 ≤ (start e).args.change.count
-some e = omega (arith, e.if1.false)
+some : (e : tie.Else-count-eq0) → 1 ≤ (start e).args.change.count
+some e = omega (arith, e.if-count-eq0.false)
 
-few : (e : tie.Else1) → (start e).args.change.count ≤ 8
+few : (e : tie.Else-count-eq0) → (start e).args.change.count ≤ 8
 few e = (start e).requires.0.1.fits.few
 
 -- the list of block stores
-abbrev entered : tie.After-list-stores → tie.Else1
+abbrev entered : tie.After-list_stores → tie.Else-count-eq0
 entered w = w.before.before
 
-long : (w : tie.After-list-stores) → 5632 ≤ length w.list-stores.new.1.0
-long w = omega (arith, w.list-stores.auto.1.0)
+long : (w : tie.After-list_stores) → 5632 ≤ length w.list_stores.new.plan
+long w = omega (arith, w.list_stores.auto.plan)
 
-returns : tie.Need-returns
+returns : tie.Need-returns-then-count-eq0
 returns c =
-    let a = c.before.before.before.before.args in (
-      none-total a.store.now a.change a.images.now c.if1.true,
-      none-lays a.store.now a.change a.images.now c.if1.true a.buffer.now,
+    let a = c.args in (
+      none-total a.store.now a.change a.images.now c.if-count-eq0.true,
+      none-lays a.store.now a.change a.images.now c.if-count-eq0.true a.buffer.now,
     )
 
-slice-aggregate-list-stores : tie.Need-slice-aggregate-list-stores
+slice-aggregate-list-stores : tie.Need-slice_bounds-list_stores-end
 slice-aggregate-list-stores c = search rules
 
-list-stores-requires : tie.Need-list-stores-requires
+list-stores-requires : tie.Need-list_stores-requires
 list-stores-requires c κs =
-    let e = c.before in ((sound-first (start e).requires.0.0, few e), (refl, (start e).requires.1.1))
+    ((sound-first (start c.before).requires.0.0, few c.before), (refl, (start c.before).requires.1.1))
 
-mul-size : tie.Need-overflow-mul-size
+mul-size : tie.Need-overflow_mul-size
 mul-size c = search rules
 
-add-size : tie.Need-overflow-add-size
+add-size : tie.Need-overflow_add-size
 add-size c = search rules
 
-slice-relend-prefix-copy-over : tie.Need-slice-relend-prefix-copy-over
+slice-relend-prefix-copy-over : tie.Need-slice_bounds-copy_over-end
 slice-relend-prefix-copy-over c = search rules
 
-slice-aggregate-copy-over : tie.Need-slice-aggregate-copy-over
+slice-aggregate-copy-over : tie.Need-slice_bounds-copy_over-end-2
 slice-aggregate-copy-over c =
     let e = entered c.before.before in
-    sym (length-take-le _ _ (omega (arith, few e, (start e).pre.1.0)))
+    sym (length-take-le _ _ (omega (arith, few e, (start e).requires.1.0)))
 
-array-share-prefix-plan : tie.Need-array-share-prefix-plan
+array-share-prefix-plan : tie.Need-slice_bounds-plan-end
 array-share-prefix-plan c = search rules
 
-slice-aggregate-copy-over-2 : tie.Need-slice-aggregate-copy-over-2
+slice-aggregate-copy-over-2 : tie.Need-slice_bounds-copy_over-end-3
 slice-aggregate-copy-over-2 c =
-    let w = c.before.before.before in
-    sym (length-take-le _ _ (omega (arith, few (entered w), long w)))
+    sym (length-take-le _ _ (omega (arith, few (entered c.before.before.before), long c.before.before.before)))
 
-copy-over-requires : tie.Need-copy-over-requires
+copy-over-requires : tie.Need-copy_over-requires
 copy-over-requires c κs =
-    let w = c.before.before.before in
-    let e = entered w in
+    let e = entered c.before.before.before in
     length-take-le (1536 + 512 * (start e).args.change.count) (start e).args.buffer.now
-    (omega (arith, few e, (start e).pre.1.0))
-    ∙ sym (length-take-le (1536 + 512 * (start e).args.change.count) w.list-stores.new.1.0
-    (omega (arith, few e, long w)))
+    (omega (arith, few e, (start e).requires.1.0))
+    ∙ sym (length-take-le (1536 + 512 * (start e).args.change.count) c.list_stores.new.plan
+    (omega (arith, few e, long c.before.before.before)))
 
-cast-result : tie.Need-overflow-cast-result
+cast-result : tie.Need-overflow_cast-result
 cast-result c = search rules
 
-mul-result : tie.Need-overflow-mul-result
+mul-result : tie.Need-overflow_mul-result
 mul-result c = search rules
 
-add-result : tie.Need-overflow-add-result
+add-result : tie.Need-overflow_add-result
 add-result c = search rules
 
-same_length : tie.Need-same-length
+same_length : tie.Need-shape_of-buffer
 same_length c = search rules
 
-returns-2 : tie.Need-returns-2
+returns-2 : tie.Need-returns
 returns-2 c =
-    let p = c.before.before in
-    let w = p.before.before.before.before in
-    let e = entered w in
+    let e = entered c.before.before.before.before.before.before in
     let s = start e in
-    let r = s.pre.0.0 in
-    let a = s.pre.0.1 in
-    let l = w.list-stores.ensures in (
-      plan-total r a s.pre.1.1 (eight s) (some e) _ l (long w),
-      plan-lays r a s.pre.1.1 (eight s) (some e) _ l (long w) _ refl s.args.buffer.now _
+    let r = s.requires.0.0 in
+    let a = s.requires.0.1 in
+    let l = c.list_stores.ensures in (
+      plan-total r a s.requires.1.1 (eight s) (some e) _ l (long c.before.before.before.before.before.before),
+      plan-lays r a s.requires.1.1 (eight s) (some e) _ l (long c.before.before.before.before.before.before) _ refl s.args.buffer.now _
           (ap (λ (x : List ℕ). x ++ drop (1536 + 512 * s.args.change.count) s.args.buffer.now)
-          p.copy-over.ensures),
+          c.copy_over.ensures),
     )
 
-pub lay-change-spec : {M : Type 1} → statement M
-lay-change-spec =
+pub lay_change_spec : {M : Type 1} → statement M
+lay_change_spec =
     tie.close
     (tie.spec
     returns

@@ -14,128 +14,107 @@ use Rattle.insertion.specs.FreePageLaws.{free-small, free-under, free-first, bit
 use Rattle.insertion.proofs.put.put_in_free.Statement.{statement}
 use Rattle.insertion.proofs.put.put_in_free.Tie as tie
 
-cast-s : tie.Need-overflow-cast-s
+cast-s : tie.Need-overflow_cast-s
 cast-s c = search rules
 
-mul-top : tie.Need-overflow-mul-top
-mul-top c = omega (arith, point-low c.before.before.before.before.requires.0.leaves.reads)
+mul-top : tie.Need-offset_bounds-spares-s
+mul-top c = omega (arith, point-low c.requires.0.leaves.reads)
 
-array-read-top : tie.Need-array-read-top
-array-read-top c = omega (arith, point-low c.before.before.before.before.requires.0.leaves.reads)
+array-read-top : tie.Need-bounds-spares-s
+array-read-top c = omega (arith, point-low c.requires.0.leaves.reads)
 
-bit-block-requires : tie.Need-bit-block-requires
+bit-block-requires : tie.Need-bit_block-map-requires
 bit-block-requires c κs =
-    let r = c.before.before.before.before.requires.0.leaves.reads in
+    let r = c.requires.0.leaves.reads in
     bit-fits r 0 (top_one _ (reads-laid r))
 
-bit-block-requires-2 : tie.Need-bit-block-requires-2
+bit-block-requires-2 : tie.Need-bit_block-k-requires
 bit-block-requires-2 c κs =
-    let s = c.before.before.before.before.before in
-    bit-fits s.requires.0.leaves.reads s.args.n s.requires.1.0.1
+    bit-fits c.requires.0.leaves.reads c.args.n c.requires.1.0.1
 
 -- the blocks of the bitmap and of the page
-abbrev begin : tie.After-bit-block2 → tie.Start
+abbrev begin : tie.After-bit_block-k → tie.Start
 begin c = c.before.before.before.before.before.before
 
-map_is : (c : tie.After-bit-block2) → c.before.bit-block.result ≡ map_block (decode (begin c).args.store.now)
-map_is c = c.before.bit-block.ensures ∙ read-bit (begin c).requires.0.leaves.reads 0
+map_is : (c : tie.After-bit_block-k) → c.bit_block-map.result ≡ map_block (decode (begin c).args.store.now)
+map_is c = c.bit_block-map.ensures ∙ read-bit (begin c).requires.0.leaves.reads 0
 
-page-is : (c : tie.After-bit-block2)
-    → c.bit-block2.result ≡ block_of_bit (decode (begin c).args.store.now) (begin c).args.n
-page-is c = c.bit-block2.ensures ∙ read-bit (begin c).requires.0.leaves.reads (begin c).args.n
+page-is : (c : tie.After-bit_block-k)
+    → c.bit_block-k.result ≡ block_of_bit (decode (begin c).args.store.now) (begin c).args.n
+page-is c = c.bit_block-k.ensures ∙ read-bit (begin c).requires.0.leaves.reads (begin c).args.n
 
-map-under : (c : tie.After-bit-block2) → c.before.bit-block.result < blocks (begin c).args.store.now
+map-under : (c : tie.After-bit_block-k) → c.bit_block-map.result < blocks (begin c).args.store.now
 map-under c =
     let r = (begin c).requires.0.leaves.reads in
     omega (arith, map_is c, map-inside r, reads-size r)
 
-link-page-requires : tie.Need-link-page-requires
+link-page-requires : tie.Need-link_page-linked-requires
 link-page-requires c κs =
-    let k = c.before in
-    let s = begin k in
-    let h = s.pre.0 in (
-      ((reads_sized h.leaves.reads).whole, s.pre.1.1),
-      (last_under h, omega (arith, page-is k, free-under h s.pre.1.0)),
+    let s = begin c.before in
+    let h = s.requires.0 in (
+      ((reads_sized h.leaves.reads).whole, s.requires.1.1),
+      (last_under h, omega (arith, page-is c.before, free-under h s.requires.1.0)),
     )
 
-put-bit-requires : tie.Need-put-bit-requires
+put-bit-requires : tie.Need-put_bit-taken-requires
 put-bit-requires c κs =
-    let l = c.before.before.before in
-    let k = l.before.before in
-    let s = begin k in
-    let h = s.pre.0 in (
-      bit-ready h s.pre.1.0 (linked-at l.link-page.ensures h.page (page-is k)) _ (map_is k),
-      free-small h s.pre.1.0,
+    let s = begin c.before.before.before.before.before in
+    let h = s.requires.0 in (
+      bit-ready h s.requires.1.0 (linked-at c.link_page-linked.ensures h.page (page-is c.before.before.before.before.before)) _ (map_is c.before.before.before.before.before),
+      free-small h s.requires.1.0,
     )
 
-cast-block-at : tie.Need-overflow-cast-block-at
+cast-block-at : tie.Need-overflow_cast-map
 cast-block-at c = search rules
 
-block-at-requires : tie.Need-block-at-requires
+block-at-requires : tie.Need-block_at-requires
 block-at-requires c κs =
-    let k = c.before.before.before.before.before.before.before.before in
-    reads_whole (begin k).requires.0.leaves.reads _ (map-under k)
+    reads_whole (begin c.before.before.before.before.before.before.before.before).requires.0.leaves.reads _ (map-under c.before.before.before.before.before.before.before.before)
 
-next-free-requires : tie.Need-next-free-requires
+next-free-requires : tie.Need-next_free-free-requires
 next-free-requires c κs =
-    let k = c.before.before.before.before.before.before.before.before.before in
-    let s = begin k in
-    let h = s.pre.0 in
-    (rw c.block_at.ensures (reads-block h.leaves.reads _ (map-under k)), free-small h s.pre.1.0)
+    let s = begin c.before.before.before.before.before.before.before.before.before in
+    let h = s.requires.0 in
+    (rw c.block_at.ensures (reads-block h.leaves.reads _ (map-under c.before.before.before.before.before.before.before.before.before)), free-small h s.requires.1.0)
 
-with-fields-requires : tie.Need-with-fields-requires
+with-fields-requires : tie.Need-with_fields-requires
 with-fields-requires c κs = search rules
 
-put-fields-requires : tie.Need-put-fields-requires
+put-fields-requires : tie.Need-put_fields-change-requires
 put-fields-requires c κs =
-    let b = c.before.before.before.before.before.before in
-    let l = b.before.before.before.before in
-    let k = l.before.before in
-    let s = begin k in
-    let h = s.pre.0 in
-    free-fields h s.pre.1.0 (linked-at l.link-page.ensures h.page (page-is k)) _ (map_is k)
-    b.put-bit.ensures
+    let s = begin c.before.before.before.before.before.before.before.before.before.before.before.before in
+    let h = s.requires.0 in
+    free-fields h s.requires.1.0 (linked-at c.link_page-linked.ensures h.page (page-is c.before.before.before.before.before.before.before.before.before.before.before.before)) _ (map_is c.before.before.before.before.before.before.before.before.before.before.before.before)
+    c.put_bit-taken.ensures
 
-drop-unchanged-requires : tie.Need-drop-unchanged-requires
+drop-unchanged-requires : tie.Need-drop_unchanged-requires
 drop-unchanged-requires c κs =
-    let p = c.before.before.before in
-    let b = p.before.before.before.before.before.before.before in
-    let l = b.before.before.before.before in
-    let k = l.before.before in
-    let s = begin k in
-    let h = s.pre.0 in
+    let s = begin c.before.before.before.before.before.before.before.before.before.before.before.before.before.before.before.before in
+    let h = s.requires.0 in
     let w =
-    free-fields h s.pre.1.0 (linked-at l.link-page.ensures h.page (page-is k)) _ (map_is k)
-    b.put-bit.ensures in
-    let g = p.put-fields.ensures.draft w.0 w.1.draft in
+    free-fields h s.requires.1.0 (linked-at c.link_page-linked.ensures h.page (page-is c.before.before.before.before.before.before.before.before.before.before.before.before.before.before.before.before)) _ (map_is c.before.before.before.before.before.before.before.before.before.before.before.before.before.before.before.before)
+    c.put_bit-taken.ensures in
+    let g = c.put_fields-change.ensures.draft w.0 w.1.draft in
     (g.fits, g.eight)
 
-same_length : tie.Need-same-length
+same_length : tie.Need-shape_of-images
 same_length c =
-    let p = c.before.before.before.before.before.before in
-    let b = p.before.before.before.before.before.before.before in
-    let l = b.before.before.before.before in
-    c.before.before.drop-unchanged.auto.1.1.0 ∙ p.put-fields.auto.1.1.0 ∙ b.put-bit.auto.1.1.0
-    ∙ l.link-page.auto.1.1.1.1.1.0
+    c.drop_unchanged.auto.images ∙ c.put_fields-change.auto.images ∙ c.put_bit-taken.auto.images
+    ∙ c.link_page-linked.auto.images
 
 returns : tie.Need-returns
 returns c =
-    let p = c.before.before.before.before.before.before in
-    let n = p.before.before.before in
-    let b = n.before.before.before.before in
-    let l = b.before.before.before.before in
-    let k = l.before.before in
-    let s = begin k in
-    let h = s.pre.0 in
-    free-plans h s.pre.1.0 (linked-at l.link-page.ensures h.page (page-is k)) _ (map_is k)
-    b.put-bit.ensures _ _ p.before.with-fields.ensures
-    (n.next-free.ensures
-    ∙ free-first h s.pre.1.0 _ _ (n.before.block_at.ensures ∙ ap (block s.args.store.now) (map_is k))
+    let s = begin c.before.before.before.before.before.before.before.before.before.before.before.before.before.before.before.before.before.before.before in
+    let h = s.requires.0 in
+    free-plans h s.requires.1.0 (linked-at c.link_page-linked.ensures h.page (page-is c.before.before.before.before.before.before.before.before.before.before.before.before.before.before.before.before.before.before.before)) _ (map_is c.before.before.before.before.before.before.before.before.before.before.before.before.before.before.before.before.before.before.before)
+    c.put_bit-taken.ensures _ _ c.with_fields.ensures
+    (c.next_free-free.ensures
+    ∙ free-first h s.requires.1.0 _ _ (c.block_at.ensures ∙ ap (block s.args.store.now) (map_is c.before.before.before.before.before.before.before.before.before.before.before.before.before.before.before.before.before.before.before))
     (read-top h.leaves.reads))
-    p.put-fields.ensures c.before.before.drop-unchanged.ensures
+    c.put_fields-change.ensures c.drop_unchanged.ensures
 
-pub put-in-free-spec : {M : Type 1} → statement M
-put-in-free-spec =
+pub put_in_free_spec : {M : Type 1} → statement M
+put_in_free_spec =
     tie.close
     (tie.spec
     cast-s

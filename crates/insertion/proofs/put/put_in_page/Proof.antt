@@ -11,72 +11,63 @@ use Rattle.insertion.specs.PutLaws.{room-under, room-sorted, room-ready, room_fi
 use Rattle.insertion.proofs.put.put_in_page.Statement.{statement}
 use Rattle.insertion.proofs.put.put_in_page.Tie as tie
 
-block-at-requires : tie.Need-block-at-requires
+block-at-requires : tie.Need-block_at-requires
 block-at-requires c κs =
-    let h = c.before.before.requires.0.1 in
+    let h = c.requires.0.1 in
     reads_whole h.leaves.reads _ (room-under h)
 
-find-place-requires : tie.Need-find-place-requires
-find-place-requires c κs = rw c.block_at.ensures (room-sorted c.before.before.before.requires.0.1)
+find-place-requires : tie.Need-find_place-slot-requires
+find-place-requires c κs = rw c.block_at.ensures (room-sorted c.requires.0.1)
 
-new-draft-requires : tie.Need-new-draft-requires
+new-draft-requires : tie.Need-new_draft-requires
 new-draft-requires c κs = search rules
 
 -- the slot, and the draft of no edit
-abbrev begin : tie.After-new-draft → tie.Start
-begin c = c.before.before.before.before.before
+abbrev begin : tie.After-new_draft → tie.Start
+begin c = c.before.before.before.before.before.before
 
-slot_is : (c : tie.After-new-draft)
-    → c.before.find-place.result
+slot_is : (c : tie.After-new_draft)
+    → c.find_place-slot.result
     ≡ place_of (begin c).args.e.pair (entries_of (block (begin c).args.store.now (begin c).args.k))
 slot_is c =
-    c.before.find-place.ensures
-    ∙ ap (λ (l : List ℕ). place_of (begin c).args.e.pair (entries_of l)) c.before.before.block_at.ensures
+    c.find_place-slot.ensures
+    ∙ ap (λ (l : List ℕ). place_of (begin c).args.e.pair (entries_of l)) c.block_at.ensures
 
-start : (c : tie.After-new-draft)
-    → Draft (begin c).args.store.now c.new-draft.result (begin c).args.images.now (begin c).args.store.now
+start : (c : tie.After-new_draft)
+    → Draft (begin c).args.store.now c.new_draft.result (begin c).args.images.now (begin c).args.store.now
 start c =
     let s = begin c in
-    c.new-draft.ensures.1 s.args.store.now s.args.images.now
-    (reads_sized s.pre.0.1.leaves.reads).whole s.pre.1
+    c.new_draft.ensures.1 s.args.store.now s.args.images.now
+    (reads_sized s.requires.0.1.leaves.reads).whole s.requires.1
 
-insert-at-requires : tie.Need-insert-at-requires
+insert-at-requires : tie.Need-insert_at-page-requires
 insert-at-requires c κs =
-    let n = c.before in
-    room-ready (begin n).requires.0.1 _ (slot_is n) (start n) n.new-draft.ensures.0
+    room-ready (begin c.before).requires.0.1 _ (slot_is c.before) (start c.before) c.new_draft.ensures.0
 
-with-fields-requires : tie.Need-with-fields-requires
+with-fields-requires : tie.Need-with_fields-requires
 with-fields-requires c κs = search rules
 
-put-fields-requires : tie.Need-put-fields-requires
+put-fields-requires : tie.Need-put_fields-change-requires
 put-fields-requires c κs =
-    let i = c.before.before.before.before.before in
-    let n = i.before.before in
-    room_fields (begin n).requires.0.1 _ (slot_is n) (start n) n.new-draft.ensures.0 i.insert-at.ensures
+    room_fields (begin c.before.before.before.before.before.before.before).requires.0.1 _ (slot_is c.before.before.before.before.before.before.before) (start c.before.before.before.before.before.before.before) c.new_draft.ensures.0 c.insert_at-page.ensures
 
-drop-unchanged-requires : tie.Need-drop-unchanged-requires
+drop-unchanged-requires : tie.Need-drop_unchanged-requires
 drop-unchanged-requires c κs =
-    let p = c.before.before.before in
-    let i = p.before.before.before.before.before.before in
-    let n = i.before.before in
     let w =
-    room_fields (begin n).requires.0.1 _ (slot_is n) (start n) n.new-draft.ensures.0 i.insert-at.ensures in
-    let g = p.put-fields.ensures.draft w.0 w.1.draft in
+    room_fields (begin c.before.before.before.before.before.before.before.before.before.before.before).requires.0.1 _ (slot_is c.before.before.before.before.before.before.before.before.before.before.before) (start c.before.before.before.before.before.before.before.before.before.before.before) c.new_draft.ensures.0 c.insert_at-page.ensures in
+    let g = c.put_fields-change.ensures.draft w.0 w.1.draft in
     (g.fits, g.eight)
 
-same_length : tie.Need-same-length
+same_length : tie.Need-shape_of-images
 same_length c = search rules
 
 returns : tie.Need-returns
 returns c =
-    let p = c.before.before.before.before.before.before in
-    let i = p.before.before.before.before.before.before in
-    let n = i.before.before in
-    λ b h. room-plans h _ (slot_is n) (start n) n.new-draft.ensures.0 i.insert-at.ensures _
-    p.before.with-fields.ensures p.put-fields.ensures c.before.before.drop-unchanged.ensures
+    λ b h. room-plans h _ (slot_is c.before.before.before.before.before.before.before.before.before.before.before.before.before.before) (start c.before.before.before.before.before.before.before.before.before.before.before.before.before.before) c.new_draft.ensures.0 c.insert_at-page.ensures _
+    c.with_fields.ensures c.put_fields-change.ensures c.drop_unchanged.ensures
 
-pub put-in-page-spec : {M : Type 1} → statement M
-put-in-page-spec =
+pub put_in_page_spec : {M : Type 1} → statement M
+put_in_page_spec =
     tie.close
     (tie.spec
     block-at-requires

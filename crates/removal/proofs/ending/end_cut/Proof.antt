@@ -15,105 +15,83 @@ use Rattle.removal.proofs.Closing.{map-start, meta-ready, last-draft, planned}
 use Rattle.removal.proofs.ending.end_cut.Statement.{statement}
 use Rattle.removal.proofs.ending.end_cut.Tie as tie
 
-bit-block-requires : tie.Need-bit-block-requires
+bit-block-requires : tie.Need-bit_block-map-requires
 bit-block-requires c κs =
-    let s = c.before.before.before in
-    let r = s.requires.1.reads in
+    let r = c.requires.1.reads in
     let a = reads-addressed r in
     (omega (arith, a.low), omega (arith, read-bit r 0, map-inside r, (reads-laid r).size))
 
 -- the bitmap's block
-map_at_lem : (c : tie.After-bit-block) (y : Index)
-    → Ending c.before.before.before.before.args.store.now c.before.before.before.before.args.m
-    c.before.before.before.before.args.change c.before.before.before.before.args.images.now
-    c.before.before.before.before.args.held c.before.before.before.before.args.first
-    c.before.before.before.before.args.second y
-    → c.bit-block.result ≡ map_block (decode c.before.before.before.before.args.store.now)
-map_at_lem c y e = c.bit-block.ensures ∙ read-bit e.reads 0
+map_at_lem : (c : tie.After-bit_block-map) (y : Index)
+    → Ending c.args.store.now c.args.m
+    c.args.change c.args.images.now
+    c.args.held c.args.first
+    c.args.second y
+    → c.bit_block-map.result ≡ map_block (decode c.args.store.now)
+map_at_lem c y e = c.bit_block-map.ensures ∙ read-bit e.reads 0
 
-clear-bit-requires : tie.Need-clear-bit-requires
+clear-bit-requires : tie.Need-clear_bit-once-requires
 clear-bit-requires c κs =
-    let k = c.before in
-    let s = k.before.before.before.before in
-    let e = s.requires.1 in
-    (e.below.0, (_, _, map-start e (map_at_lem k s.requires.0 e)))
+    let e = c.requires.1 in
+    (e.below.0, (_, _, map-start e (map_at_lem c.before c.requires.0 e)))
 
-clear-bit-requires-2 : tie.Need-clear-bit-requires-2
+clear-bit-requires-2 : tie.Need-clear_bit-twice-requires
 clear-bit-requires-2 c κs =
-    let o = c.before.before.before in
-    let k = o.before.before in
-    let s = k.before.before.before.before in
-    let e = s.requires.1 in
-    (e.below.1, (_, _, (o.clear-bit.ensures _ _ (map-start e (map_at_lem k s.requires.0 e))).sketch))
+    let e = c.requires.1 in
+    (e.below.1, (_, _, (c.clear_bit-once.ensures _ _ (map-start e (map_at_lem c.before.before.before.before.before c.requires.0 e))).sketch))
 
-lower-free-requires : tie.Need-lower-free-requires
+lower-free-requires : tie.Need-lower_free-requires
 lower-free-requires c κs = search rules
 
-lower-free-requires-2 : tie.Need-lower-free-requires-2
+lower-free-requires-2 : tie.Need-lower_free-free-requires
 lower-free-requires-2 c κs = search rules
 
-with-fields-requires : tie.Need-with-fields-requires
+with-fields-requires : tie.Need-with_fields-requires
 with-fields-requires c κs = search rules
 
-put-fields-requires : tie.Need-put-fields-requires
+put-fields-requires : tie.Need-put_fields-ended-requires
 put-fields-requires c κs =
-    let t = c.before.before.before.before.before.before in
-    let o = t.before.before.before.before in
-    let k = o.before.before in
-    let s = k.before.before.before.before in
-    let e = s.requires.1 in
-    let q = map_at_lem k s.requires.0 e in
-    let a = o.clear-bit.ensures _ _ (map-start e q) in
-    let b = t.clear-bit2.ensures _ _ a.sketch in
+    let e = c.requires.1 in
+    let q = map_at_lem c.before.before.before.before.before.before.before.before.before.before.before.before c.requires.0 e in
+    let a = c.clear_bit-once.ensures _ _ (map-start e q) in
+    let b = c.clear_bit-twice.ensures _ _ a.sketch in
     (_, meta-ready e q a b)
 
-abbrev from : tie.After-put-fields → tie.Start
-from c =
-    c.before.before.before.before.before.before.before.before.before.before.before.before.before.before.before.before.before
+abbrev from : tie.After-put_fields-ended → tie.Start
+from c = c.before.before.before.before.before.before.before.before.before.before.before.before.before.before.before.before.before
 
 -- the fields that are written
-fields : (c : tie.After-put-fields) → c.before.with-fields.result
+fields : (c : tie.After-put_fields-ended) → c.with_fields.result
     ≡ fields_after (from c).args.m (from c).args.held
     (lowers (from c).args.second (lowers (from c).args.first (from c).args.m.free))
 fields c =
-    let l = c.before.before.before in
-    c.before.with-fields.ensures
+    c.with_fields.ensures
     ∙ ap (fields_after (from c).args.m (from c).args.held)
-    (l.lower-free2.ensures ∙ ap (lowers (from c).args.second) l.before.lower-free.ensures)
+    (c.lower_free-free.ensures ∙ ap (lowers (from c).args.second) c.lower_free.ensures)
 
-drop-unchanged-requires : tie.Need-drop-unchanged-requires
+drop-unchanged-requires : tie.Need-drop_unchanged-requires
 drop-unchanged-requires c κs =
-    let f = c.before.before.before in
-    let t = f.before.before.before.before.before.before.before in
-    let o = t.before.before.before.before in
-    let k = o.before.before in
-    let s = k.before.before.before.before in
-    let e = s.requires.1 in
-    let q = map_at_lem k s.requires.0 e in
-    let a = o.clear-bit.ensures _ _ (map-start e q) in
-    let b = t.clear-bit2.ensures _ _ a.sketch in
-    let d = last-draft e q a b f.before.with-fields.result (fields f) f.put-fields.ensures in
+    let e = c.requires.1 in
+    let q = map_at_lem c.before.before.before.before.before.before.before.before.before.before.before.before.before.before.before.before c.requires.0 e in
+    let a = c.clear_bit-once.ensures _ _ (map-start e q) in
+    let b = c.clear_bit-twice.ensures _ _ a.sketch in
+    let d = last-draft e q a b c.with_fields.result (fields c.before.before.before) c.put_fields-ended.ensures in
     (d.fits, d.eight)
 
-same_length : tie.Need-same-length
+same_length : tie.Need-shape_of-images
 same_length c = search rules
 
 returns : tie.Need-returns
 returns c y e =
-    let u = c.before.before in
-    let f = u.before.before.before.before in
-    let t = f.before.before.before.before.before.before.before in
-    let o = t.before.before.before.before in
-    let k = o.before.before in
-    let q = map_at_lem k y e in
-    let a = o.clear-bit.ensures _ _ (map-start e q) in
-    let b = t.clear-bit2.ensures _ _ a.sketch in
-    let n = f.before.with-fields.result in
-    planned e q a b n (fields f) f.put-fields.ensures
-    (u.drop-unchanged.ensures _ (last-draft e q a b n (fields f) f.put-fields.ensures))
+    let q = map_at_lem c.before.before.before.before.before.before.before.before.before.before.before.before.before.before.before.before.before.before.before y e in
+    let a = c.clear_bit-once.ensures _ _ (map-start e q) in
+    let b = c.clear_bit-twice.ensures _ _ a.sketch in
+    let n = c.with_fields.result in
+    planned e q a b n (fields c.before.before.before.before.before.before) c.put_fields-ended.ensures
+    (c.drop_unchanged.ensures _ (last-draft e q a b n (fields c.before.before.before.before.before.before) c.put_fields-ended.ensures))
 
-pub end-cut-spec : {M : Type 1} → statement M
-end-cut-spec =
+pub end_cut_spec : {M : Type 1} → statement M
+end_cut_spec =
     tie.close
     (tie.spec
     bit-block-requires

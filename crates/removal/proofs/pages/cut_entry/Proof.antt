@@ -13,70 +13,60 @@ use Rattle.removal.specs.FreedLaws.{freeable, sketches-freed}
 use Rattle.removal.proofs.pages.cut_entry.Statement.{statement}
 use Rattle.removal.proofs.pages.cut_entry.Tie as tie
 
-freed-by-requires : tie.Need-freed-by-requires
+freed-by-requires : tie.Need-freed_by-freed-requires
 freed-by-requires c κs =
-    let h = c.before.before.requires.4 in
+    let h = c.requires.4 in
     (h.findable.reads, block_within h)
 
 -- what is freed
-freed-is : (c : tie.After-freed-by) (n b : ℕ) (p : Pair) (x : Index)
-    → Cuttable c.before.before.before.args.store.now c.before.before.before.args.m
-    c.before.before.before.args.change c.before.before.before.args.images.now
-    c.before.before.before.args.k c.before.before.before.args.slot n b p x
-    → c.freed-by.result ≡ freed_at x b p
-freed-is c n b p x h = c.freed-by.ensures ∙ emptied-here h
+freed-is : (c : tie.After-freed_by-freed) (n b : ℕ) (p : Pair) (x : Index)
+    → Cuttable c.args.store.now c.args.m
+    c.args.change c.args.images.now
+    c.args.k c.args.slot n b p x
+    → c.freed_by-freed.result ≡ freed_at x b p
+freed-is c n b p x h = c.freed_by-freed.ensures ∙ emptied-here h
 
-enum_told : tie.Need-enum-told
+enum_told : tie.Need-enum_told-1
 enum_told c = search rules
 
-free-page-requires : tie.Need-free-page-requires
+free-page-requires : tie.Need-free_page-after-requires
 free-page-requires c κs =
-    let t = c.before in
-    let w = t.before.before in
-    let a = w.before.before.before.requires in
+    let a = c.requires in
     let h = a.4 in
-    let e = freed-is w a.0 a.1 a.2 a.3 h in (
+    let e = freed-is c.before.before a.0 a.1 a.2 a.3 h in (
       h.findable.sketches.d,
       a.0,
-      freeable h (freed-some a.3 a.1 a.2 _ (sym e ∙ t.enum_told.given.1)),
+      freeable h (freed-some a.3 a.1 a.2 _ (sym e ∙ c.in-Bit.is)),
     )
 
-enum-told-2 : tie.Need-enum-told-2
+enum-told-2 : tie.Need-enum_told-in-Nothing
 enum-told-2 c = search rules
 
-remove-at-requires : tie.Need-remove-at-requires
+remove-at-requires : tie.Need-remove_at-after-requires
 remove-at-requires c κs =
-    let t = c.before in
-    let w = t.before.before in
-    let h = w.before.before.before.requires.4 in
+    let h = c.requires.4 in
     let f = h.findable in
     (f.sketches.d, ready f.sketches.sketch _ (block_within h) (omega (arith, f.few)), held-here h)
 
-same_length : tie.Need-same-length
+same_length : tie.Need-shape_of-images-in-Bit
 same_length c = search rules
 
-returns : tie.Need-returns
+returns : tie.Need-returns-in-Bit
 returns c n b p x h =
-    let g = c.before.before in
-    let t = g.before.before in
-    let w = t.before.before in
-    let e = freed-is w n b p x h in
-    let goes = freed-some x b p _ (sym e ∙ t.enum_told.given.1) in
-    (e, sketches-freed h goes (g.free-page.ensures h.findable.sketches.d n (freeable h goes)))
+    let e = freed-is c.before.before.before.before.before n b p x h in
+    let goes = freed-some x b p _ (sym e ∙ c.in-Bit.is) in
+    (e, sketches-freed h goes (c.free_page-after.ensures h.findable.sketches.d n (freeable h goes)))
 
-same-length-2 : tie.Need-same-length-2
+same-length-2 : tie.Need-shape_of-images-in-Nothing
 same-length-2 c = search rules
 
-returns-2 : tie.Need-returns-2
+returns-2 : tie.Need-returns-in-Nothing
 returns-2 c n b p x h =
-    let g = c.before.before in
-    let t = g.before.before in
-    let w = t.before.before in
-    let e = freed-is w n b p x h in
-    (e, sketches-thinned h (freed-none x b p (sym e ∙ t.enum-told2.given.1)) g.remove-at.ensures)
+    let e = freed-is c.before.before.before.before.before n b p x h in
+    (e, sketches-thinned h (freed-none x b p (sym e ∙ c.in-Nothing.is)) c.remove_at-after.ensures)
 
-pub cut-entry-spec : {M : Type 1} → statement M
-cut-entry-spec =
+pub cut_entry_spec : {M : Type 1} → statement M
+cut_entry_spec =
     tie.close
     (tie.spec
     freed-by-requires

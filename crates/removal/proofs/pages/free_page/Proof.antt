@@ -10,70 +10,59 @@ use Rattle.removal.proofs.Unlinking.{pass-ready, back-ready, clear-ready, freein
 use Rattle.removal.proofs.pages.free_page.Statement.{statement}
 use Rattle.removal.proofs.pages.free_page.Tie as tie
 
-block-at-requires : tie.Need-block-at-requires
+block-at-requires : tie.Need-block_at-page-requires
 block-at-requires c κs =
-    let a = c.before.before.requires.2 in
+    let a = c.requires.2 in
     omega (arith, a.inside, a.sketch.draft.whole)
 
-full : (c : tie.After-block-at) → length c.block_at.result.now ≡ 512
+full : (c : tie.After-block_at-page) → length c.block_at-page.result.now ≡ 512
 full c =
-    let s = c.before.before.before in
-    let a = s.requires.2 in
-    ap length c.block_at.ensures
-    ∙ length-block s.args.store.now s.args.k (omega (arith, a.inside, a.sketch.draft.whole))
+    let a = c.requires.2 in
+    ap length c.block_at-page.ensures
+    ∙ length-block c.args.store.now c.args.k (omega (arith, a.inside, a.sketch.draft.whole))
 
-prev-at-requires : tie.Need-prev-at-requires
+prev-at-requires : tie.Need-prev_at-prev-requires
 prev-at-requires c κs = full c
 
-next-at-requires : tie.Need-next-at-requires
+next-at-requires : tie.Need-next_at-next-requires
 next-at-requires c κs = full c.before
 
 -- the links of the page
-prev-is : (c : tie.After-next-at) → prev_at (block c.before.before.before.before.before.args.store.now
-    c.before.before.before.before.before.args.k) ≡ c.before.prev-at.result
-prev-is c = sym (c.before.prev-at.ensures ∙ ap prev_at c.before.before.block_at.ensures)
+prev-is : (c : tie.After-next_at-next) → prev_at (block c.args.store.now
+    c.args.k) ≡ c.prev_at-prev.result
+prev-is c = sym (c.prev_at-prev.ensures ∙ ap prev_at c.block_at-page.ensures)
 
-next-is : (c : tie.After-next-at) → next_at (block c.before.before.before.before.before.args.store.now
-    c.before.before.before.before.before.args.k) ≡ c.next-at.result
-next-is c = sym (c.next-at.ensures ∙ ap next_at c.before.before.block_at.ensures)
+next-is : (c : tie.After-next_at-next) → next_at (block c.args.store.now
+    c.args.k) ≡ c.next_at-next.result
+next-is c = sym (c.next_at-next.ensures ∙ ap next_at c.block_at-page.ensures)
 
-put-next-requires : tie.Need-put-next-requires
+put-next-requires : tie.Need-put_next-passed-requires
 put-next-requires c κs =
-    let w = c.before in
-    let a = w.before.before.before.before.before.requires in
-    (a.0, pass-ready a.2 (prev-is w) (next-is w))
+    let a = c.requires in
+    (a.0, pass-ready a.2 (prev-is c.before) (next-is c.before))
 
-link-back-requires : tie.Need-link-back-requires
+link-back-requires : tie.Need-link_back-linked-requires
 link-back-requires c κs =
-    let n = c.before.before.before in
-    let w = n.before.before in
-    let a = w.before.before.before.before.before.requires in
-    (_, suc a.1, back-ready a.2 (prev-is w) (next-is w) n.put_next.ensures)
+    let a = c.requires in
+    (_, suc a.1, back-ready a.2 (prev-is c.before.before.before.before.before) (next-is c.before.before.before.before.before) c.put_next-passed.ensures)
 
-clear-block-requires : tie.Need-clear-block-requires
+clear-block-requires : tie.Need-clear_block-requires
 clear-block-requires c κs =
-    let l = c.before.before.before in
-    let n = l.before.before.before.before in
-    let w = n.before.before in
-    let a = w.before.before.before.before.before.requires in
-    let b = back-ready a.2 (prev-is w) (next-is w) n.put_next.ensures in
-    (_, clear-ready a.2 (prev-is w) (next-is w) n.put_next.ensures (l.link-back.ensures _ (suc a.1) b))
+    let a = c.requires in
+    let b = back-ready a.2 (prev-is c.before.before.before.before.before.before.before.before.before) (next-is c.before.before.before.before.before.before.before.before.before) c.put_next-passed.ensures in
+    (_, clear-ready a.2 (prev-is c.before.before.before.before.before.before.before.before.before) (next-is c.before.before.before.before.before.before.before.before.before) c.put_next-passed.ensures (c.link_back-linked.ensures _ (suc a.1) b))
 
-same_length : tie.Need-same-length
+same_length : tie.Need-shape_of-images
 same_length c = search rules
 
 returns : tie.Need-returns
 returns c d i a =
-    let e = c.before.before in
-    let l = e.before.before.before.before in
-    let n = l.before.before.before.before in
-    let w = n.before.before in
-    let b = back-ready a (prev-is w) (next-is w) n.put_next.ensures in
-    freeing a (prev-is w) (next-is w) n.put_next.ensures (l.link-back.ensures _ (suc i) b)
-    e.clear-block.ensures
+    let b = back-ready a (prev-is c.before.before.before.before.before.before.before.before.before.before.before.before) (next-is c.before.before.before.before.before.before.before.before.before.before.before.before) c.put_next-passed.ensures in
+    freeing a (prev-is c.before.before.before.before.before.before.before.before.before.before.before.before) (next-is c.before.before.before.before.before.before.before.before.before.before.before.before) c.put_next-passed.ensures (c.link_back-linked.ensures _ (suc i) b)
+    c.clear_block.ensures
 
-pub free-page-spec : {M : Type 1} → statement M
-free-page-spec =
+pub free_page_spec : {M : Type 1} → statement M
+free_page_spec =
     tie.close
     (tie.spec
     block-at-requires

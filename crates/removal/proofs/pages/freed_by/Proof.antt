@@ -41,67 +41,61 @@ is-bit (bucket_page b) i n e = let z : ◌≡◌ {A = ℕ} 0 1 = cc in absurd (o
 is-bit (bit_page j) i n e = let q : j ≡ i = cc in ap (λ (j : ℕ). emptied (bit_page j) n) q
 is-bit unmade i n e = let z : ◌≡◌ {A = ℕ} 0 1 = cc in absurd (omega arith)
 
-role-of-requires : tie.Need-role-of-requires
+role-of-requires : tie.Need-role_of-role-requires
 role-of-requires c κs =
-    let s = c.before.before in
-    let m = s.args.m in
-    let a = reads-addressed s.requires.0 in
+    let m = c.args.m in
+    let a = reads-addressed c.requires.0 in
     (a.low, spares-wider (take (suc m.point) m.spares) m.point max_blocks (2 ^ 32) (omega arith) a.spares)
 
-enum-known-role : tie.Need-enum-known-role
+enum-known-role : tie.Need-enum_known-role
 enum-known-role c = search rules
 
-returns : tie.Need-returns
+returns : tie.Need-returns-in_default
 returns c =
-    let s = c.before.before.before.before in
-    let r = c.before.role-of in
-    not-bit (role_of s.args.m.spares s.args.m.point s.args.k) _
+    let r = c.role_of-role in
+    not-bit (role_of c.args.m.spares c.args.m.point c.args.k) _
     (subst (λ (t : BlockRole). OneOf (0 ∷ 1 ∷ 3 ∷ []) (Declared.tag_of block-role.the_type t)) r.ensures
-    c.match.keys2)
+    c.in_default.in_default-own.keys2)
 
-block-at-requires : tie.Need-block-at-requires
+block-at-requires : tie.Need-block_at-requires
 block-at-requires c κs =
-    let s = c.before.before.before.before.before.before in
-    reads_whole s.requires.0 s.args.k s.requires.1
+    reads_whole c.requires.0 c.args.k c.requires.1
 
-count-entries-requires : tie.Need-count-entries-requires
+count-entries-requires : tie.Need-count_entries-requires
 count-entries-requires c κs =
-    let s = c.before.before.before.before.before.before.before in
-    ap length c.block_at.ensures ∙ reads-block s.requires.0 s.args.k s.requires.1
+    ap length c.block_at.ensures ∙ reads-block c.requires.0 c.args.k c.requires.1
 
 -- what an overflow page of n entries frees
-counted : (c : tie.After-count-entries)
-    → emptied (role_of c.before.before.before.before.before.before.before.before.args.m.spares
-    c.before.before.before.before.before.before.before.before.args.m.point
-    c.before.before.before.before.before.before.before.before.args.k)
-    (u16_at (block c.before.before.before.before.before.before.before.before.args.store.now
-    c.before.before.before.before.before.before.before.before.args.k) 0)
-    ≡ emptied (bit_page c.before.before.before.role.given.0.0) c.count_entries.result
+counted : (c : tie.After-count_entries)
+    → emptied (role_of c.args.m.spares
+    c.args.m.point
+    c.args.k)
+    (u16_at (block c.args.store.now
+    c.args.k) 0)
+    ≡ emptied (bit_page c.in-Bit.bit) c.count_entries.result
 counted c =
-    let g = c.before.before.before in
-    let r = g.before.before in
-    let a = r.before.before.before.args in
-    is-bit (role_of a.m.spares a.m.point a.k) g.role.given.0.0
-    (u16_at (block a.store.now a.k) 0) (sym r.role-of.ensures ∙ g.role.given.1)
-    ∙ ap (emptied (bit_page g.role.given.0.0))
-    (sym (c.count_entries.ensures ∙ ap (λ (l : List ℕ). u16_at l 0) c.before.block_at.ensures))
+    let a = c.args in
+    is-bit (role_of a.m.spares a.m.point a.k) c.in-Bit.bit
+    (u16_at (block a.store.now a.k) 0) (sym c.role_of-role.ensures ∙ c.in-Bit.is)
+    ∙ ap (emptied (bit_page c.in-Bit.bit))
+    (sym (c.count_entries.ensures ∙ ap (λ (l : List ℕ). u16_at l 0) c.block_at.ensures))
 
-returns-2 : tie.Need-returns-2
+returns-2 : tie.Need-returns-then-count_entries-eq1
 returns-2 c =
-    let i = c.before.before.before.before.role.given.0.0 in
+    let i = c.in-Bit.bit in
     sym (counted c.before
     ∙ ap (λ (e : Bool). cond e (Freed.Bit i) Freed.Nothing)
-    (eq-eqb c.before.count_entries.result 1 c.if1.true))
+    (eq-eqb c.count_entries.result 1 c.if-count_entries-eq1.true))
 
-returns-3 : tie.Need-returns-3
+returns-3 : tie.Need-returns-else-count_entries-eq1
 returns-3 c =
-    let i = c.before.before.before.before.role.given.0.0 in
+    let i = c.in-Bit.bit in
     sym (counted c.before
     ∙ ap (λ (e : Bool). cond e (Freed.Bit i) Freed.Nothing)
-    (ne_eqb c.before.count_entries.result 1 c.if1.false))
+    (ne_eqb c.count_entries.result 1 c.if-count_entries-eq1.false))
 
-pub freed-by-spec : {M : Type 1} → statement M
-freed-by-spec =
+pub freed_by_spec : {M : Type 1} → statement M
+freed_by_spec =
     tie.close
     (tie.spec
     role-of-requires

@@ -17,135 +17,112 @@ use Rattle.split.specs.BegunLaws.{begun-linked, begun-last}
 use Rattle.split.proofs.begin.begin_pages.Statement.{statement}
 use Rattle.split.proofs.begin.begin_pages.Tie as tie
 
-add-new : tie.Need-overflow-add-new
-add-new c = omega (arith, reads-low c.before.before.before.before.requires.0.0)
+add-new : tie.Need-overflow_add-new
+add-new c = omega (arith, reads-low c.requires.0.0)
 
-parent-of-requires : tie.Need-parent-of-requires
+parent-of-requires : tie.Need-parent_of-old-requires
 parent-of-requires c κs = search rules
 
 -- the old bucket, and the two blocks
-is-old : (c : tie.After-parent-of)
-    → let s = c.before.before.before.before.before.args.store.now in c.parent_of.result ≡ parent_bucket s
+is-old : (c : tie.After-parent_of-old)
+    → let s = c.args.store.now in c.parent_of-old.result ≡ parent_bucket s
 is-old c =
-    let s = c.before.before.before.before.before in
-    c.parent_of.ensures ∙ ap split_from (new-read s.requires.0.0 s.requires.1.0 s.requires.1.1)
+    c.parent_of-old.ensures ∙ ap split_from (new-read c.requires.0.0 c.requires.1.0 c.requires.1.1)
 
-old : (c : tie.After-parent-of) → c.parent_of.result ≤ c.before.before.before.before.before.args.m.max
+old : (c : tie.After-parent_of-old) → c.parent_of-old.result ≤ c.args.m.max
 old c =
-    let s = c.before.before.before.before.before in
-    subst (λ (k : ℕ). k ≤ s.args.m.max) (sym (is-old c)) (old-under s.requires.0.0 s.requires.1.0 s.requires.1.1)
+    subst (λ (k : ℕ). k ≤ c.args.m.max) (sym (is-old c)) (old-under c.requires.0.0 c.requires.1.0 c.requires.1.1)
 
-bucket-block-requires : tie.Need-bucket-block-requires
+bucket-block-requires : tie.Need-bucket_block-to-requires
 bucket-block-requires c κs =
-    let s = c.before.before.before.before.before in
-    new-fits s.requires.0.0 s.requires.1.0 s.requires.1.1
+    new-fits c.requires.0.0 c.requires.1.0 c.requires.1.1
 
-home-of-requires : tie.Need-home-of-requires
+home-of-requires : tie.Need-home_of-from-requires
 home-of-requires c κs =
-    let p = c.before in
-    let s = p.before.before.before.before.before in
-    (known-addressed (reads_known s.requires.0.0), old p)
+    (known-addressed (reads_known c.requires.0.0), old c.before)
 
-to_is : (c : tie.After-bucket-block)
-    → let s = c.before.before.before.before.before.before.args.store.now in c.bucket-block.result
+to_is : (c : tie.After-bucket_block-to)
+    → let s = c.args.store.now in c.bucket_block-to.result
     ≡ bucket_at s (next_bucket s)
 to_is c =
-    let s = c.before.before.before.before.before.before in
-    c.bucket-block.ensures ∙ new-block s.requires.0.0 s.requires.1.0 s.requires.1.1
+    c.bucket_block-to.ensures ∙ new-block c.requires.0.0 c.requires.1.0 c.requires.1.1
 
-from_is : (c : tie.After-home-of)
-    → let s = c.before.before.before.before.before.before.before.args.store.now in c.Home-of.result
+from_is : (c : tie.After-home_of-from)
+    → let s = c.args.store.now in c.home_of-from.result
     ≡ bucket_at s (parent_bucket s)
 unfolding decode
 from_is c =
-    let p = c.before.before in
-    let s = p.before.before.before.before.before in
-    let k = reads_known s.requires.0.0 in
-    c.Home-of.ensures ∙ bucket-is k p.parent_of.result (omega (arith, max-is k, old p))
-    ∙ ap (bucket_at s.args.store.now) (is-old p)
+    let k = reads_known c.requires.0.0 in
+    c.home_of-from.ensures ∙ bucket-is k c.parent_of-old.result (omega (arith, max-is k, old c.before.before))
+    ∙ ap (bucket_at c.args.store.now) (is-old c.before.before)
 
-new-draft-requires : tie.Need-new-draft-requires
+new-draft-requires : tie.Need-new_draft-requires
 new-draft-requires c κs = search rules
 
 -- the sketch, edit by edit
-sketch-0 : (c : tie.After-write-empty-arg)
-    → let a = c.before.before.before.before.before.before.before.before.before.args in
-    Sketch a.store.now c.before.new-draft.result a.images.now a.store.now 0 []
+sketch-0 : (c : tie.After-write_empty-arg-1)
+    → let a = c.args in
+    Sketch a.store.now c.new_draft.result a.images.now a.store.now 0 []
 sketch-0 c =
-    let s = c.before.before.before.before.before.before.before.before.before in
-    let n = c.before.new-draft.ensures in
-    sketch-none (n.1 s.args.store.now s.args.images.now (reads_sized s.requires.0.0).whole s.requires.0.1)
+    let n = c.new_draft.ensures in
+    sketch-none (n.1 c.args.store.now c.args.images.now (reads_sized c.requires.0.0).whole c.requires.0.1)
     n.0
 
-write-empty-requires : tie.Need-write-empty-requires
+write-empty-requires : tie.Need-write_empty-made-requires
 write-empty-requires c κs =
-    let b = c.before.before.before in
-    let s = b.before.before.before.before.before.before in
-    let inside : b.bucket-block.result < blocks s.args.store.now =
-    subst (λ (k : ℕ). k < blocks s.args.store.now) (sym (to_is b))
-    (new-at s.requires.0.0 s.requires.1.0 s.requires.1.1) in
-    (s.args.store.now, ready (sketch-0 c) b.bucket-block.result inside (omega arith))
+    let inside : c.bucket_block-to.result < blocks c.args.store.now =
+    subst (λ (k : ℕ). k < blocks c.args.store.now) (sym (to_is c.before.before.before))
+    (new-at c.requires.0.0 c.requires.1.0 c.requires.1.1) in
+    (c.args.store.now, ready (sketch-0 c) c.bucket_block-to.result inside (omega arith))
 
-sketch-1 : (c : tie.After-write-empty)
-    → let s = c.before.before.before.before.before.before.before.before.before.before.args.store.now in
-    Sketch s c.write-empty.result c.write-empty.new.1.1.0 (made_draft s) 1 (bucket_at s (next_bucket s) ∷ [])
+sketch-1 : (c : tie.After-write_empty-made)
+    → let s = c.args.store.now in
+    Sketch s c.write_empty-made.result c.write_empty-made.new.images (made_draft s) 1 (bucket_at s (next_bucket s) ∷ [])
 sketch-1 c =
-    let b = c.before.before.before.before in
-    let s = b.before.before.before.before.before.before in
-    begun-made s.requires.0.0 s.requires.1.0 s.requires.1.1 b.bucket-block.result _ (to_is b)
-    (new-read s.requires.0.0 s.requires.1.0 s.requires.1.1) (sketch-0 c.before) c.write-empty.ensures
+    begun-made c.requires.0.0 c.requires.1.0 c.requires.1.1 c.bucket_block-to.result _ (to_is c.before.before.before.before)
+    (new-read c.requires.0.0 c.requires.1.0 c.requires.1.1) (sketch-0 c.before) c.write_empty-made.ensures
 
-put-prev-requires : tie.Need-put-prev-requires
+put-prev-requires : tie.Need-put_prev-linked-requires
 put-prev-requires c κs =
-    let b = c.before.before.before.before.before.before in
-    let s = b.before.before.before.before.before.before.before in
-    let inside : b.Home-of.result < blocks s.args.store.now =
-    subst (λ (k : ℕ). k < blocks s.args.store.now) (sym (from_is b))
-    (old-at s.requires.0.0 s.requires.1.0 s.requires.1.1) in (
-      made_draft s.args.store.now,
-      ready (sketch-1 c.before.before.before) b.Home-of.result inside
+    let inside : c.home_of-from.result < blocks c.args.store.now =
+    subst (λ (k : ℕ). k < blocks c.args.store.now) (sym (from_is c.before.before.before.before.before.before))
+    (old-at c.requires.0.0 c.requires.1.0 c.requires.1.1) in (
+      made_draft c.args.store.now,
+      ready (sketch-1 c.before.before.before) c.home_of-from.result inside
           (omega arith),
     )
 
-sketch-2 : (c : tie.After-put-prev)
-    → let b = c.before.before.before.before.before.before.before in
-    let s = b.before.before.before.before.before.before.before.args.store.now in
-    Sketch s c.put-prev.result c.put-prev.new.1.1.0 (linked_draft s) 2
+sketch-2 : (c : tie.After-put_prev-linked)
+    →
+    let s = c.args.store.now in
+    Sketch s c.put_prev-linked.result c.put_prev-linked.new.images (linked_draft s) 2
     (bucket_at s (parent_bucket s) ∷ bucket_at s (next_bucket s) ∷ [])
 sketch-2 c =
-    let b = c.before.before.before.before.before.before.before in
-    let s = b.before.before.before.before.before.before.before in
-    begun-linked s.requires.0.0 s.requires.1.0 s.requires.1.1 b.Home-of.result _ (from_is b)
-    (new-read s.requires.0.0 s.requires.1.0 s.requires.1.1) (sketch-1 c.before.before.before.before)
-    c.put-prev.ensures
+    begun-linked c.requires.0.0 c.requires.1.0 c.requires.1.1 c.home_of-from.result _ (from_is c.before.before.before.before.before.before.before)
+    (new-read c.requires.0.0 c.requires.1.0 c.requires.1.1) (sketch-1 c.before.before.before.before)
+    c.put_prev-linked.ensures
 
-mark-bucket-requires : tie.Need-mark-bucket-requires
+mark-bucket-requires : tie.Need-mark_bucket-requires
 mark-bucket-requires c κs =
-    let p = c.before.before.before.before.before.before.before.before.before.before.before.before in
-    let s = p.before.before.before.before.before in
-    let k : ℕ = bucket_at s.args.store.now p.parent_of.result in
-    let inside : k < blocks s.args.store.now =
-    subst (λ (o : ℕ). bucket_at s.args.store.now o < blocks s.args.store.now) (sym (is-old p))
-    (old-at s.requires.0.0 s.requires.1.0 s.requires.1.1) in (
-      (s.requires.0.0, old p),
-      (linked_draft s.args.store.now, ready (sketch-2 c.before.before.before) k inside (omega arith)),
+    let k : ℕ = bucket_at c.args.store.now c.parent_of-old.result in
+    let inside : k < blocks c.args.store.now =
+    subst (λ (o : ℕ). bucket_at c.args.store.now o < blocks c.args.store.now) (sym (is-old c.before.before.before.before.before.before.before.before.before.before.before.before))
+    (old-at c.requires.0.0 c.requires.1.0 c.requires.1.1) in (
+      (c.requires.0.0, old c.before.before.before.before.before.before.before.before.before.before.before.before),
+      (linked_draft c.args.store.now, ready (sketch-2 c.before.before.before) k inside (omega arith)),
     )
 
-same_length : tie.Need-same-length
+same_length : tie.Need-shape_of-images
 same_length c = search rules
 
 returns : tie.Need-returns
 returns c =
-    let b = c.before.before in
-    let v = b.before.before.before.before in
-    let p = v.before.before.before.before.before.before.before.before.before in
-    let s = p.before.before.before.before.before in
-    begun-last s.requires.0.0 s.requires.1.0 s.requires.1.1 (bucket_at s.args.store.now p.parent_of.result)
-    (ap (bucket_at s.args.store.now) (is-old p)) (sketch-1 v.before.before.before.before) (sketch-2 v)
-    b.mark-bucket.ensures
+    begun-last c.requires.0.0 c.requires.1.0 c.requires.1.1 (bucket_at c.args.store.now c.parent_of-old.result)
+    (ap (bucket_at c.args.store.now) (is-old c.before.before.before.before.before.before.before.before.before.before.before.before.before.before.before)) (sketch-1 c.before.before.before.before.before.before.before.before.before.before) (sketch-2 c.before.before.before.before.before.before)
+    c.mark_bucket.ensures
 
-pub begin-pages-spec : {M : Type 1} → statement M
-begin-pages-spec =
+pub begin_pages_spec : {M : Type 1} → statement M
+begin_pages_spec =
     tie.close
     (tie.spec
     add-new

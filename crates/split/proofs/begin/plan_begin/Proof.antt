@@ -13,60 +13,52 @@ use Rattle.split.specs.BegunLaws.{some_is, none_is}
 use Rattle.split.proofs.begin.plan_begin.Statement.{statement}
 use Rattle.split.proofs.begin.plan_begin.Tie as tie
 
-has-room-requires : tie.Need-has-room-requires
+has-room-requires : tie.Need-has_room-requires
 has-room-requires c κs =
-    let s = c.before.before in
-    (decode s.args.store.now, reads-laid s.requires.0.0, reads-meta s.requires.0.0)
+    (decode c.args.store.now, reads-laid c.requires.0.0, reads-meta c.requires.0.0)
 
 -- the test
-room : (c : tie.After-has-room)
-    → c.has_room.result ≡ is_some (begin (decode c.before.before.before.args.store.now))
+room : (c : tie.After-has_room)
+    → c.has_room.result ≡ is_some (begin (decode c.args.store.now))
 room c =
-    let s = c.before.before.before in
-    c.has_room.ensures (decode s.args.store.now) (reads-laid s.requires.0.0) (reads-meta s.requires.0.0)
+    c.has_room.ensures (decode c.args.store.now) (reads-laid c.requires.0.0) (reads-meta c.requires.0.0)
 
-new-draft-requires : tie.Need-new-draft-requires
+new-draft-requires : tie.Need-new_draft-requires
 new-draft-requires c κs = search rules
 
-returns : tie.Need-returns
+returns : tie.Need-returns-then-not-has_room
 returns c =
-    let h = c.before.before in
-    let s = h.before.before.before in
-    let n = none_is (begin (decode s.args.store.now))
-    (sym (room h) ∙ not-true h.has_room.result c.before.if1.true) in
-    subst (λ (o : Option Index). Places s.args.store.now c.new-draft.result s.args.images.now o false)
+    let n = none_is (begin (decode c.args.store.now))
+    (sym (room c.before.before) ∙ not-true c.has_room.result c.if-not-has_room.true-raw) in
+    subst (λ (o : Option Index). Places c.args.store.now c.new_draft.result c.args.images.now o false)
     (sym n)
-    (full c.new-draft.ensures.0)
+    (full c.new_draft.ensures.0)
 
 -- the index that the begin leads to
-begins : (c : tie.Else1)
-    → (y : Index) × (begin (decode c.before.before.before.before.args.store.now) ≡ some y)
+begins : (c : tie.Else-not-has_room)
+    → (y : Index) × (begin (decode c.args.store.now) ≡ some y)
 begins c =
-    let h = c.before in
-    some_is (begin (decode h.before.before.before.args.store.now))
-    (sym (room h) ∙ not-false h.has_room.result c.if1.false)
+    some_is (begin (decode c.args.store.now))
+    (sym (room c.before) ∙ not-false c.has_room.result c.if-not-has_room.false-raw)
 
-begin-split-requires : tie.Need-begin-split-requires
+begin-split-requires : tie.Need-begin_split-requires
 begin-split-requires c κs = (
-  c.before.before.before.before.before.requires.0,
-  (c.before.before.before.before.before.requires.1, begins c.before),
+  c.requires.0,
+  (c.requires.1, begins c.before),
 )
 
-same_length : tie.Need-same-length
+same_length : tie.Need-shape_of-images
 same_length c = search rules
 
-returns-2 : tie.Need-returns-2
+returns-2 : tie.Need-returns
 returns-2 c =
-    let g = c.before.before in
-    let e = g.before.before in
-    let s = e.before.before.before.before in
-    let w = begins e in
-    subst (λ (o : Option Index). Places s.args.store.now g.begin-split.result
-    g.begin-split.new.1.1.0 o true)
-    (sym w.1) (placed (g.begin-split.ensures w.0 w.1))
+    let w = begins c.before.before.before.before in
+    subst (λ (o : Option Index). Places c.args.store.now c.begin_split.result
+    c.begin_split.new.images o true)
+    (sym w.1) (placed (c.begin_split.ensures w.0 w.1))
 
-pub plan-begin-spec : {M : Type 1} → statement M
-plan-begin-spec =
+pub plan_begin_spec : {M : Type 1} → statement M
+plan_begin_spec =
     tie.close
     (tie.spec
     has-room-requires

@@ -10,30 +10,27 @@ use Rattle.split.specs.OldChainLaws.{read-within, read-pages, read_short}
 use Rattle.split.proofs.cursor.find_spot.Statement.{statement}
 use Rattle.split.proofs.cursor.find_spot.Tie as tie
 
-old-home-requires : tie.Need-old-home-requires
-old-home-requires c κs = c.before.requires.0
+old-home-requires : tie.Need-old_home-first-requires
+old-home-requires c κs = c.requires.0
 
-or-first-requires : tie.Need-or-first-requires
+or-first-requires : tie.Need-or_first-spot-requires
 or-first-requires c κs = search rules
 
-skip-pages-requires : tie.Need-skip-pages-requires
+skip-pages-requires : tie.Need-skip_pages-requires
 skip-pages-requires c κs =
-    let h = c.before.before in
-    let s = h.before.before in
-    let r = s.requires.0 in
-    let store = s.args.store.now in
-    let first = h.old_Home.result in
+    let r = c.requires.0 in
+    let store = c.args.store.now in
+    let first = c.old_home-first.result in
     let b = old_bucket (decode store) in
-    let at = h.old_Home.ensures in (
+    let at = c.old_home-first.ensures in (
       (read-within r b (old-made r) at, read-pages r b (old-made r) at, read_short r b (old-made r) at),
-      subst (λ (g : Spot). SpotOn store (walk store first) g s.args.from.place) (sym c.or-first.ensures)
-          (first-spot store first s.args.from.page s.args.from.place (λ i. spot_on r at (s.requires.1 i))),
+      subst (λ (g : Spot). SpotOn store (walk store first) g c.args.from.place) (sym c.or_first-spot.ensures)
+          (first-spot store first c.args.from.page c.args.from.place (λ i. spot_on r at (c.requires.1 i))),
     )
 
 returns : tie.Need-returns
 returns c =
-    let h = c.before.before.before in
-    spot_in h.before.before.requires.0 h.old_Home.ensures c.skip-pages.ensures
+    spot_in c.requires.0 c.old_home-first.ensures c.skip_pages.ensures
 
-pub find-spot-spec : {M : Type 1} → statement M
-find-spot-spec = tie.close (tie.spec old-home-requires or-first-requires skip-pages-requires returns)
+pub find_spot_spec : {M : Type 1} → statement M
+find_spot_spec = tie.close (tie.spec old-home-requires or-first-requires skip-pages-requires returns)

@@ -12,40 +12,37 @@ use Rattle.split.specs.Job.{bucket_at}
 use Rattle.split.proofs.job.mark_bucket.Statement.{statement}
 use Rattle.split.proofs.job.mark_bucket.Tie as tie
 
-home-of-requires : tie.Need-home-of-requires
+home-of-requires : tie.Need-home_of-requires
 home-of-requires c κs =
-    let s = c.before.before.before in
-    (known-addressed (reads_known s.requires.0.0), s.requires.0.1)
+    (known-addressed (reads_known c.requires.0.0), c.requires.0.1)
 
-block-is : (c : tie.After-home-of)
-    → let a = c.before.before.before.before.args in
-    c.Home-of.result ≡ bucket_at a.store.now a.b
+block-is : (c : tie.After-home_of)
+    → let a = c.args in
+    c.home_of.result ≡ bucket_at a.store.now a.b
 unfolding decode
 block-is c =
-    let s = c.before.before.before.before in
-    let k = reads_known s.requires.0.0 in
-    c.Home-of.ensures ∙ bucket-is k s.args.b (omega (arith, max-is k, s.requires.0.1))
+    let k = reads_known c.requires.0.0 in
+    c.home_of.ensures ∙ bucket-is k c.args.b (omega (arith, max-is k, c.requires.0.1))
 
-put-flags-requires : tie.Need-put-flags-requires
+put-flags-requires : tie.Need-put_flags-requires
 put-flags-requires c κs =
-    let s = c.before.before.before.before in (
-      s.requires.1.0,
-      subst (λ (k : ℕ). Ready s.args.store.now s.args.change s.args.images.now s.requires.1.0 k)
-          (sym (block-is c)) s.requires.1.1,
+    (
+      c.requires.1.0,
+      subst (λ (k : ℕ). Ready c.args.store.now c.args.change c.args.images.now c.requires.1.0 k)
+          (sym (block-is c)) c.requires.1.1,
     )
 
-same_length : tie.Need-same-length
+same_length : tie.Need-shape_of-images
 same_length c = search rules
 
 returns : tie.Need-returns
 returns c =
-    let f = c.before.before in
-    let a = f.before.before.before.before.before.args in
+    let a = c.args in
     subst
     (λ (k : ℕ). Edited a.store.now a.change a.images.now k (λ l. sets l 504 (le16 a.flags))
-    f.put-flags.result f.put-flags.new.1.1.0)
-    (block-is f.before) f.put-flags.ensures
+    c.put_flags.result c.put_flags.new.images)
+    (block-is c.before.before.before) c.put_flags.ensures
 
-pub mark-bucket-spec : {M : Type 1} → statement M
-mark-bucket-spec =
+pub mark_bucket_spec : {M : Type 1} → statement M
+mark_bucket_spec =
     tie.close (tie.spec home-of-requires put-flags-requires same_length returns)

@@ -17,100 +17,86 @@ use Rattle.split.specs.JobLaws.{at-inside, sketch-flags, old_apart, plans-copied
 use Rattle.split.proofs.job.plan_copied.Statement.{statement}
 use Rattle.split.proofs.job.plan_copied.Tie as tie
 
-new-draft-requires : tie.Need-new-draft-requires
+new-draft-requires : tie.Need-new_draft-requires
 new-draft-requires c κs = search rules
 
 -- the sketch, edit by edit
-sketch-0 : (c : tie.After-mark-bucket-arg)
-    → let a = c.before.before.before.before.args in
-    Sketch a.store.now c.before.new-draft.result a.images.now a.store.now 0 []
+sketch-0 : (c : tie.After-mark_bucket-arg-1)
+    → let a = c.args in
+    Sketch a.store.now c.new_draft.result a.images.now a.store.now 0 []
 sketch-0 c =
-    let s = c.before.before.before.before in
-    let n = c.before.new-draft.ensures in
-    sketch-none (n.1 s.args.store.now s.args.images.now (reads_sized s.requires.0.0).whole s.requires.0.1)
+    let n = c.new_draft.ensures in
+    sketch-none (n.1 c.args.store.now c.args.images.now (reads_sized c.requires.0.0).whole c.requires.0.1)
     n.0
 
-mark-bucket-requires : tie.Need-mark-bucket-requires
+mark-bucket-requires : tie.Need-mark_bucket-settled-requires
 mark-bucket-requires c κs =
-    let s = c.before.before.before.before in
-    let k : ℕ = bucket_at s.args.store.now s.args.m.max in (
-      (s.requires.0.0, omega arith),
+    let k : ℕ = bucket_at c.args.store.now c.args.m.max in (
+      (c.requires.0.0, omega arith),
       (
-        s.args.store.now,
-        ready (sketch-0 c) k (at-inside s.requires.0.0 s.args.m.max (omega arith))
+        c.args.store.now,
+        ready (sketch-0 c) k (at-inside c.requires.0.0 c.args.m.max (omega arith))
             (omega arith),
       ),
     )
 
-sketch-1 : (c : tie.After-mark-bucket)
-    → let a = c.before.before.before.before.before.args in
-    Sketch a.store.now c.mark-bucket.result c.mark-bucket.new.1.1.1.0
+sketch-1 : (c : tie.After-mark_bucket-settled)
+    → let a = c.args in
+    Sketch a.store.now c.mark_bucket-settled.result c.mark_bucket-settled.new.images
     (set_block a.store.now (bucket_at a.store.now a.m.max) (flagged a.store.now a.m.max 2)) 1
     (bucket_at a.store.now a.m.max ∷ [])
 sketch-1 c =
-    let s = c.before.before.before.before.before in
-    sketch-flags s.requires.0.0 s.args.m.max (omega arith) (sketch-0 c.before) tt 2 c.mark-bucket.ensures
+    sketch-flags c.requires.0.0 c.args.m.max (omega arith) (sketch-0 c.before) tt 2 c.mark_bucket-settled.ensures
 
-parent-of-requires : tie.Need-parent-of-requires
+parent-of-requires : tie.Need-parent_of-requires
 parent-of-requires c κs = search rules
 
-old : (c : tie.After-parent-of)
-    → c.parent_of.result ≤ c.before.before.before.before.before.before.before.before.before.args.m.max
+old : (c : tie.After-parent_of)
+    → c.parent_of.result ≤ c.args.m.max
 old c =
-    let s = c.before.before.before.before.before.before.before.before.before in
-    old-low (reads_known s.requires.0.0) c.parent_of.result c.parent_of.ensures
+    old-low (reads_known c.requires.0.0) c.parent_of.result c.parent_of.ensures
 
-is-old : (c : tie.After-parent-of)
-    → let a = c.before.before.before.before.before.before.before.before.before.args in
+is-old : (c : tie.After-parent_of)
+    → let a = c.args in
     c.parent_of.result ≡ old_bucket (decode a.store.now)
 is-old c =
-    let s = c.before.before.before.before.before.before.before.before.before in
-    c.parent_of.ensures ∙ ap split_from (reads-max s.requires.0.0)
+    c.parent_of.ensures ∙ ap split_from (reads-max c.requires.0.0)
 
-mark-bucket-requires-2 : tie.Need-mark-bucket-requires-2
+mark-bucket-requires-2 : tie.Need-mark_bucket-marked-requires
 mark-bucket-requires-2 c κs =
-    let b = c.before.before.before.before in
-    let s = b.before.before.before.before.before in
-    let k : ℕ = bucket_at s.args.store.now c.parent_of.result in (
-      (s.requires.0.0, old c),
-      (_, ready (sketch-1 b) k (at-inside s.requires.0.0 c.parent_of.result (old c)) (omega arith)),
+    let k : ℕ = bucket_at c.args.store.now c.parent_of.result in (
+      (c.requires.0.0, old c),
+      (_, ready (sketch-1 c.before.before.before.before) k (at-inside c.requires.0.0 c.parent_of.result (old c)) (omega arith)),
     )
 
-sketch-2 : (c : tie.After-mark-bucket2)
-    → let a = c.before.before.before.before.before.before.before.before.before.before.args in
-    Sketch a.store.now c.mark-bucket2.result c.mark-bucket2.new.1.1.1.0
-    (copied_draft a.store.now a.m.max c.before.parent_of.result) 2
-    (bucket_at a.store.now c.before.parent_of.result ∷ bucket_at a.store.now a.m.max ∷ [])
+sketch-2 : (c : tie.After-mark_bucket-marked)
+    → let a = c.args in
+    Sketch a.store.now c.mark_bucket-marked.result c.mark_bucket-marked.new.images
+    (copied_draft a.store.now a.m.max c.parent_of.result) 2
+    (bucket_at a.store.now c.parent_of.result ∷ bucket_at a.store.now a.m.max ∷ [])
 sketch-2 c =
-    let p = c.before in
-    let b = p.before.before.before.before in
-    let s = b.before.before.before.before.before in
-    let f : ℕ → ℕ = bucket_at s.args.store.now in
-    let apart : f p.parent_of.result ≢ f s.args.m.max =
-    λ q. old_apart s.requires.0.0 (ap f (sym (is-old p)) ∙ q ∙ ap f (reads-max s.requires.0.0)) in
-    sketch-flags s.requires.0.0 p.parent_of.result (old p) (sketch-1 b) (apart, tt) 66 c.mark-bucket2.ensures
+    let f : ℕ → ℕ = bucket_at c.args.store.now in
+    let apart : f c.parent_of.result ≢ f c.args.m.max =
+    λ q. old_apart c.requires.0.0 (ap f (sym (is-old c.before)) ∙ q ∙ ap f (reads-max c.requires.0.0)) in
+    sketch-flags c.requires.0.0 c.parent_of.result (old c.before) (sketch-1 c.before.before.before.before.before) (apart, tt) 66 c.mark_bucket-marked.ensures
 
-drop-unchanged-requires : tie.Need-drop-unchanged-requires
+drop-unchanged-requires : tie.Need-drop_unchanged-requires
 drop-unchanged-requires c κs =
     let g = (sketch-2 c.before.before.before).draft in
     (g.fits, g.eight)
 
-same_length : tie.Need-same-length
+same_length : tie.Need-shape_of-images
 same_length c = search rules
 
 returns : tie.Need-returns
 returns c =
-    let u = c.before.before in
-    let b = u.before.before.before.before in
-    let p = b.before in
-    let s = p.before.before.before.before.before.before.before.before.before in
-    plans-copied s.requires.0.0 s.args.m.max p.parent_of.result (reads-max s.requires.0.0) (is-old p)
-    s.requires.1.0 s.requires.1.1 (sketch-2 b)
-    (u.drop-unchanged.ensures (copied_draft s.args.store.now s.args.m.max p.parent_of.result)
-    (sketch-2 b).draft)
+    plans-copied c.requires.0.0 c.args.m.max c.parent_of.result (reads-max c.requires.0.0) (is-old c.before.before.before.before.before.before.before)
+    c.requires.1.0 c.requires.1.1 (sketch-2 c.before.before.before.before.before.before)
+    (c.drop_unchanged.ensures (copied_draft c.args.store.now c.args.m.max c.parent_of.result)
+    (sketch-2 c.before.before.before.before.before.before).draft)
 
-pub plan-copied-spec : {M : Type 1} → statement M
-plan-copied-spec =
+pub plan_copied_spec : {M : Type 1} → statement M
+plan_copied_spec =
     tie.close
     (tie.spec
     new-draft-requires

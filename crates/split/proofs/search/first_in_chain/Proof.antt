@@ -27,12 +27,12 @@ use Rattle.split.proofs.Searching.{walk_end}
 use Rattle.split.proofs.search.first_in_chain.Statement.{statement}
 use Rattle.split.proofs.search.first_in_chain.Tie as tie
 
-abbrev invariant-loop : tie.invariant-loop
+abbrev invariant-loop : tie.invariant-loop-next
 invariant-loop store first copies walked m copying fresh from block₀ passed₀ i₀ block passed i =
     (i < length (walk store first)) × (block ≡ get_or (walk store first) i 0)
     × (Behind store (walk store first) (length (walk store first)) (movable copying (decode store)) passed i)
 
-abbrev decreases-loop : tie.decreases-loop
+abbrev decreases-loop : tie.decreases-loop-next
 decreases-loop store first copies walked m copying fresh from block₀ passed₀ i₀ block passed i = length (walk store first) - i
 
 -- the pages that were passed over have no entry to move
@@ -63,198 +63,169 @@ behind s =
           (front-pages store ks i t s.args.from s.requires.1.0 few p u);
     }
 
-loop-holds : tie.Need-loop-init invariant-loop decreases-loop
-loop-holds c = let s = c.before in let e = s.requires.1.2 in (e.inside, e.block, behind s)
+loop-holds : tie.Need-loop-next-init invariant-loop decreases-loop
+loop-holds c = let e = c.requires.1.2 in (e.inside, e.block, behind c.before)
 
-cast-block-at : tie.Need-overflow-cast-block-at invariant-loop decreases-loop
+cast-block-at : tie.Need-overflow_cast-block invariant-loop decreases-loop
 unfolding blocks
 cast-block-at c =
-    omega (arith, chain-inside c.before.before.requires.0.0 c.loop.invariant.0 c.loop.invariant.1)
+    omega (arith, chain-inside c.requires.0.0 c.loop-next.invariant.0 c.loop-next.invariant.1)
 
-block-at-requires : tie.Need-block-at-requires invariant-loop decreases-loop
-block-at-requires c κs = chain-whole c.before.before.requires.0.0 c.loop.invariant.0 c.loop.invariant.1
+block-at-requires : tie.Need-block_at-page-requires invariant-loop decreases-loop
+block-at-requires c κs = chain-whole c.requires.0.0 c.loop-next.invariant.0 c.loop-next.invariant.1
 
 -- the page at index i
-page : (c : tie.After-block-at invariant-loop decreases-loop)
-    → let l = c.before in
-    let a = l.before.before.args in
+page : (c : tie.After-block_at-page invariant-loop decreases-loop)
+    →
+    let a = c.args in
     let ks = walk a.store.now a.first in
-    PageOn a.store.now ks (length ks) l.loop.i c.block_at.result.now
+    PageOn a.store.now ks (length ks) c.loop-next.i c.block_at-page.result.now
 page c =
-    let l = c.before in
-    chain-page l.before.before.requires.0.0 l.loop.invariant.0 l.loop.invariant.1 c.block_at.ensures
+    chain-page c.requires.0.0 c.loop-next.invariant.0 c.loop-next.invariant.1 c.block_at-page.ensures
 
-past-requires : tie.Need-past-requires invariant-loop decreases-loop
+past-requires : tie.Need-past-start-requires invariant-loop decreases-loop
 past-requires c κs = search rules
 
-first-in-page-requires : tie.Need-first-in-page-requires invariant-loop decreases-loop
+first-in-page-requires : tie.Need-first_in_page-found-requires invariant-loop decreases-loop
 first-in-page-requires c κs =
-    let p = c.before in
-    let l = p.before in
-    let s = l.before.before in
-    let store = s.args.store.now in
-    let ks = walk store s.args.first in
-    let t = movable s.args.copying (decode store) in
-    let none : Before t (bind (take (length ks) ks) (entries_on store)) s.args.from =
-    subst (λ (js : List ℕ). Before t (bind js (entries_on store)) s.args.from) (sym (take-length ks))
-    s.requires.1.0 in (
-      (chain-sorted (page p) s.requires.0.1, s.requires.0.3, s.requires.0.4),
+    let store = c.args.store.now in
+    let ks = walk store c.args.first in
+    let t = movable c.args.copying (decode store) in
+    let none : Before t (bind (take (length ks) ks) (entries_on store)) c.args.from =
+    subst (λ (js : List ℕ). Before t (bind js (entries_on store)) c.args.from) (sym (take-length ks))
+    c.requires.1.0 in (
+      (chain-sorted (page c.before) c.requires.0.1, c.requires.0.3, c.requires.0.4),
       (
-        subst (Before t (entries_of p.block_at.result.now)) (sym c.past.ensures)
-            (page-start s.requires.0.0 l.loop.invariant.2 l.loop.invariant.0 (page p) s.args.from none),
+        subst (Before t (entries_of c.block_at-page.result.now)) (sym c.past-start.ensures)
+            (page-start c.requires.0.0 c.loop-next.invariant.2 c.loop-next.invariant.0 (page c.before) c.args.from none),
         λ f.
-            subst (After (copied (decode store)) (entries_of p.block_at.result.now)) (sym c.past.ensures)
-            (page-after s.requires.0.0 l.loop.invariant.2 l.loop.invariant.0 (page p) (copied (decode store))
-            s.args.from
-            (subst (λ (js : List ℕ). After (copied (decode store)) (bind js (entries_on store)) s.args.from)
-            (sym (take-length ks)) (s.requires.1.1 f))),
+            subst (After (copied (decode store)) (entries_of c.block_at-page.result.now)) (sym c.past-start.ensures)
+            (page-after c.requires.0.0 c.loop-next.invariant.2 c.loop-next.invariant.0 (page c.before) (copied (decode store))
+            c.args.from
+            (subst (λ (js : List ℕ). After (copied (decode store)) (bind js (entries_on store)) c.args.from)
+            (sym (take-length ks)) (c.requires.1.1 f))),
       ),
     )
 
-enum_told : tie.Need-enum-told invariant-loop decreases-loop
+enum_told : tie.Need-enum_told-1 invariant-loop decreases-loop
 enum_told c = search rules
 
-enum-told-2 : tie.Need-enum-told-2 invariant-loop decreases-loop
+enum-told-2 : tie.Need-enum_told-in_default invariant-loop decreases-loop
 enum-told-2 c = search rules
 
 -- a page has at most 40 entries
-few : (c : tie.After-block-at invariant-loop decreases-loop) → length (entries_of c.block_at.result.now) ≤ 40
-few c = chain-few (page c) c.before.before.before.requires.0.1
+few : (c : tie.After-block_at-page invariant-loop decreases-loop) → length (entries_of c.block_at-page.result.now) ≤ 40
+few c = chain-few (page c) c.requires.0.1
 
 -- the place is one of a chain's slots
-near : (c : tie.After-enum-told2 invariant-loop decreases-loop)
-    → let f = c.before.before in
-    f.before.before.before.loop.passed + mover_place f.first-in-page.result < 40 * suc max_blocks
+near : (c : tie.In_default invariant-loop decreases-loop)
+    →
+    c.loop-next.passed + mover_place c.first_in_page-found.result < 40 * suc max_blocks
 near c =
-    let f = c.before.before in
-    let p = f.before.before in
-    let l = p.before in
-    let at = c.enum-told2.given.1 in
-    let place = (seeks-place f.first-in-page.ensures.0 at).inside in
+    let at = c.in_default.is in
+    let place = (seeks-place c.first_in_page-found.ensures.0 at).inside in
     omega (
       arith,
       ap mover_place at,
-      few p,
+      few c.before.before.before,
       place,
-      l.loop.invariant.2.few,
-      l.before.before.requires.0.0.few,
-      l.loop.invariant.0,
+      c.loop-next.invariant.2.few,
+      c.requires.0.0.few,
+      c.loop-next.invariant.0,
     )
 
-shift-place-requires : tie.Need-shift-place-requires invariant-loop decreases-loop
+shift-place-requires : tie.Need-shift_place-requires invariant-loop decreases-loop
 shift-place-requires c κs = near c
 
-returns : tie.Need-returns invariant-loop decreases-loop
+returns : tie.Need-returns-in_default invariant-loop decreases-loop
 returns c =
-    let v = c.before in
-    let f = v.before.before in
-    let p = f.before.before in
-    let l = p.before in
-    let i = l.loop.invariant in
-    let s = l.before.before in
-    let store = s.args.store.now in
-    let ks = walk store s.args.first in
-    let ok = s.requires.0.0 in
-    let e = f.first-in-page.ensures in
-    let found = v.enum-told2.given.1 in
-    let at = c.shift-place.ensures ∙ ap (shifted l.loop.passed) found in
-    let t = movable s.args.copying (decode store) in
-    let yes = (find-yes t (entries_of p.block_at.result.now) _ (seeks-entry e.0 found)).0 in (
-      subst (λ (js : List ℕ). Seeks t (bind js (entries_on store)) c.shift-place.result) (take-length ks)
+    let i = c.loop-next.invariant in
+    let store = c.args.store.now in
+    let ks = walk store c.args.first in
+    let ok = c.requires.0.0 in
+    let e = c.first_in_page-found.ensures in
+    let found = c.in_default.is in
+    let at = c.shift_place.ensures ∙ ap (shifted c.loop-next.passed) found in
+    let t = movable c.args.copying (decode store) in
+    let yes = (find-yes t (entries_of c.block_at-page.result.now) _ (seeks-entry e.0 found)).0 in (
+      subst (λ (js : List ℕ). Seeks t (bind js (entries_on store)) c.shift_place.result) (take-length ks)
           (subst (Seeks t (bind (take (length ks) ks) (entries_on store))) (sym at)
-          (page-found ok i.2 i.0 (page p) e.0 found)),
+          (page-found ok i.2 i.0 (page c.before.before.before.before) e.0 found)),
       (
-        subst (λ (js : List ℕ). Located (find_in store js) c.shift-place.result) (take-length ks)
+        subst (λ (js : List ℕ). Located (find_in store js) c.shift_place.result) (take-length ks)
             (subst (Located (find_in store (take (length ks) ks))) (sym at)
-            (page-located ok i.2 i.0 (page p) e.0
-            (subst (λ (b : ℕ). Located (found_on b (entries_of p.block_at.result.now)) f.first-in-page.result)
-            i.1 e.1) found (movable-same s.args.copying (decode store) _ yes))),
-        omega (arith, ap mover_place at, ap mover_place found, near v),
+            (page-located ok i.2 i.0 (page c.before.before.before.before) e.0
+            (subst (λ (b : ℕ). Located (found_on b (entries_of c.block_at-page.result.now)) c.first_in_page-found.result)
+            i.1 e.1) found (movable-same c.args.copying (decode store) _ yes))),
+        omega (arith, ap mover_place at, ap mover_place found, near c.before),
       ),
     )
 
-next-at-requires : tie.Need-next-at-requires invariant-loop decreases-loop
-next-at-requires c κs = (page c.before.before.before.before).whole
+next-at-requires : tie.Need-next_at-next-requires invariant-loop decreases-loop
+next-at-requires c κs = (page c.before.before.before).whole
 
-count-entries-requires : tie.Need-count-entries-requires invariant-loop decreases-loop
-count-entries-requires c κs = (page c.before.before.before.before.before.before).whole
+count-entries-requires : tie.Need-count_entries-passed-requires invariant-loop decreases-loop
+count-entries-requires c κs = (page c.before.before.before.before.before).whole
 
 -- the number of a page's entries
-number : (c : tie.After-count-entries invariant-loop decreases-loop)
-    → let p = c.before.before.before.before.before.before.before in
-    c.count_entries.result ≡ length (entries_of p.block_at.result.now)
-number c = c.count_entries.ensures ∙ sym (length-entries_of _)
+number : (c : tie.After-count_entries-passed invariant-loop decreases-loop)
+    →
+    c.count_entries-passed.result ≡ length (entries_of c.block_at-page.result.now)
+number c = c.count_entries-passed.ensures ∙ sym (length-entries_of _)
 
 -- there is a block after it
-more : (c : tie.After-count-entries invariant-loop decreases-loop)
-    → let l = c.before.before.before.before.before.before.before.before in
-    let a = l.before.before.args in
-    l.loop.i + 1 < length (walk a.store.now a.first)
+more : (c : tie.After-count_entries-passed invariant-loop decreases-loop)
+    →
+    let a = c.args in
+    c.loop-next.i + 1 < length (walk a.store.now a.first)
 more c =
-    let x = c.before.before in
-    let p = x.before.before.before.before.before in
-    let l = p.before in
-    let s = l.before.before in
-    link-inside s.args.first (page p) l.loop.invariant.0 x.next-at.ensures s.requires.0.2
-    c.before.if1.false
+    link-inside c.args.first (page c.before.before.before.before.before.before) c.loop-next.invariant.0 c.next_at-next.ensures c.requires.0.2
+    c.if-next.false
 
-add-passed : tie.Need-overflow-add-passed invariant-loop decreases-loop
+add-passed : tie.Need-overflow_add-passed invariant-loop decreases-loop
 add-passed c =
-    let p = c.before.before.before.before.before.before.before in
-    let l = p.before in
-    omega (arith, few p, number c, l.loop.invariant.2.few, l.before.before.requires.0.0.few, more c)
+    omega (arith, few c.before.before.before.before.before.before, number c, c.loop-next.invariant.2.few, c.requires.0.0.few, more c)
 
-add-i : tie.Need-overflow-add-i invariant-loop decreases-loop
+add-i : tie.Need-overflow_add-i invariant-loop decreases-loop
 add-i c =
-    let l = c.before.before.before.before.before.before.before.before in
-    omega (arith, l.before.before.requires.0.0.few, more c)
+    omega (arith, c.requires.0.0.few, more c)
 
-loop-less : tie.Need-loop-smaller invariant-loop decreases-loop
+loop-less : tie.Need-loop-next-smaller invariant-loop decreases-loop
 loop-less c = omega (arith, more c)
 
 -- none of the page's entries is to move
-later : (c : tie.After-enum-told invariant-loop decreases-loop) (j : ℕ)
-    → let p = c.before.before.before.before in
-    let l = p.before in
-    let a = l.before.before.args in
+later : (c : tie.In-Nothing invariant-loop decreases-loop) (j : ℕ)
+    →
+    let a = c.args in
     let ks = walk a.store.now a.first in
-    j ≡ length (entries_of p.block_at.result.now)
-    → Behind a.store.now ks (length ks) (movable a.copying (decode a.store.now)) (l.loop.passed + j)
-    (l.loop.i + 1)
+    j ≡ length (entries_of c.block_at-page.result.now)
+    → Behind a.store.now ks (length ks) (movable a.copying (decode a.store.now)) (c.loop-next.passed + j)
+    (c.loop-next.i + 1)
 later c j e =
-    let p = c.before.before.before.before in
-    let l = p.before in
-    page-later l.before.before.requires.0.0 l.loop.invariant.2 l.loop.invariant.0 (page p)
-    c.before.before.first-in-page.ensures.0 c.enum_told.given.1 j e (omega (arith, few p))
+    page-later c.requires.0.0 c.loop-next.invariant.2 c.loop-next.invariant.0 (page c.before.before.before)
+    c.first_in_page-found.ensures.0 c.in-Nothing.is j e (omega (arith, few c.before.before.before))
 
-loop-again : tie.Need-loop-preserved invariant-loop decreases-loop
+loop-again : tie.Need-loop-next-preserved invariant-loop decreases-loop
 loop-again c =
-    let x = c.before.before in
-    let p = x.before.before.before.before.before in
-    let l = p.before in
-    let s = l.before.before in (
+    (
       more c,
-      link-next s.args.first (page p) l.loop.invariant.0 x.next-at.ensures (more c),
-      later x.before c.count_entries.result (number c),
+      link-next c.args.first (page c.before.before.before.before.before.before) c.loop-next.invariant.0 c.next_at-next.ensures (more c),
+      later c.before.before.before c.count_entries-passed.result (number c),
     )
 
-returns-2 : tie.Need-returns-2 invariant-loop decreases-loop
+returns-2 : tie.Need-returns invariant-loop decreases-loop
 returns-2 c =
-    let x = c.before in
-    let p = x.before.before.before.before.before in
-    let l = p.before in
-    let s = l.before.before in
-    let store = s.args.store.now in
-    let ks = walk store s.args.first in
-    let t = movable s.args.copying (decode store) in
-    let end = link-end s.args.first (page p) l.loop.invariant.0 x.next-at.ensures c.if1.true in (
+    let store = c.args.store.now in
+    let ks = walk store c.args.first in
+    let t = movable c.args.copying (decode store) in
+    let end = link-end c.args.first (page c.before.before.before.before.before) c.loop-next.invariant.0 c.next_at-next.ensures c.if-next.true in (
       subst (λ (js : List ℕ). Seeks t (bind js (entries_on store)) Mover.Nothing) (take-length ks)
-          (walk_end s.requires.0.0 (later x.before _ refl) end),
+          (walk_end c.requires.0.0 (later c.before.before _ refl) end),
       (nowhere, omega arith),
     )
 
-pub first-in-chain-spec : {M : Type 1} → statement M
-first-in-chain-spec =
+pub first_in_chain_spec : {M : Type 1} → statement M
+first_in_chain_spec =
     tie.close
     (tie.spec
     invariant-loop

@@ -14,101 +14,90 @@ use Rattle.split.specs.MoverLaws.{slot-here, slot-after, slot-found, slot-later,
 use Rattle.split.proofs.search.first_in_page.Statement.{statement}
 use Rattle.split.proofs.search.first_in_page.Tie as tie
 
-abbrev invariant-loop : tie.invariant-loop
+abbrev invariant-loop : tie.invariant-loop-i
 invariant-loop page block store copies walked m copying fresh from n i₀ i =
     (Before (movable copying (decode store)) (entries_of page) i) × (from ≤ i)
 
-abbrev decreases-loop : tie.decreases-loop
+abbrev decreases-loop : tie.decreases-loop-i
 decreases-loop page block store copies walked m copying fresh from n i₀ i = n - i
 
-count-entries-requires : tie.Need-count-entries-requires invariant-loop decreases-loop
-count-entries-requires c κs = omega (arith, c.before.before.requires.0.0.whole)
+count-entries-requires : tie.Need-count_entries-n-requires invariant-loop decreases-loop
+count-entries-requires c κs = omega (arith, c.requires.0.0.whole)
 
-loop-holds : tie.Need-loop-init invariant-loop decreases-loop
-loop-holds c = (c.before.before.before.requires.1.0, omega arith)
+loop-holds : tie.Need-loop-i-init invariant-loop decreases-loop
+loop-holds c = (c.requires.1.0, omega arith)
 
-inside : (c : tie.In-loop invariant-loop decreases-loop)
-    → c.before.loop.i < u16_at c.before.before.before.before.before.args.page.now 0
-inside c = omega (arith, c.loop-test.true, c.before.before.count_entries.ensures)
+inside : (c : tie.In-loop-i invariant-loop decreases-loop)
+    → c.loop-i.i < u16_at c.args.page.now 0
+inside c = omega (arith, c.loop-i-test.true, c.count_entries-n.ensures)
 
-get-entry-requires : tie.Need-get-entry-requires invariant-loop decreases-loop
+get-entry-requires : tie.Need-get_entry-entry-requires invariant-loop decreases-loop
 get-entry-requires c κs =
-    let s = c.before.before.before.before.before in
-    (omega (arith, inside c, number-le s.args.page.now s.requires.0.0.number), s.requires.0.0.whole)
+    (omega (arith, inside c, number-le c.args.page.now c.requires.0.0.number), c.requires.0.0.whole)
 
-is-movable-requires : tie.Need-is-movable-requires invariant-loop decreases-loop
+is-movable-requires : tie.Need-is_movable-requires invariant-loop decreases-loop
 is-movable-requires c κs =
-    let l = c.before.before in
-    let s = l.before.before.before.before in
-    let x = decode s.args.store.now in
-    let i = l.loop.i in (
-      (s.requires.0.1, s.requires.0.2),
+    let x = decode c.args.store.now in
+    let i = c.loop-i.i in (
+      (c.requires.0.1, c.requires.0.2),
       λ f.
-          ap (copied x) c.get-entry.ensures
-          ∙ slot-after (copied x) s.args.page.now i (inside c.before) s.args.from (s.requires.1.1 f)
-          l.loop.invariant.1,
+          ap (copied x) c.get_entry-entry.ensures
+          ∙ slot-after (copied x) c.args.page.now i (inside c.before) c.args.from (c.requires.1.1 f)
+          c.loop-i.invariant.1,
     )
 
 -- the test of the entry in slot i
-tested : (c : tie.After-is-movable invariant-loop decreases-loop)
-    → let l = c.before.before.before in
-    let a = l.before.before.before.before.args in
-    c.is-movable.result ≡ movable a.copying (decode a.store.now) (entry_at a.page.now l.loop.i)
+tested : (c : tie.After-is_movable invariant-loop decreases-loop)
+    →
+    let a = c.args in
+    c.is_movable.result ≡ movable a.copying (decode a.store.now) (entry_at a.page.now c.loop-i.i)
 tested c =
-    let a = c.before.before.before.before.before.before.before.args in
-    c.is-movable.ensures ∙ ap (movable a.copying (decode a.store.now)) c.before.get-entry.ensures
+    let a = c.args in
+    c.is_movable.ensures ∙ ap (movable a.copying (decode a.store.now)) c.get_entry-entry.ensures
 
-cast-t15 : tie.Need-overflow-cast-t15 invariant-loop decreases-loop
+cast-t15 : tie.Need-overflow_cast-result invariant-loop decreases-loop
 cast-t15 c =
-    let l = c.before.before.before in
-    let s = l.before.before.before.before.before in
-    omega (arith, inside l, number-le s.args.page.now s.requires.0.0.number)
+    omega (arith, inside c.before.before.before, number-le c.args.page.now c.requires.0.0.number)
 
-returns : tie.Need-returns invariant-loop decreases-loop
+returns : tie.Need-returns-then-is_movable invariant-loop decreases-loop
 returns c =
-    let v = c.before in
-    let l = v.before.before.before in
-    let s = l.before.before.before.before in
-    let a = s.args in
+    let a = c.args in
     let es = entries_of a.page.now in
     let t = movable a.copying (decode a.store.now) in
-    let more = inside v.before.before in
-    let k = l.loop.i in
-    let read = sym v.before.get-entry.ensures in (
+    let more = inside c.before.before.before in
+    let k = c.loop-i.i in
+    let read = sym c.get_entry-entry.ensures in (
       subst (λ (e : Entry). Seeks t es (Mover.At e k a.block k)) read
-          (slot-here t a.page.now k more l.loop.invariant.0 (sym (tested v) ∙ c.if1.true)),
+          (slot-here t a.page.now k more c.loop-i.invariant.0 (sym (tested c.before) ∙ c.if-is_movable.true)),
       located
           (subst (λ (e : Entry). found_on a.block es e.pair ≡ Found.At a.block k) read
-          (slot-found t a.page.now k more s.requires.0.0 a.block)),
+          (slot-found t a.page.now k more c.requires.0.0 a.block)),
     )
 
-add-i : tie.Need-overflow-add-i invariant-loop decreases-loop
+add-i : tie.Need-overflow_add-i invariant-loop decreases-loop
 add-i c = omega arith
 
-loop-less : tie.Need-loop-smaller invariant-loop decreases-loop
+loop-less : tie.Need-loop-i-smaller invariant-loop decreases-loop
 loop-less c = omega arith
 
-loop-again : tie.Need-loop-preserved invariant-loop decreases-loop
+loop-again : tie.Need-loop-i-preserved invariant-loop decreases-loop
 loop-again c =
-    let v = c.before in
-    let l = v.before.before.before in
-    let a = l.before.before.before.before.args in (
-      slot-later (movable a.copying (decode a.store.now)) a.page.now l.loop.i
-          (inside v.before.before) l.loop.invariant.0 (sym (tested v) ∙ c.if1.false),
-      omega (arith, l.loop.invariant.1),
+    let a = c.args in (
+      slot-later (movable a.copying (decode a.store.now)) a.page.now c.loop-i.i
+          (inside c.before.before.before) c.loop-i.invariant.0 (sym (tested c.before) ∙ c.if-is_movable.false),
+      omega (arith, c.loop-i.invariant.1),
     )
 
-returns-2 : tie.Need-returns-2 invariant-loop decreases-loop
+returns-2 : tie.Need-returns invariant-loop decreases-loop
 returns-2 c =
-    let l = c.before in
-    let a = l.before.before.before.before.args in (
-      slot-end (movable a.copying (decode a.store.now)) a.page.now l.loop.i l.loop.invariant.0
-          (omega (arith, c.loop-test.false, l.before.count_entries.ensures)),
+    let a = c.args in (
+      slot-end (movable a.copying (decode a.store.now)) a.page.now c.loop-i.i c.loop-i.invariant.0
+          (omega (arith, c.loop-i-test.false, c.count_entries-n.ensures)),
       nowhere,
     )
 
-pub first-in-page-spec : {M : Type 1} → statement M
-first-in-page-spec =
+pub first_in_page_spec : {M : Type 1} → statement M
+first_in_page_spec =
     tie.close
     (tie.spec
     invariant-loop

@@ -17,67 +17,61 @@ use Rattle.split.specs.OldChainLaws.{read-within, read-pages, read_short, read-e
 use Rattle.split.proofs.search.first_mover.Statement.{statement}
 use Rattle.split.proofs.search.first_mover.Tie as tie
 
-old-home-requires : tie.Need-old-home-requires
-old-home-requires c κs = c.before.requires.0
+old-home-requires : tie.Need-old_home-first-requires
+old-home-requires c κs = c.requires.0
 
-zero-walk-requires : tie.Need-zero-walk-requires
+zero-walk-requires : tie.Need-zero_walk-copies-requires
 zero-walk-requires c κs = tt
 
-walk-copies-requires : tie.Need-walk-copies-requires
+walk-copies-requires : tie.Need-walk_copies-walked-requires
 walk-copies-requires c κs =
-    let z = c.before in
-    (z.before.before.before.requires.0, zero_room z.zero-walk.ensures)
+    (c.requires.0, zero_room c.zero_walk-copies.ensures)
 
 -- the entries from there on are the old chain's
-entries : (c : tie.After-old-home)
-    → let s = c.before.before.args.store.now in
-    bind (walk s c.old_Home.result) (entries_on s) ≡ entries_at (decode s) (old_bucket (decode s))
+entries : (c : tie.After-old_home-first)
+    → let s = c.args.store.now in
+    bind (walk s c.old_home-first.result) (entries_on s) ≡ entries_at (decode s) (old_bucket (decode s))
 entries c =
-    let r = c.before.before.requires.0 in
-    read-entries r (old_bucket (decode c.before.before.args.store.now)) (old-made r) c.old_Home.ensures
+    let r = c.requires.0 in
+    read-entries r (old_bucket (decode c.args.store.now)) (old-made r) c.old_home-first.ensures
 
-first-in-chain-requires : tie.Need-first-in-chain-requires
+first-in-chain-requires : tie.Need-first_in_chain-requires
 first-in-chain-requires c κs =
-    let k = c.before in
-    let h = k.before.before.before in
-    let s = h.before.before in
-    let r = s.requires.0 in
-    let x = decode s.args.store.now in
+    let r = c.requires.0 in
+    let x = decode c.args.store.now in
     let b = old_bucket x in
-    let at = h.old_Home.ensures in
-    let q = s.requires.1 in (
+    let at = c.old_home-first.ensures in
+    let q = c.requires.1 in (
       (
         read-within r b (old-made r) at,
         read-pages r b (old-made r) at,
         read_short r b (old-made r) at,
         r,
-        k.walk-copies.ensures,
+        c.walk_copies-walked.ensures,
       ),
       (
-        subst (λ (es : List Entry). Before (movable s.args.copying x) es s.args.from) (sym (entries h)) q.0,
-        subst (λ (es : List Entry). Fresh s.args.fresh x es s.args.from) (sym (entries h)) q.1,
+        subst (λ (es : List Entry). Before (movable c.args.copying x) es c.args.from) (sym (entries c.before.before.before.before)) q.0,
+        subst (λ (es : List Entry). Fresh c.args.fresh x es c.args.from) (sym (entries c.before.before.before.before)) q.1,
         spot_on r at q.2,
       ),
     )
 
 returns : tie.Need-returns
 returns c =
-    let h = c.before.before.before.before.before in
-    let s = h.before.before in
-    let a = s.args in
+    let a = c.args in
     let x = decode a.store.now in
-    let e = c.first-in-chain.ensures in (
-      subst (λ (es : List Entry). Seeks (movable a.copying x) es c.first-in-chain.result) (entries h) e.0,
+    let e = c.first_in_chain.ensures in (
+      subst (λ (es : List Entry). Seeks (movable a.copying x) es c.first_in_chain.result) (entries c.before.before.before.before.before) e.0,
       (
-        located-as {f = find_in a.store.now (walk a.store.now h.old_Home.result)} e.1.0
+        located-as {f = find_in a.store.now (walk a.store.now c.old_home-first.result)} e.1.0
             (find_at x (old_bucket x))
-            (read_found s.requires.0 (old_bucket x) (old-made s.requires.0) h.old_Home.ensures),
+            (read_found c.requires.0 (old_bucket x) (old-made c.requires.0) c.old_home-first.ensures),
         e.1.1,
       ),
     )
 
-pub first-mover-spec : {M : Type 1} → statement M
-first-mover-spec =
+pub first_mover_spec : {M : Type 1} → statement M
+first_mover_spec =
     tie.close
     (tie.spec
     old-home-requires

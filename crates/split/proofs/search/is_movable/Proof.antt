@@ -11,69 +11,59 @@ use Rattle.split.specs.MoverLaws.{movable-copy}
 use Rattle.split.proofs.search.is_movable.Statement.{statement}
 use Rattle.split.proofs.search.is_movable.Tie as tie
 
-bucket-of-requires : tie.Need-bucket-of-requires
+bucket-of-requires : tie.Need-bucket_of-requires
 bucket-of-requires c κs = search rules
 
-returns : tie.Need-returns
+returns : tie.Need-returns-then-bucket_of-new
 returns c =
-    let b = c.before in
-    let s = b.before.before.before in
-    movable-other s.requires.0.0 s.args.e b.bucket-of.result b.bucket-of.ensures s.args.copying
-    c.if1.true
+    movable-other c.requires.0.0 c.args.e c.bucket_of.result c.bucket_of.ensures c.args.copying
+    c.if-bucket_of-new.true
 
-returns-2 : tie.Need-returns-2
+returns-2 : tie.Need-returns-then-not-copying
 returns-2 c =
-    let b = c.before.before in
-    let s = b.before.before.before in
-    movable-clear s.requires.0.0 s.args.e b.bucket-of.result b.bucket-of.ensures s.args.copying
-    (not-true s.args.copying c.if2.true) c.before.if1.false
+    movable-clear c.requires.0.0 c.args.e c.bucket_of.result c.bucket_of.ensures c.args.copying
+    (not-true c.args.copying c.if-not-copying.true-raw) c.if-bucket_of-new.false
 
-returns-3 : tie.Need-returns-3
+returns-3 : tie.Need-returns-then-fresh
 returns-3 c =
-    let b = c.before.before.before in
-    let s = b.before.before.before in
-    movable-fresh s.requires.0.0 s.args.e b.bucket-of.result b.bucket-of.ensures s.args.copying
-    (not-false s.args.copying c.before.if2.false) (s.requires.1 c.if3.true) c.before.before.if1.false
+    movable-fresh c.requires.0.0 c.args.e c.bucket_of.result c.bucket_of.ensures c.args.copying
+    (not-false c.args.copying c.if-not-copying.false-raw) (c.requires.1 c.if-fresh.true) c.if-bucket_of-new.false
 
 -- where the step looks for copies, the walk is the new chain's
-new-chain : (c : tie.Else3)
-    → let a = c.before.before.before.before.before.before.args in
+new-chain : (c : tie.Else-fresh)
+    → let a = c.args in
     NewChain (decode a.store.now) a.copies.now a.walked
 new-chain c =
-    let s = c.before.before.before.before.before.before in
-    s.requires.0.1 (not-false s.args.copying c.before.if2.false) c.if3.false
+    c.requires.0.1 (not-false c.args.copying c.if-not-copying.false-raw) c.if-fresh.false
 
-find-pair-requires : tie.Need-find-pair-requires
+find-pair-requires : tie.Need-find_pair-found-requires
 find-pair-requires c κs =
-    let r = c.before.before.before.before.before.before.requires.0.0 in
+    let r = c.requires.0.0 in
     (copies-within r (new-chain c), copies-pages r (new-chain c))
 
-enum_told : tie.Need-enum-told
+enum_told : tie.Need-enum_told-1
 enum_told c = search rules
 
-enum-told-2 : tie.Need-enum-told-2
+enum-told-2 : tie.Need-enum_told-in_default
 enum-told-2 c = search rules
 
 -- what the search for a copy tells
-looked : (c : tie.After-find-pair)
-    → let a = c.before.before.before.before.before.before.before.args in
-    not (is_found c.find-pair.result) ≡ movable a.copying (decode a.store.now) a.e
+looked : (c : tie.After-find_pair-found)
+    → let a = c.args in
+    not (is_found c.find_pair-found.result) ≡ movable a.copying (decode a.store.now) a.e
 looked c =
-    let e = c.before.before in
-    let b = e.before.before in
-    let s = b.before.before.before in
-    movable-copy s.requires.0.0 s.args.e b.bucket-of.result b.bucket-of.ensures
-    (not-false s.args.copying e.if2.false) (new-chain c.before) e.before.if1.false
-    c.find-pair.result c.find-pair.ensures
+    movable-copy c.requires.0.0 c.args.e c.bucket_of.result c.bucket_of.ensures
+    (not-false c.args.copying c.if-not-copying.false-raw) (new-chain c.before) c.if-bucket_of-new.false
+    c.find_pair-found.result c.find_pair-found.ensures
 
-returns-4 : tie.Need-returns-4
-returns-4 c = ap (λ (f : Found). not (is_found f)) (sym c.enum_told.given.1) ∙ looked c.before.before
+returns-4 : tie.Need-returns-in-At
+returns-4 c = ap (λ (f : Found). not (is_found f)) (sym c.in-At.is) ∙ looked c.before
 
-returns-5 : tie.Need-returns-5
-returns-5 c = ap (λ (f : Found). not (is_found f)) (sym c.enum-told2.given.1) ∙ looked c.before.before
+returns-5 : tie.Need-returns-in_default
+returns-5 c = ap (λ (f : Found). not (is_found f)) (sym c.in_default.is) ∙ looked c.before
 
-pub is-movable-spec : {M : Type 1} → statement M
-is-movable-spec =
+pub is_movable_spec : {M : Type 1} → statement M
+is_movable_spec =
     tie.close
     (tie.spec
     bucket-of-requires

@@ -8,22 +8,21 @@ use Rattle.split.specs.MoverLaws.{walks-copies}
 use Rattle.split.proofs.search.walk_copies.Statement.{statement}
 use Rattle.split.proofs.search.walk_copies.Tie as tie
 
-returns : tie.Need-returns
+returns : tie.Need-returns-then-not-copying
 returns c k f =
-    let a = c.before.before.args in
-    let n : a.copying ≡ false = not-true a.copying c.if1.true in
+    let a = c.args in
+    let n : a.copying ≡ false = not-true a.copying c.if-not-copying.true-raw in
     never (cc)
 
-returns-2 : tie.Need-returns-2
-returns-2 c k f = let t : c.before.before.before.args.fresh ≡ true = c.if2.true in never (cc)
+returns-2 : tie.Need-returns-then-fresh
+returns-2 c k f = let t : c.args.fresh ≡ true = c.if-fresh.true in never (cc)
 
-walk-bucket-requires : tie.Need-walk-bucket-requires
+walk-bucket-requires : tie.Need-walk_bucket-requires
 walk-bucket-requires c κs =
-    let s = c.before.before.before.before in
-    (reads_known s.requires.0, omega arith, s.requires.1)
+    (reads_known c.requires.0, omega arith, c.requires.1)
 
-returns-3 : tie.Need-returns-3
-returns-3 c k f = walks-copies c.before.before.before.before.before.requires.0 c.walk-bucket.ensures
+returns-3 : tie.Need-returns
+returns-3 c k f = walks-copies c.requires.0 c.walk_bucket.ensures
 
-pub walk-copies-spec : {M : Type 1} → statement M
-walk-copies-spec = tie.close (tie.spec returns returns-2 walk-bucket-requires returns-3)
+pub walk_copies_spec : {M : Type 1} → statement M
+walk_copies_spec = tie.close (tie.spec returns returns-2 walk-bucket-requires returns-3)

@@ -13,7 +13,7 @@ use Rattle.split.specs.BeginLaws.{field_next}
 use Rattle.split.proofs.step.is_wanted.Statement.{statement}
 use Rattle.split.proofs.step.is_wanted.Tie as tie
 
-cast-result : tie.Need-overflow-cast-result
+cast-result : tie.Need-overflow_cast-result
 cast-result c = search rules
 
 -- the buckets, and the pairs that they have room for
@@ -29,10 +29,10 @@ product c =
     let f : c.args.m.fill ≤ 40 = omega (arith, ap (λ (g : Meta). g.fill) w.2, w.1.fill_high) in
     mul-le-mul f (buckets c)
 
-add-result : tie.Need-overflow-add-result
+add-result : tie.Need-overflow_add-result
 add-result c = omega (arith, buckets c.before.before)
 
-mul-result : tie.Need-overflow-mul-result
+mul-result : tie.Need-overflow_mul-result
 mul-result c = omega (arith, product c.before.before)
 
 returns : tie.Need-returns
@@ -40,5 +40,5 @@ unfolding wanted meta_of
 returns c x l e =
     ap₂ ltb (ap₂ ◌*◌ (ap (λ (g : Meta). g.fill) e) (field_next x l e)) (ap (λ (g : Meta). g.count) e)
 
-pub is-wanted-spec : {M : Type 1} → statement M
-is-wanted-spec = tie.close (tie.spec cast-result add-result mul-result returns)
+pub is_wanted_spec : {M : Type 1} → statement M
+is_wanted_spec = tie.close (tie.spec cast-result add-result mul-result returns)

@@ -4,14 +4,14 @@ use borrow.Author.Rules.{rules}
 use Rattle.split.proofs.step.keep_spot.Statement.{statement}
 use Rattle.split.proofs.step.keep_spot.Tie as tie
 
-returns : tie.Need-returns
-returns c i = (c.if1.true, refl)
+returns : tie.Need-returns-then-page-place
+returns c i = (c.if-page-place.true, refl)
 
-no-spot-requires : tie.Need-no-spot-requires
+no-spot-requires : tie.Need-no_spot-requires
 no-spot-requires c κs = search rules
 
-returns-2 : tie.Need-returns-2
-returns-2 c i = absurd (omega (arith, c.no-spot.ensures))
+returns-2 : tie.Need-returns
+returns-2 c i = absurd (omega (arith, c.no_spot.ensures))
 
-pub keep-spot-spec : {M : Type 1} → statement M
-keep-spot-spec = tie.close (tie.spec returns no-spot-requires returns-2)
+pub keep_spot_spec : {M : Type 1} → statement M
+keep_spot_spec = tie.close (tie.spec returns no-spot-requires returns-2)

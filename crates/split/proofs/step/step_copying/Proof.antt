@@ -12,88 +12,75 @@ use Rattle.split.specs.CopyLaws.{copy-absent, copy_step, copy-next}
 use Rattle.split.proofs.step.step_copying.Statement.{statement}
 use Rattle.split.proofs.step.step_copying.Tie as tie
 
-find-spot-requires : tie.Need-find-spot-requires
-find-spot-requires c κs = let s = c.before.before in (s.requires.0.0, s.requires.1.1.page)
+find-spot-requires : tie.Need-find_spot-page-requires
+find-spot-requires c κs = (c.requires.0.0, c.requires.1.1.page)
 
-first-mover-requires : tie.Need-first-mover-requires
+first-mover-requires : tie.Need-first_mover-mover-requires
 first-mover-requires c κs =
-    let s = c.before.before.before in
-    let from = s.requires.1.1 in
-    (s.requires.0.0, (from.none true s.requires.1.0, from.fresh s.requires.1.0, c.find-spot.ensures))
+    let from = c.requires.1.1 in
+    (c.requires.0.0, (from.none true c.requires.1.0, from.fresh c.requires.1.0, c.find_spot-page.ensures))
 
-enum-known-mover : tie.Need-enum-known-mover
+enum-known-mover : tie.Need-enum_known-mover
 enum-known-mover c = search rules
 
-enum_told : tie.Need-enum-told
+enum_told : tie.Need-enum_told-1
 enum_told c = search rules
 
-plan-copied-requires : tie.Need-plan-copied-requires
+plan-copied-requires : tie.Need-plan_copied-change-requires
 plan-copied-requires c κs =
-    let t = c.before in
-    let s = t.before.before.before.before.before.before in
-    let none = seeks-none t.before.before.first-mover.ensures.0 t.enum_told.given.1 in
-    (s.requires.0, (s.requires.1.0, none))
+    let none = seeks-none c.first_mover-mover.ensures.0 c.in_default.is in
+    (c.requires.0, (c.requires.1.0, none))
 
-start-requires : tie.Need-start-requires
+start-requires : tie.Need-start-first-requires
 start-requires c κs = search rules
 
-advance-by-requires : tie.Need-advance-by-requires
+advance-by-requires : tie.Need-advance_by-requires
 advance-by-requires c κs = search rules
 
-same_length : tie.Need-same-length
+same_length : tie.Need-shape_of-images-in_default
 same_length c = search rules
 
-returns : tie.Need-returns
+returns : tie.Need-returns-in_default
 returns c =
-    let k = c.advance-by.ensures in
-    let n = c.before.start.ensures in
-    let p = c.before.before.before.before in
-    let t = p.before.before in
-    let s = t.before.before.before.before.before.before in
-    let none = seeks-none t.before.before.first-mover.ensures.0 t.enum_told.given.1 in
-    let x = decode s.args.store.now in (
-      advances-as (advanced p.plan-copied.ensures) k.0 k.1 (step-copies x s.requires.1.0 none),
-      subst (Leads x) (sym k.2) (leads-start x c.before.start.result n),
+    let k = c.advance_by.ensures in
+    let n = c.start-first.ensures in
+    let none = seeks-none c.first_mover-mover.ensures.0 c.in_default.is in
+    let x = decode c.args.store.now in (
+      advances-as (advanced c.plan_copied-change.ensures) k.0 k.1 (step-copies x c.requires.1.0 none),
+      subst (Leads x) (sym k.2) (leads-start x c.start-first.result n),
     )
 
-plan-put-requires : tie.Need-plan-put-requires
+plan-put-requires : tie.Need-plan_put-requires
 plan-put-requires c κs =
-    let v = c.before.before.before in
-    let s = v.before.before.before.before.before.before in
-    let r = s.requires.0.0 in
-    let e = v.mover.given.0.0 in
-    let first = seeks-entry v.before.before.first-mover.ensures.0 v.mover.given.1 in
-    ((r, omega arith, s.requires.0.1), (copy-absent r s.requires.1.0 e first, copy-next r s.requires.1.0 e first))
+    let r = c.requires.0.0 in
+    let e = c.in-At.entry in
+    let first = seeks-entry c.first_mover-mover.ensures.0 c.in-At.is in
+    ((r, omega arith, c.requires.0.1), (copy-absent r c.requires.1.0 e first, copy-next r c.requires.1.0 e first))
 
-or-full-requires : tie.Need-or-full-requires
+or-full-requires : tie.Need-or_full-requires
 or-full-requires c κs = search rules
 
-add-t19 : tie.Need-overflow-add-t19
+add-t19 : tie.Need-overflow_add-result
 add-t19 c =
-    let v = c.before.before.before.before.before.before.before in
-    omega (arith, v.before.before.first-mover.ensures.1.1, ap mover_place v.mover.given.1)
+    omega (arith, c.first_mover-mover.ensures.1.1, ap mover_place c.in-At.is)
 
-same-length-2 : tie.Need-same-length-2
+same-length-2 : tie.Need-shape_of-images
 same-length-2 c = search rules
 
-returns-2 : tie.Need-returns-2
+returns-2 : tie.Need-returns
 returns-2 c =
-    let p = c.before.before.before in
-    let v = p.before.before.before.before in
-    let s = v.before.before.before.before.before.before in
-    let r = s.requires.0.0 in
-    let x = decode s.args.store.now in
-    let found = v.before.before.first-mover.ensures.0 in
-    let first = seeks-entry found v.mover.given.1 in
-    let at = v.mover.given.0 in
-    let k = c.or-full.ensures in (
-      advances-as (places-advances p.plan-put.ensures) k.0 k.1 (copy_step r s.requires.1.0 at.0 first),
-      copy-leads x r.wf at.0 s.requires.1.0 first s.args.from s.requires.1.1 at.1.0
-          (seeks-place found v.mover.given.1) _ v.before.before.before.find-spot.ensures,
+    let r = c.requires.0.0 in
+    let x = decode c.args.store.now in
+    let found = c.first_mover-mover.ensures.0 in
+    let first = seeks-entry found c.in-At.is in
+    let k = c.or_full.ensures in (
+      advances-as (places-advances c.plan_put.ensures) k.0 k.1 (copy_step r c.requires.1.0 c.in-At.entry first),
+      copy-leads x r.wf c.in-At.entry c.requires.1.0 first c.args.from c.requires.1.1 c.in-At.place
+          (seeks-place found c.in-At.is) _ c.find_spot-page.ensures,
     )
 
-pub step-copying-spec : {M : Type 1} → statement M
-step-copying-spec =
+pub step_copying_spec : {M : Type 1} → statement M
+step_copying_spec =
     tie.close
     (tie.spec
     find-spot-requires

@@ -10,53 +10,45 @@ use Rattle.split.specs.StepLaws.{step-rests, step-begins, places-advances, advan
 use Rattle.split.proofs.step.step_idle.Statement.{statement}
 use Rattle.split.proofs.step.step_idle.Tie as tie
 
-is-wanted-requires : tie.Need-is-wanted-requires
+is-wanted-requires : tie.Need-is_wanted-requires
 is-wanted-requires c κs =
-    let s = c.before.before in
-    (decode s.args.store.now, reads-laid s.requires.0.0, reads-meta s.requires.0.0)
+    (decode c.args.store.now, reads-laid c.requires.0.0, reads-meta c.requires.0.0)
 
 -- the test
-tested : (c : tie.After-is-wanted)
-    → c.is-wanted.result ≡ wanted (decode c.before.before.before.args.store.now)
+tested : (c : tie.After-is_wanted)
+    → c.is_wanted.result ≡ wanted (decode c.args.store.now)
 tested c =
-    let s = c.before.before.before in
-    c.is-wanted.ensures (decode s.args.store.now) (reads-laid s.requires.0.0) (reads-meta s.requires.0.0)
+    c.is_wanted.ensures (decode c.args.store.now) (reads-laid c.requires.0.0) (reads-meta c.requires.0.0)
 
 halt-requires : tie.Need-halt-requires
 halt-requires c κs = search rules
 
-returns : tie.Need-returns
+returns : tie.Need-returns-then-not-is_wanted
 returns c =
-    let w = c.before.before in
-    let s = w.before.before.before in
     advances-as (halted c.halt.ensures.1) refl c.halt.ensures.0
-    (step-rests (decode s.args.store.now) s.requires.1
-    (sym (tested w) ∙ not-true w.is-wanted.result c.before.if1.true))
+    (step-rests (decode c.args.store.now) c.requires.1
+    (sym (tested c.before.before) ∙ not-true c.is_wanted.result c.if-not-is_wanted.true-raw))
 
-want : (c : tie.Else1) → wanted (decode c.before.before.before.before.args.store.now) ≡ true
-want c = sym (tested c.before) ∙ not-false c.before.is-wanted.result c.if1.false
+want : (c : tie.Else-not-is_wanted) → wanted (decode c.args.store.now) ≡ true
+want c = sym (tested c.before) ∙ not-false c.is_wanted.result c.if-not-is_wanted.false-raw
 
-plan-begin-requires : tie.Need-plan-begin-requires
+plan-begin-requires : tie.Need-plan_begin-requires
 plan-begin-requires c κs =
-    let s = c.before.before.before.before.before in
-    (s.requires.0, (s.requires.1, want c.before))
+    (c.requires.0, (c.requires.1, want c.before))
 
-or-full-requires : tie.Need-or-full-requires
+or-full-requires : tie.Need-or_full-requires
 or-full-requires c κs = search rules
 
-same_length : tie.Need-same-length
+same_length : tie.Need-shape_of-images
 same_length c = search rules
 
-returns-2 : tie.Need-returns-2
+returns-2 : tie.Need-returns
 returns-2 c =
-    let b = c.before.before.before in
-    let e = b.before.before in
-    let s = e.before.before.before.before in
-    advances-as (places-advances b.plan-begin.ensures) c.or-full.ensures.0 c.or-full.ensures.1
-    (step-begins (decode s.args.store.now) s.requires.1 (want e))
+    advances-as (places-advances c.plan_begin.ensures) c.or_full.ensures.0 c.or_full.ensures.1
+    (step-begins (decode c.args.store.now) c.requires.1 (want c.before.before.before.before.before))
 
-pub step-idle-spec : {M : Type 1} → statement M
-step-idle-spec =
+pub step_idle_spec : {M : Type 1} → statement M
+step_idle_spec =
     tie.close
     (tie.spec
     is-wanted-requires
