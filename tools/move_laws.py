@@ -16,6 +16,7 @@ import subprocess
 # crate: its modules that move.
 MOVES = {
     "address": ["BucketLaws"],
+    "chain": ["SearchLaws", "DecodeLaws"],
     "crc32c": ["InjectiveLaws"],
     "endian": ["EndianLaws"],
     "image": [

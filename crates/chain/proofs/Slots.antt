@@ -21,7 +21,7 @@ use Rattle.page.specs.Rule.{order_ok}
 use Rattle.page.specs.Allowed.{Sorted}
 use Rattle.chain.specs.declared.Slot.{Slot}
 use Rattle.chain.specs.Search.{slot_in}
-use Rattle.chain.specs.SearchLaws.{slot-here, slot-nowhere}
+use Rattle.chain.proofs.SearchLaws.{slot-here, slot-nowhere}
 
 module _ {l : List ℕ} (sorted : Sorted l) (p : Pair) {r : List ℕ} (run : r ≡ run_of p.hash l) where
   entries : run_entries r ≡ keep (has_code p.hash) (entries_of l)

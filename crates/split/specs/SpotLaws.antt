@@ -26,7 +26,7 @@ use Rattle.frame.specs.FreshLaws.{more_spares, fresh-blocks}
 use Rattle.chain.specs.Walk.{walk}
 use Rattle.chain.specs.WalkLaws.{walk-some, walk_first}
 use Rattle.chain.specs.Within.{entries_on}
-use Rattle.chain.specs.DecodeLaws.{chain-decode}
+use Rattle.chain.proofs.DecodeLaws.{chain-decode}
 use Rattle.reader.specs.JobLaws.{old-low}
 use Rattle.view.specs.Reads.{Reads}
 use Rattle.view.specs.ReadsLaws.{reads_known, reads-max}

@@ -25,7 +25,7 @@ use Rattle.frame.specs.ImagesLaws.{page-inside}
 use Rattle.chain.specs.Walk.{walk, Walked, Bounded}
 use Rattle.chain.specs.WalkLaws.{walk-trail, walk-few}
 use Rattle.chain.specs.Within.{entries_on, PagesOk, Within}
-use Rattle.chain.specs.DecodeLaws.{chain-decode, entries-walk}
+use Rattle.chain.proofs.DecodeLaws.{chain-decode, entries-walk}
 use Rattle.view.specs.Reads.{Reads}
 use Rattle.view.specs.ReadsLaws.{reads-laid, reads_sized, reads-size, reads-max}
 

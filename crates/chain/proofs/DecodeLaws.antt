@@ -14,7 +14,7 @@ use Rattle.image.specs.Decode.{max_at, block_of, trail, read_page, read_chain, d
 use Rattle.chain.specs.Walk.{walk}
 use Rattle.chain.specs.Search.{room_on, find_in, room_in, is_found, is_page}
 use Rattle.chain.specs.Within.{entries_on}
-use Rattle.chain.specs.SearchLaws.{find_in-any, room_in-any}
+use Rattle.chain.proofs.SearchLaws.{find_in-any, room_in-any}
 
 module _ (s : List ℕ) where
   on_pages-read : (ks : List ℕ) → on_pages (map (read_page s) ks) ≡ bind ks (entries_on s)
