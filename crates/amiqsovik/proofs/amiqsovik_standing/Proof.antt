@@ -11,37 +11,33 @@ use Rattle.amiqsovik.proofs.amiqsovik_standing.Tie as tie
 pack-requires : tie.Need-pack-requires
 pack-requires c κs = search rules
 
-returns : tie.Need-returns
+returns : tie.Need-returns-then-res-lt28
 unfolding standing_told
 returns c =
-    let s = c.before.before.before.before in
-    rw (lt-ltb (length s.args.res.now) 28 c.before.if1.true) (c.pack.ensures, refl)
+    rw (lt-ltb (length c.args.res.now) 28 c.if-res-lt28.true) (c.pack.ensures, refl)
 
-standing-requires : tie.Need-standing-requires
+standing-requires : tie.Need-standing-answer-requires
 standing-requires c κs = search rules
 
 show-requires : tie.Need-show-requires
 show-requires c κs = search rules
 
-standing-word-requires : tie.Need-standing-word-requires
+standing-word-requires : tie.Need-standing_word-requires
 standing-word-requires c κs = search rules
 
-same_length : tie.Need-same-length
+same_length : tie.Need-shape_of-res
 same_length c = search rules
 
-returns-2 : tie.Need-returns-2
+returns-2 : tie.Need-returns
 unfolding standing_told
 returns-2 c =
-    let put = c.before.before.before in
-    let found = put.before.before in
-    let s = found.before.before.before.before in
-    rw (le-ltb (length s.args.res.now) 28 found.before.if1.false) (
-      c.standing-word.ensures ∙ ap standing_word found.standing.ensures,
-      put.show.ensures ∙ ap (λ (a : StandingAnswer). shown a s.args.res.now) found.standing.ensures,
+    rw (le-ltb (length c.args.res.now) 28 c.if-res-lt28.false) (
+      c.standing_word.ensures ∙ ap standing_word c.standing-answer.ensures,
+      c.show.ensures ∙ ap (λ (a : StandingAnswer). shown a c.args.res.now) c.standing-answer.ensures,
     )
 
-pub amiqsovik-standing-spec : {M : Type 1} → statement M
-amiqsovik-standing-spec =
+pub amiqsovik_standing_spec : {M : Type 1} → statement M
+amiqsovik_standing_spec =
     tie.close
     (tie.spec
     pack-requires

@@ -11,65 +11,59 @@ use Rattle.batch.proofs.run_batch.Tie as tie
 abbrev kept : (store journal output words : List ℕ) → Kept
 kept s j out ws = record { disk = disk s j; output = out; words = ws }
 
-abbrev invariant-loop : tie.invariant-loop
+abbrev invariant-loop : tie.invariant-loop-i
 invariant-loop store₀ journal₀ calls output₀ words₀ n i₀ store journal output words i =
     Running calls n (kept store₀ journal₀ output₀ words₀) (kept store journal output words) i
 
-abbrev decreases-loop : tie.decreases-loop
+abbrev decreases-loop : tie.decreases-loop-i
 decreases-loop store₀ journal₀ calls output₀ words₀ n i₀ store journal output words i = n - i
 
-smaller-requires : tie.Need-smaller-requires invariant-loop decreases-loop
+smaller-requires : tie.Need-smaller-n-requires invariant-loop decreases-loop
 smaller-requires c κs = search rules
 
-loop-holds : tie.Need-loop-init invariant-loop decreases-loop
+loop-holds : tie.Need-loop-i-init invariant-loop decreases-loop
 loop-holds c = running_none _ _ _
 
-run-at-requires : tie.Need-run-at-requires invariant-loop decreases-loop
+run-at-requires : tie.Need-run_at-requires invariant-loop decreases-loop
 run-at-requires c κs =
-    let l = c.before.before.before in
-    let e = l.before.before.smaller.ensures in
-    omega (arith, l.loop-test.true)
+    omega (arith, c.loop-i-test.true)
 
-mul_words : tie.Need-overflow-mul-words invariant-loop decreases-loop
+mul_words : tie.Need-offset_bounds-words-i invariant-loop decreases-loop
 mul_words c = search rules
 
-slice-write-words : tie.Need-slice-write-words invariant-loop decreases-loop
+slice-write-words : tie.Need-bounds-words-i invariant-loop decreases-loop
 slice-write-words c =
-    let l = c.before.before.before.before.before.before.before.before.before.before in
-    let e = l.before.before.smaller.ensures in
-    omega (arith, l.loop-test.true, l.before.loop.invariant.words)
+    omega (arith, c.loop-i-test.true, c.loop-i.invariant.words)
 
-add-i : tie.Need-overflow-add-i invariant-loop decreases-loop
+add-i : tie.Need-overflow_add-i invariant-loop decreases-loop
 add-i c = search rules
 
-loop-less : tie.Need-loop-smaller invariant-loop decreases-loop
+loop-less : tie.Need-loop-i-smaller invariant-loop decreases-loop
 loop-less c = omega arith
 
-loop-again : tie.Need-loop-preserved invariant-loop decreases-loop
+loop-again : tie.Need-loop-i-preserved invariant-loop decreases-loop
 loop-again c =
-    let r = c.before.before.before.before.before.before in
-    let l = r.before.before.before.before in
-    running-next l.before.loop.invariant l.loop-test.true r.run_at.ensures r.run_at.auto.0
-    r.run_at.auto.1.0 r.run_at.auto.1.1.1.1.0
+    running-next c.loop-i.invariant c.loop-i-test.true c.run_at.ensures c.run_at.auto.store
+    c.run_at.auto.journal c.run_at.auto.output
 
-same_length : tie.Need-same-length invariant-loop decreases-loop
+same_length : tie.Need-shape_of-store invariant-loop decreases-loop
 same_length c = search rules
 
-same-length-2 : tie.Need-same-length-2 invariant-loop decreases-loop
+same-length-2 : tie.Need-shape_of-journal invariant-loop decreases-loop
 same-length-2 c = search rules
 
-same-length-3 : tie.Need-same-length-3 invariant-loop decreases-loop
+same-length-3 : tie.Need-shape_of-output invariant-loop decreases-loop
 same-length-3 c = search rules
 
-same-length-4 : tie.Need-same-length-4 invariant-loop decreases-loop
+same-length-4 : tie.Need-shape_of-words invariant-loop decreases-loop
 same-length-4 c = search rules
 
 returns : tie.Need-returns invariant-loop decreases-loop
 returns c =
-    let l = c.before in (l.before.smaller.ensures, running-end l.loop.invariant c.loop-test.false)
+    (c.smaller-n.ensures, running-end c.loop-i.invariant c.loop-i-test.false)
 
-pub run-batch-spec : {M : Type 1} → statement M
-run-batch-spec =
+pub run_batch_spec : {M : Type 1} → statement M
+run_batch_spec =
     tie.close
     (tie.spec
     invariant-loop

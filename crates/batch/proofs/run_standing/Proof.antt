@@ -7,37 +7,36 @@ use borrow.Author.Rules.{rules}
 use Rattle.batch.proofs.run_standing.Statement.{statement}
 use Rattle.batch.proofs.run_standing.Tie as tie
 
-smaller-requires : tie.Need-smaller-requires
+smaller-requires : tie.Need-smaller-n-requires
 smaller-requires c κs = search rules
 
-slice-relend-prefix-amiqsovik-standing : tie.Need-slice-relend-prefix-amiqsovik-standing
+slice-relend-prefix-amiqsovik-standing : tie.Need-slice_bounds-amiqsovik_standing-end
 slice-relend-prefix-amiqsovik-standing c = search rules
 
-slice-aggregate-amiqsovik-standing : tie.Need-slice-aggregate-amiqsovik-standing
+slice-aggregate-amiqsovik-standing : tie.Need-slice_bounds-amiqsovik_standing-end-2
 slice-aggregate-amiqsovik-standing c =
-    let a = c.before.before.before.before.args in
-    length-lent a.lent a.output.now c.before.smaller.ensures
+    let a = c.args in
+    length-lent a.lent a.output.now c.smaller-n.ensures
 
-amiqsovik-standing-requires : tie.Need-amiqsovik-standing-requires
+amiqsovik-standing-requires : tie.Need-amiqsovik_standing-requires
 amiqsovik-standing-requires c κs = search rules
 
-same_length : tie.Need-same-length
+same_length : tie.Need-shape_of-output
 same_length c = search rules
 
 returns : tie.Need-returns
 returns c =
-    let f = c.before.before.amiqsovik-standing.ensures in
-    let m = c.before.before.before.before in
-    let a = m.before.before.before.args in
+    let f = c.amiqsovik_standing.ensures in
+    let a = c.args in
     let out = a.output.now in
-    let e = m.smaller.ensures in
+    let e = c.smaller-n.ensures in
     rw (← take-lent a.lent out e, ← drop-lent a.lent out e) (
       f.0,
-      ap (λ (part : List ℕ). part ++ drop m.smaller.result out) f.1,
+      ap (λ (part : List ℕ). part ++ drop c.smaller-n.result out) f.1,
     )
 
-pub run-standing-spec : {M : Type 1} → statement M
-run-standing-spec =
+pub run_standing_spec : {M : Type 1} → statement M
+run_standing_spec =
     tie.close
     (tie.spec
     smaller-requires

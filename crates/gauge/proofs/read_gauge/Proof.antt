@@ -12,49 +12,44 @@ use Rattle.gauge.proofs.read_gauge.Statement.{statement}
 use Rattle.gauge.proofs.read_gauge.Tie as tie
 
 -- the store passed the tests
-passed-tests : (c : tie.After-enum-told) → Passes c.before.before.before.before.args.store.now
+passed-tests : (c : tie.In-Passed) → Passes c.args.store.now
 passed-tests c =
-    let t = c.before.before in
-    passes t.before.before.args.store.now (λ i. omega (arith, t.before.shared-slice-known.given i))
-    (sym t.test-store.ensures ∙ c.enum_told.given.1)
+    passes c.args.store.now (λ i. omega (arith, c.shared_slice_known-1.given i))
+    (sym c.test_store-test.ensures ∙ c.in-Passed.is)
 
-test-store-requires : tie.Need-test-store-requires
+test-store-requires : tie.Need-test_store-test-requires
 test-store-requires c κs = search rules
 
-enum-known-test : tie.Need-enum-known-test
+enum-known-test : tie.Need-enum_known-test
 enum-known-test c = search rules
 
-enum_told : tie.Need-enum-told
+enum_told : tie.Need-enum_told-1
 enum_told c = search rules
 
-block-at-requires : tie.Need-block-at-requires
+block-at-requires : tie.Need-block_at-requires
 block-at-requires c κs = passes-room (passed-tests c)
 
-read-meta-requires : tie.Need-read-meta-requires
+read-meta-requires : tie.Need-read_meta-m-requires
 read-meta-requires c κs =
     ap length c.block_at.ensures ∙ length-block _ 0 (passes-room (passed-tests c.before))
 
-gauge-of-requires : tie.Need-gauge-of-requires
+gauge-of-requires : tie.Need-gauge_of-requires
 gauge-of-requires c κs =
-    let b = c.before in
-    (passed-tests b.before).reads c.read-meta.result (c.read-meta.ensures ∙ ap read_meta b.block_at.ensures)
+    (passed-tests c.before.before).reads c.read_meta-m.result (c.read_meta-m.ensures ∙ ap read_meta c.block_at.ensures)
 
-returns : tie.Need-returns
+returns : tie.Need-returns-in-Failed
 unfolding gauge_outcome of_bits
 returns c =
-    let k = c.before in
-    let t = k.before.before in
-    let no = sym t.test-store.ensures ∙ k.test.given.1 in
-    sym (ap gauge_on (fails true t.before.before.args.store.now _ no))
+    let no = sym c.test_store-test.ensures ∙ c.in-Failed.is in
+    sym (ap gauge_on (fails true c.args.store.now _ no))
 
-returns-2 : tie.Need-returns-2
+returns-2 : tie.Need-returns-in-Passed
 unfolding gauge_outcome
 returns-2 c =
-    let t = c.before.before.before in
-    ap shows c.gauge-of.ensures ∙ sym (ap gauge_on (passed-tests t).index)
+    ap shows c.gauge_of.ensures ∙ sym (ap gauge_on (passed-tests c.before.before.before).index)
 
-pub read-gauge-spec : {M : Type 1} → statement M
-read-gauge-spec =
+pub read_gauge_spec : {M : Type 1} → statement M
+read_gauge_spec =
     tie.close
     (tie.spec
     test-store-requires

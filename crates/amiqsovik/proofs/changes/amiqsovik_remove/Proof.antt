@@ -6,18 +6,18 @@ use Rattle.amiqsovik.proofs.changes.amiqsovik_remove.Tie as tie
 remove-requires : tie.Need-remove-requires
 remove-requires c κs = search rules
 
-answer-word-requires : tie.Need-answer-word-requires
+answer-word-requires : tie.Need-answer_word-requires
 answer-word-requires c κs = search rules
 
-same_length : tie.Need-same-length
+same_length : tie.Need-shape_of-store
 same_length c = search rules
 
-same-length-2 : tie.Need-same-length-2
+same-length-2 : tie.Need-shape_of-journal
 same-length-2 c = search rules
 
 returns : tie.Need-returns
-returns c = told-change c.before.before.before.before.before.remove.ensures c.answer_word.ensures
+returns c = told-change c.remove.ensures c.answer_word.ensures
 
-pub amiqsovik-remove-spec : {M : Type 1} → statement M
-amiqsovik-remove-spec =
+pub amiqsovik_remove_spec : {M : Type 1} → statement M
+amiqsovik_remove_spec =
     tie.close (tie.spec remove-requires answer-word-requires same_length same-length-2 returns)

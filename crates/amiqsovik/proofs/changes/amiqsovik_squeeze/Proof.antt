@@ -6,18 +6,18 @@ use Rattle.amiqsovik.proofs.changes.amiqsovik_squeeze.Tie as tie
 squeeze-requires : tie.Need-squeeze-requires
 squeeze-requires c κs = search rules
 
-work-word-requires : tie.Need-work-word-requires
+work-word-requires : tie.Need-work_word-requires
 work-word-requires c κs = search rules
 
-same_length : tie.Need-same-length
+same_length : tie.Need-shape_of-store
 same_length c = search rules
 
-same-length-2 : tie.Need-same-length-2
+same-length-2 : tie.Need-shape_of-journal
 same-length-2 c = search rules
 
 returns : tie.Need-returns
-returns c = told-work c.before.before.before.before.before.squeeze.ensures c.work-word.ensures
+returns c = told-work c.squeeze.ensures c.work_word.ensures
 
-pub amiqsovik-squeeze-spec : {M : Type 1} → statement M
-amiqsovik-squeeze-spec =
+pub amiqsovik_squeeze_spec : {M : Type 1} → statement M
+amiqsovik_squeeze_spec =
     tie.close (tie.spec squeeze-requires work-word-requires same_length same-length-2 returns)

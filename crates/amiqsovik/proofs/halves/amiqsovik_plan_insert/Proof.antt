@@ -3,18 +3,18 @@ use borrow.Author.Rules.{rules}
 use Rattle.amiqsovik.proofs.halves.amiqsovik_plan_insert.Statement.{statement}
 use Rattle.amiqsovik.proofs.halves.amiqsovik_plan_insert.Tie as tie
 
-plan-insert-requires : tie.Need-plan-insert-requires
+plan-insert-requires : tie.Need-plan_insert-requires
 plan-insert-requires c κs = search rules
 
-plan-word-requires : tie.Need-plan-word-requires
+plan-word-requires : tie.Need-plan_word-requires
 plan-word-requires c κs = search rules
 
-same_length : tie.Need-same-length
+same_length : tie.Need-shape_of-plan
 same_length c = search rules
 
 returns : tie.Need-returns
-returns c = told-plan c.before.before.before.plan-insert.ensures c.plan-word.ensures
+returns c = told-plan c.plan_insert.ensures c.plan_word.ensures
 
-pub amiqsovik-plan-insert-spec : {M : Type 1} → statement M
-amiqsovik-plan-insert-spec =
+pub amiqsovik_plan_insert_spec : {M : Type 1} → statement M
+amiqsovik_plan_insert_spec =
     tie.close (tie.spec plan-insert-requires plan-word-requires same_length returns)

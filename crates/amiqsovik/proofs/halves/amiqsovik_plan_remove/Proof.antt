@@ -3,18 +3,18 @@ use borrow.Author.Rules.{rules}
 use Rattle.amiqsovik.proofs.halves.amiqsovik_plan_remove.Statement.{statement}
 use Rattle.amiqsovik.proofs.halves.amiqsovik_plan_remove.Tie as tie
 
-plan-remove-requires : tie.Need-plan-remove-requires
+plan-remove-requires : tie.Need-plan_remove-requires
 plan-remove-requires c κs = search rules
 
-plan-word-requires : tie.Need-plan-word-requires
+plan-word-requires : tie.Need-plan_word-requires
 plan-word-requires c κs = search rules
 
-same_length : tie.Need-same-length
+same_length : tie.Need-shape_of-plan
 same_length c = search rules
 
 returns : tie.Need-returns
-returns c = told-plan c.before.before.before.plan-remove.ensures c.plan-word.ensures
+returns c = told-plan c.plan_remove.ensures c.plan_word.ensures
 
-pub amiqsovik-plan-remove-spec : {M : Type 1} → statement M
-amiqsovik-plan-remove-spec =
+pub amiqsovik_plan_remove_spec : {M : Type 1} → statement M
+amiqsovik_plan_remove_spec =
     tie.close (tie.spec plan-remove-requires plan-word-requires same_length returns)

@@ -7,12 +7,12 @@ use Rattle.amiqsovik.proofs.recovery.amiqsovik_wiped.Tie as tie
 wiped-requires : tie.Need-wiped-requires
 wiped-requires c κs = search rules
 
-answer-word-requires : tie.Need-answer-word-requires
+answer-word-requires : tie.Need-answer_word-requires
 answer-word-requires c κs = search rules
 
 returns : tie.Need-returns
-returns c = c.answer_word.ensures ∙ ap answer_word c.before.wiped.ensures
+returns c = c.answer_word.ensures ∙ ap answer_word c.wiped.ensures
 
-pub amiqsovik-wiped-spec : {M : Type 1} → statement M
-amiqsovik-wiped-spec =
+pub amiqsovik_wiped_spec : {M : Type 1} → statement M
+amiqsovik_wiped_spec =
     tie.close (tie.spec wiped-requires answer-word-requires returns)

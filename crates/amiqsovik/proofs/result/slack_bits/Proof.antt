@@ -18,25 +18,25 @@ read_is c = to_z-of_z w64 c.args.slack c.ranges.slack
 read_fits : (c : tie.Start) → SFits w64 (read c)
 read_fits c = subst (λ (z : ℤ). SFits w64 z) (sym (read_is c)) c.ranges.slack
 
-cast-result : tie.Need-overflow-cast-result
-cast-result c = plus-casts (read c.before) (read_fits c.before) c.if1.true
+cast-result : tie.Need-overflow_cast-result
+cast-result c = plus-casts (read c.before) (read_fits c.before) c.if-slack-ge0.true
 
-returns : tie.Need-returns
-returns c = plus-bits (read c.before) c.if1.true ∙ ap twos_complement (read_is c.before)
+returns : tie.Need-returns-then-slack-ge0
+returns c = plus-bits (read c.before) c.if-slack-ge0.true ∙ ap twos_complement (read_is c.before)
 
-sub-result : tie.Need-overflow-sub-result
-sub-result c = less-fits (read c.before) (read_fits c.before) c.if1.false
+sub-result : tie.Need-overflow_sub-result
+sub-result c = less-fits (read c.before) (read_fits c.before) c.if-slack-ge0.false
 
-cast-result-2 : tie.Need-overflow-cast-result-2
-cast-result-2 c = less-casts (read c.before) (read_fits c.before) c.if1.false
+cast-result-2 : tie.Need-overflow_cast-result-2
+cast-result-2 c = less-casts (read c.before) (read_fits c.before) c.if-slack-ge0.false
 
-sub-result-2 : tie.Need-overflow-sub-result-2
-sub-result-2 c = less-small (read c.before) (read_fits c.before) c.if1.false
+sub-result-2 : tie.Need-overflow_sub-result-2
+sub-result-2 c = less-small (read c.before) (read_fits c.before) c.if-slack-ge0.false
 
-returns-2 : tie.Need-returns-2
+returns-2 : tie.Need-returns
 returns-2 c =
-    less-bits (read c.before) (read_fits c.before) c.if1.false ∙ ap twos_complement (read_is c.before)
+    less-bits (read c.before) (read_fits c.before) c.if-slack-ge0.false ∙ ap twos_complement (read_is c.before)
 
-pub slack-bits-spec : {M : Type 1} → statement M
-slack-bits-spec =
+pub slack_bits_spec : {M : Type 1} → statement M
+slack_bits_spec =
     tie.close (tie.spec cast-result returns sub-result cast-result-2 sub-result-2 returns-2)

@@ -4,26 +4,26 @@ use borrow.Author.Rules.{rules}
 use Rattle.amiqsovik.proofs.words.lookup_word.Statement.{statement}
 use Rattle.amiqsovik.proofs.words.lookup_word.Tie as tie
 
-enum-known-answer : tie.Need-enum-known-answer
+enum-known-answer : tie.Need-enum_known-answer
 enum-known-answer c = search rules
 
 pack-requires : tie.Need-pack-requires
 pack-requires c κs = search rules
 
-enum-known-answer-2 : tie.Need-enum-known-answer-2
+enum-known-answer-2 : tie.Need-enum_known-answer-in-Refused-1
 enum-known-answer-2 c = search rules
 
-refusal-word-requires : tie.Need-refusal-word-requires
+refusal-word-requires : tie.Need-refusal_word-requires
 refusal-word-requires c κs = search rules
 
-returns : tie.Need-returns
-returns c = c.pack.ensures ∙ sym (ap lookup_word c.before.before.answer.given.1)
+returns : tie.Need-returns-in-Found
+returns c = c.pack.ensures ∙ sym (ap lookup_word c.in-Found.is)
 
-returns-2 : tie.Need-returns-2
-returns-2 c = c.refusal-word.ensures ∙ sym (ap lookup_word c.before.before.answer2.given.1)
+returns-2 : tie.Need-returns-in-Refused
+returns-2 c = c.refusal_word.ensures ∙ sym (ap lookup_word c.in-Refused.is)
 
-pub lookup-word-spec : {M : Type 1} → statement M
-lookup-word-spec =
+pub lookup_word_spec : {M : Type 1} → statement M
+lookup_word_spec =
     tie.close
     (tie.spec
     enum-known-answer

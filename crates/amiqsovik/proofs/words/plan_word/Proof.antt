@@ -5,52 +5,51 @@ use borrow.Author.Rules.{rules}
 use Rattle.amiqsovik.proofs.words.plan_word.Statement.{statement}
 use Rattle.amiqsovik.proofs.words.plan_word.Tie as tie
 
-enum-known-answer : tie.Need-enum-known-answer
+enum-known-answer : tie.Need-enum_known-answer
 enum-known-answer c = search rules
 
 pack-requires : tie.Need-pack-requires
 pack-requires c κs = search rules
 
-enum-known-answer-2 : tie.Need-enum-known-answer-2
+enum-known-answer-2 : tie.Need-enum_known-answer-in-Stopped-1
 enum-known-answer-2 c = search rules
 
-stop-number-requires : tie.Need-stop-number-requires
+stop-number-requires : tie.Need-stop_number-requires
 stop-number-requires c κs = search rules
 
-cast-result : tie.Need-overflow-cast-result
+cast-result : tie.Need-overflow_cast-result
 cast-result c = search rules
 
-mul-result : tie.Need-overflow-mul-result
+mul-result : tie.Need-overflow_mul-result
 mul-result c = search rules
 
-enum_told : tie.Need-enum-told
+enum_told : tie.Need-enum_told-1
 enum_told c = search rules
 
-pack-requires-2 : tie.Need-pack-requires-2
+pack-requires-2 : tie.Need-pack-requires-in-Short
 pack-requires-2 c κs = search rules
 
-enum-known-answer-3 : tie.Need-enum-known-answer-3
+enum-known-answer-3 : tie.Need-enum_known-answer-in-Refused-1
 enum-known-answer-3 c = search rules
 
-refusal-word-requires : tie.Need-refusal-word-requires
+refusal-word-requires : tie.Need-refusal_word-requires
 refusal-word-requires c κs = search rules
 
-returns : tie.Need-returns
-returns c = c.pack.ensures ∙ sym (ap plan_word c.before.before.answer.given.1)
+returns : tie.Need-returns-in-Planned
+returns c = c.pack.ensures ∙ sym (ap plan_word c.in-Planned.is)
 
-returns-2 : tie.Need-returns-2
+returns-2 : tie.Need-returns-in-Stopped
 returns-2 c =
-    let a = c.before.before.answer2.given in
-    omega (arith, c.stop-number.ensures, ap plan_word a.1)
+    omega (arith, c.stop_number.ensures, ap plan_word c.in-Stopped.is)
 
-returns-3 : tie.Need-returns-3
-returns-3 c = c.pack2.ensures ∙ sym (ap plan_word c.before.enum_told.given.1)
+returns-3 : tie.Need-returns-in-Short
+returns-3 c = c.pack-in-Short.ensures ∙ sym (ap plan_word c.in-Short.is)
 
-returns-4 : tie.Need-returns-4
-returns-4 c = c.refusal-word.ensures ∙ sym (ap plan_word c.before.before.answer3.given.1)
+returns-4 : tie.Need-returns-in-Refused
+returns-4 c = c.refusal_word.ensures ∙ sym (ap plan_word c.in-Refused.is)
 
-pub plan-word-spec : {M : Type 1} → statement M
-plan-word-spec =
+pub plan_word_spec : {M : Type 1} → statement M
+plan_word_spec =
     tie.close
     (tie.spec
     enum-known-answer

@@ -4,21 +4,21 @@ use borrow.Author.Rules.{rules}
 use Rattle.amiqsovik.proofs.words.standing_word.Statement.{statement}
 use Rattle.amiqsovik.proofs.words.standing_word.Tie as tie
 
-enum_told : tie.Need-enum-told
+enum_told : tie.Need-enum_told-1
 enum_told c = search rules
 
-enum-known-answer : tie.Need-enum-known-answer
+enum-known-answer : tie.Need-enum_known-answer
 enum-known-answer c = search rules
 
-refusal-word-requires : tie.Need-refusal-word-requires
+refusal-word-requires : tie.Need-refusal_word-requires
 refusal-word-requires c κs = search rules
 
-returns : tie.Need-returns
-returns c = sym (ap standing_word c.enum_told.given.1)
+returns : tie.Need-returns-in-Stands
+returns c = sym (ap standing_word c.in-Stands.is)
 
-returns-2 : tie.Need-returns-2
-returns-2 c = c.refusal-word.ensures ∙ sym (ap standing_word c.before.before.answer.given.1)
+returns-2 : tie.Need-returns-in-Refused
+returns-2 c = c.refusal_word.ensures ∙ sym (ap standing_word c.in-Refused.is)
 
-pub standing-word-spec : {M : Type 1} → statement M
-standing-word-spec =
+pub standing_word_spec : {M : Type 1} → statement M
+standing_word_spec =
     tie.close (tie.spec enum_told enum-known-answer refusal-word-requires returns returns-2)

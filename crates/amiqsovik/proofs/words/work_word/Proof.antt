@@ -5,43 +5,42 @@ use borrow.Author.Rules.{rules}
 use Rattle.amiqsovik.proofs.words.work_word.Statement.{statement}
 use Rattle.amiqsovik.proofs.words.work_word.Tie as tie
 
-enum-known-answer : tie.Need-enum-known-answer
+enum-known-answer : tie.Need-enum_known-answer
 enum-known-answer c = search rules
 
-stop-number-requires : tie.Need-stop-number-requires
+stop-number-requires : tie.Need-stop_number-requires
 stop-number-requires c κs = search rules
 
-cast-result : tie.Need-overflow-cast-result
+cast-result : tie.Need-overflow_cast-result
 cast-result c = search rules
 
-mul-result : tie.Need-overflow-mul-result
+mul-result : tie.Need-overflow_mul-result
 mul-result c = search rules
 
-cast-result-2 : tie.Need-overflow-cast-result-2
+cast-result-2 : tie.Need-overflow_cast-result-in-Worked
 cast-result-2 c = search rules
 
-mul-result-2 : tie.Need-overflow-mul-result-2
+mul-result-2 : tie.Need-overflow_mul-result-in-Worked
 mul-result-2 c = search rules
 
-add-result : tie.Need-overflow-add-result
+add-result : tie.Need-overflow_add-result
 add-result c = search rules
 
-enum-known-answer-2 : tie.Need-enum-known-answer-2
+enum-known-answer-2 : tie.Need-enum_known-answer-in-Refused-1
 enum-known-answer-2 c = search rules
 
-refusal-word-requires : tie.Need-refusal-word-requires
+refusal-word-requires : tie.Need-refusal_word-requires
 refusal-word-requires c κs = search rules
 
-returns : tie.Need-returns
+returns : tie.Need-returns-in-Worked
 returns c =
-    let a = c.before.before.answer.given in
-    omega (arith, c.stop-number.ensures, ap work_word a.1)
+    omega (arith, c.stop_number.ensures, ap work_word c.in-Worked.is)
 
-returns-2 : tie.Need-returns-2
-returns-2 c = c.refusal-word.ensures ∙ sym (ap work_word c.before.before.answer2.given.1)
+returns-2 : tie.Need-returns-in-Refused
+returns-2 c = c.refusal_word.ensures ∙ sym (ap work_word c.in-Refused.is)
 
-pub work-word-spec : {M : Type 1} → statement M
-work-word-spec =
+pub work_word_spec : {M : Type 1} → statement M
+work_word_spec =
     tie.close
     (tie.spec
     enum-known-answer

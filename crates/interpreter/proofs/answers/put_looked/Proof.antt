@@ -7,51 +7,45 @@ use Rattle.interpreter.specs.Runs.{Roomy}
 use Rattle.interpreter.proofs.answers.put_looked.Statement.{statement}
 use Rattle.interpreter.proofs.answers.put_looked.Tie as tie
 
-enum-known-answer : tie.Need-enum-known-answer
+enum-known-answer : tie.Need-enum_known-answer
 enum-known-answer c = search rules
 
-put-found-requires : tie.Need-put-found-requires
+put-found-requires : tie.Need-put_found-requires
 put-found-requires c κs =
-    let k = c.before.before in
-    let s = k.before.before.before.before in
-    let room = subst (λ (a : LookupAnswer). Roomy a s.args.places.now) k.answer.given.1 s.requires.1 in
-    (room.1, room.0, s.requires.0)
+    let room = subst (λ (a : LookupAnswer). Roomy a c.args.places.now) c.in-Found.is c.requires.1 in
+    (room.1, room.0, c.requires.0)
 
-enum-known-answer-2 : tie.Need-enum-known-answer-2
+enum-known-answer-2 : tie.Need-enum_known-answer-in-Refused-1
 enum-known-answer-2 c = search rules
 
-refusal-number-requires : tie.Need-refusal-number-requires
+refusal-number-requires : tie.Need-refusal_number-requires
 refusal-number-requires c κs = search rules
 
-put-refused-requires : tie.Need-put-refused-requires
+put-refused-requires : tie.Need-put_refused-requires
 put-refused-requires c κs = search rules
 
-same_length : tie.Need-same-length
+same_length : tie.Need-shape_of-output-in-Found
 same_length c = search rules
 
-returns : tie.Need-returns
+returns : tie.Need-returns-in-Found
 returns c =
-    let p = c.before.before in
-    let k = p.before.before.before in
-    let a = k.before.before.before.before.args in
-    wrote_as (sym (ap (λ (x : LookupAnswer). lookup_text a.line x a.places.now) k.answer.given.1))
-    p.put-found.ensures
+    let a = c.args in
+    wrote_as (sym (ap (λ (x : LookupAnswer). lookup_text a.line x a.places.now) c.in-Found.is))
+    c.put_found.ensures
 
-same-length-2 : tie.Need-same-length-2
+same-length-2 : tie.Need-shape_of-output-in-Refused
 same-length-2 c = search rules
 
-returns-2 : tie.Need-returns-2
+returns-2 : tie.Need-returns-in-Refused
 returns-2 c =
-    let n = c.before.before.before in
-    let k = n.before.before.before in
-    let a = k.before.before.before.before.args in
+    let a = c.args in
     wrote_as
-    (ap (refused_text a.line) n.refusal-number.ensures
-    ∙ sym (ap (λ (x : LookupAnswer). lookup_text a.line x a.places.now) k.answer2.given.1))
-    c.before.before.Put-refused.ensures
+    (ap (refused_text a.line) c.refusal_number.ensures
+    ∙ sym (ap (λ (x : LookupAnswer). lookup_text a.line x a.places.now) c.in-Refused.is))
+    c.put_refused.ensures
 
-pub put-looked-spec : {M : Type 1} → statement M
-put-looked-spec =
+pub put_looked_spec : {M : Type 1} → statement M
+put_looked_spec =
     tie.close
     (tie.spec
     enum-known-answer

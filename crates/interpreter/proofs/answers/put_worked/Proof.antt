@@ -5,48 +5,44 @@ use Rattle.interpreter.specs.Script.{work_text}
 use Rattle.interpreter.proofs.answers.put_worked.Statement.{statement}
 use Rattle.interpreter.proofs.answers.put_worked.Tie as tie
 
-enum-known-answer : tie.Need-enum-known-answer
+enum-known-answer : tie.Need-enum_known-answer
 enum-known-answer c = search rules
 
-stop-number-requires : tie.Need-stop-number-requires
+stop-number-requires : tie.Need-stop_number-requires
 stop-number-requires c κs = search rules
 
-put-steps-requires : tie.Need-put-steps-requires
+put-steps-requires : tie.Need-put_steps-requires
 put-steps-requires c κs = search rules
 
-enum-known-answer-2 : tie.Need-enum-known-answer-2
+enum-known-answer-2 : tie.Need-enum_known-answer-in-Refused-1
 enum-known-answer-2 c = search rules
 
-refusal-number-requires : tie.Need-refusal-number-requires
+refusal-number-requires : tie.Need-refusal_number-requires
 refusal-number-requires c κs = search rules
 
-put-refused-requires : tie.Need-put-refused-requires
+put-refused-requires : tie.Need-put_refused-requires
 put-refused-requires c κs = search rules
 
-same_length : tie.Need-same-length
+same_length : tie.Need-shape_of-output-in-Worked
 same_length c = search rules
 
-returns : tie.Need-returns
+returns : tie.Need-returns-in-Worked
 returns c =
-    let n = c.before.before.before in
-    let k = n.before.before.before in
-    let line = k.before.before.before.args.line in
-    wrote_as (ap (steps_text _) n.stop-number.ensures ∙ sym (ap (work_text line) k.answer.given.1))
-    c.before.before.put-steps.ensures
+    let line = c.args.line in
+    wrote_as (ap (steps_text _) c.stop_number.ensures ∙ sym (ap (work_text line) c.in-Worked.is))
+    c.put_steps.ensures
 
-same-length-2 : tie.Need-same-length-2
+same-length-2 : tie.Need-shape_of-output-in-Refused
 same-length-2 c = search rules
 
-returns-2 : tie.Need-returns-2
+returns-2 : tie.Need-returns-in-Refused
 returns-2 c =
-    let n = c.before.before.before in
-    let k = n.before.before.before in
-    let line = k.before.before.before.args.line in
-    wrote_as (ap (refused_text line) n.refusal-number.ensures ∙ sym (ap (work_text line) k.answer2.given.1))
-    c.before.before.Put-refused.ensures
+    let line = c.args.line in
+    wrote_as (ap (refused_text line) c.refusal_number.ensures ∙ sym (ap (work_text line) c.in-Refused.is))
+    c.put_refused.ensures
 
-pub put-worked-spec : {M : Type 1} → statement M
-put-worked-spec =
+pub put_worked_spec : {M : Type 1} → statement M
+put_worked_spec =
     tie.close
     (tie.spec
     enum-known-answer

@@ -18,102 +18,93 @@ part : (s : List ℕ) (n : ℕ) → n ≤ script_blocks → store_bytes ≤ leng
 part s n few room = length-take-le (512 * n) s (omega arith)
 
 -- what the three tests let through
-legal : (c : tie.Else1) → let a = c.before.before.args in length_ok (take (512 * a.blocks) a.store.now) ≡ true
+legal : (c : tie.Else-blocks-lt4) → let a = c.args in length_ok (take (512 * a.blocks) a.store.now) ≡ true
 legal c =
-    let s = c.before.before in
-    let n = s.args.blocks in
-    legal-is _ n (part s.args.store.now n s.requires.0 s.requires.2)
-    ∙ ap₂ (λ (a b : Bool). a && b) (le-leb 4 n (omega (arith, c.if1.false)))
-    (le-leb n max_blocks (omega (arith, s.requires.0)))
+    let n = c.args.blocks in
+    legal-is _ n (part c.args.store.now n c.requires.0 c.requires.2)
+    ∙ ap₂ (λ (a b : Bool). a && b) (le-leb 4 n (omega (arith, c.if-blocks-lt4.false)))
+    (le-leb n max_blocks (omega (arith, c.requires.0)))
 
-numbers : (c : tie.Else2) → format_ok c.before.before.before.before.args.order ≡ true
-numbers c = sym c.before.check-format.ensures ∙ not-false _ c.if2.false
+numbers : (c : tie.Else-not-check_format) → format_ok c.args.order ≡ true
+numbers c = sym c.check_format.ensures ∙ not-false _ c.if-not-check_format.false-raw
 
-open-to : (c : tie.Else3) → let a = c.before.before.before.before.before.before.before.args in
+open-to : (c : tie.Else-is_protected) → let a = c.args in
     (not (overwrites a.order) && store_in_use (take (512 * a.standing) a.store.now)) ≡ false
-open-to c = sym c.before.is-protected.ensures ∙ c.if3.false
+open-to c = sym c.is_protected.ensures ∙ c.if-is_protected.false
 
-returns : tie.Need-returns
+returns : tie.Need-returns-then-blocks-lt4
 returns c =
-    let s = c.before.before in
-    let a = s.args in
+    let a = c.args in
     let n = a.blocks in
     refused-part _ a.store.now (512 * n) a.order _
     (format-length _ _ a.order
-    (legal-is _ n (part a.store.now n s.requires.0 s.requires.2)
-    ∙ ap (λ (b : Bool). b && leb n max_blocks) (lt-leb 4 n c.if1.true)))
+    (legal-is _ n (part a.store.now n c.requires.0 c.requires.2)
+    ∙ ap (λ (b : Bool). b && leb n max_blocks) (lt-leb 4 n c.if-blocks-lt4.true)))
 
-check-format-requires : tie.Need-check-format-requires
+check-format-requires : tie.Need-check_format-requires
 check-format-requires c κs = search rules
 
-returns-2 : tie.Need-returns-2
+returns-2 : tie.Need-returns-then-not-check_format
 returns-2 c =
-    let e = c.before.before in
-    let a = e.before.before.args in
+    let a = c.args in
     refused-part _ a.store.now (512 * a.blocks) a.order _
-    (format-number _ _ a.order (legal e) (sym c.before.check-format.ensures ∙ not-true _ c.if2.true))
+    (format-number _ _ a.order (legal c.before.before) (sym c.check_format.ensures ∙ not-true _ c.if-not-check_format.true-raw))
 
-mul-stands : tie.Need-overflow-mul-stands
+mul-stands : tie.Need-overflow_mul-stands
 mul-stands c = search rules
 
-slice-reshare-prefix-is-protected : tie.Need-slice-reshare-prefix-is-protected
+slice-reshare-prefix-is-protected : tie.Need-slice_bounds-is_protected-end
 slice-reshare-prefix-is-protected c = search rules
 
-slice-aggregate-is-protected : tie.Need-slice-aggregate-is-protected
+slice-aggregate-is-protected : tie.Need-slice_bounds-is_protected-end-2
 slice-aggregate-is-protected c =
-    let s = c.before.before.before.before.before in
-    sym (part s.args.store.now s.args.standing s.requires.1 s.requires.2)
+    sym (part c.args.store.now c.args.standing c.requires.1 c.requires.2)
 
-is-protected-requires : tie.Need-is-protected-requires
+is-protected-requires : tie.Need-is_protected-requires
 is-protected-requires c κs = search rules
 
-same_length : tie.Need-same-length
+same_length : tie.Need-shape_of-store-then-is_protected
 same_length c = search rules
 
-returns-3 : tie.Need-returns-3
+returns-3 : tie.Need-returns-then-is_protected
 returns-3 c =
-    let e = c.before.before.before in
-    let a = e.before.before.before.before.args in
+    let a = c.args in
     let old = take (512 * a.standing) a.store.now in
     let yes : (not (overwrites a.order) && store_in_use old) ≡ true =
-    sym c.before.is-protected.ensures ∙ c.if3.true in
+    sym c.is_protected.ensures ∙ c.if-is_protected.true in
     refused-part old a.store.now (512 * a.blocks) a.order _
-    (format-in_use old _ a.order (legal e.before.before) (numbers e)
+    (format-in_use old _ a.order (legal c.before.before.before.before) (numbers c.before.before)
     (not-true _ (and_left (not (overwrites a.order)) (store_in_use old) yes))
     (and_right (not (overwrites a.order)) (store_in_use old) yes))
 
-mul-end : tie.Need-overflow-mul-end
+mul-end : tie.Need-overflow_mul-end
 mul-end c = search rules
 
-slice-relend-prefix-format : tie.Need-slice-relend-prefix-format
+slice-relend-prefix-format : tie.Need-slice_bounds-format-end
 slice-relend-prefix-format c = search rules
 
-slice-aggregate-format : tie.Need-slice-aggregate-format
+slice-aggregate-format : tie.Need-slice_bounds-format-end-2
 slice-aggregate-format c =
-    let s = c.before.before.before.before.before.before.before.before in
-    sym (part s.args.store.now s.args.blocks s.requires.0 s.requires.2)
+    sym (part c.args.store.now c.args.blocks c.requires.0 c.requires.2)
 
 format-requires : tie.Need-format-requires
 format-requires c κs = search rules
 
-same-length-2 : tie.Need-same-length-2
+same-length-2 : tie.Need-shape_of-store
 same-length-2 c = search rules
 
-returns-4 : tie.Need-returns-4
+returns-4 : tie.Need-returns
 returns-4 c =
-    let f = c.before.before in
-    let o = f.before.before in
-    let e = o.before.before.before in
-    let a = e.before.before.before.before.args in
+    let a = c.args in
     let same = format-overwriting (take (512 * a.standing) a.store.now) (take (512 * a.blocks) a.store.now)
-    a.order (legal e.before.before) (numbers e) (open-to o) in (
-      f.format.ensures.0 ∙ ap (λ (d : Changed). d.answer) same,
+    a.order (legal c.before.before.before.before.before.before.before.before) (numbers c.before.before.before.before.before.before) (open-to c.before.before.before.before) in (
+      c.format.ensures.0 ∙ ap (λ (d : Changed). d.answer) same,
       ap (λ (x : List ℕ). x ++ drop (512 * a.blocks) a.store.now)
-          (f.format.ensures.1 ∙ ap (λ (d : Changed). d.store) same),
+          (c.format.ensures.1 ∙ ap (λ (d : Changed). d.store) same),
     )
 
-pub format-standing-spec : {M : Type 1} → statement M
-format-standing-spec =
+pub format_standing_spec : {M : Type 1} → statement M
+format_standing_spec =
     tie.close
     (tie.spec
     returns

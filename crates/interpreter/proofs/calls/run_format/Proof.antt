@@ -10,108 +10,95 @@ use Rattle.interpreter.proofs.calls.run_format.Statement.{statement}
 use Rattle.interpreter.proofs.calls.run_format.Tie as tie
 
 -- the part that is formatted
-part : (c : tie.Else1) → let a = c.before.before.before.args in
+part : (c : tie.Else-blocks-gt-SCRIPT_BLOCKS) → let a = c.args in
     length (take (512 * a.blocks) a.store.now) ≡ 512 * a.blocks
 part c =
-    let s = c.before.before.before in length-take-le (512 * s.args.blocks) s.args.store.now
-    (omega (arith, s.requires.store, c.if1.false))
+    length-take-le (512 * c.args.blocks) c.args.store.now
+    (omega (arith, c.requires.store, c.if-blocks-gt-SCRIPT_BLOCKS.false))
 
-put-refused-requires : tie.Need-put-refused-requires
+put-refused-requires : tie.Need-put_refused-written-requires
 put-refused-requires c κs = search rules
 
-same_length : tie.Need-same-length
+same_length : tie.Need-shape_of-output-then-blocks-gt-SCRIPT_BLOCKS
 same_length c = search rules
 
-returns : tie.Need-returns
+returns : tie.Need-returns-then-blocks-gt-SCRIPT_BLOCKS
 unfolding run_command
 returns c =
-    let t = c.before.before.before.before in
-    let s = t.before.before.before in
-    let a = s.args in
+    let a = c.args in
     runs_as
     (sym ((line-is-format a.line a.blocks (order_of a.fill a.number a.overwrite)
-    (take (512 * a.standing) a.store.now)).1 t.if1.true))
-    (record { store = stands-kept s.requires; text = c.before.before.Put-refused.ensures })
+    (take (512 * a.standing) a.store.now)).1 c.if-blocks-gt-SCRIPT_BLOCKS.true))
+    (record { store = stands-kept c.requires; text = c.put_refused-written.ensures })
 
-format-standing-requires : tie.Need-format-standing-requires
+format-standing-requires : tie.Need-format_standing-answer-requires
 format-standing-requires c κs =
-    let e = c.before in
-    let s = e.before.before.before in
-    (e.if1.false, s.requires.few, s.requires.store)
+    (c.if-blocks-gt-SCRIPT_BLOCKS.false, c.requires.few, c.requires.store)
 
-enum_told : tie.Need-enum-told
+enum_told : tie.Need-enum_told-1
 enum_told c = search rules
 
-put-store-requires : tie.Need-put-store-requires
+put-store-requires : tie.Need-put_store-written-requires
 put-store-requires c κs = search rules
 
-enum-known-answer : tie.Need-enum-known-answer
+enum-known-answer : tie.Need-enum_known-answer
 enum-known-answer c = search rules
 
-refusal-number-requires : tie.Need-refusal-number-requires
+refusal-number-requires : tie.Need-refusal_number-requires
 refusal-number-requires c κs = search rules
 
-put-refused-requires-2 : tie.Need-put-refused-requires-2
+put-refused-requires-2 : tie.Need-put_refused-written-requires-in-Refused
 put-refused-requires-2 c κs = search rules
 
-same-length-2 : tie.Need-same-length-2
+same-length-2 : tie.Need-shape_of-store-in-Done
 same-length-2 c = search rules
 
-same-length-3 : tie.Need-same-length-3
+same-length-3 : tie.Need-shape_of-output-in-Done
 same-length-3 c = search rules
 
-returns-2 : tie.Need-returns-2
+returns-2 : tie.Need-returns-in-Done
 unfolding run_command
 returns-2 c =
-    let k = c.before.before.before.before in
-    let f = k.before.before.before.before in
-    let e = f.before.before in
-    let s = e.before.before.before in
-    let a = s.args in
+    let a = c.args in
     let now = a.store.now in
     runs_as
     (format-done (take (512 * a.standing) now) (take (512 * a.blocks) now) a.line a.blocks
-    (order_of a.fill a.number a.overwrite) (part e) e.if1.false
-    (sym f.format-standing.ensures.0 ∙ k.enum_told.given.1))
+    (order_of a.fill a.number a.overwrite) (part c.before.before.before.before.before.before.before.before.before) c.if-blocks-gt-SCRIPT_BLOCKS.false
+    (sym c.format_standing-answer.ensures.0 ∙ c.in-Done.is))
     (record {
-      store = stands-over now _ f.format-standing.new.0 e.if1.false s.requires.store
-          f.format-standing.auto.0 f.format-standing.ensures.1;
-      text = c.before.before.put-store.ensures;
+      store = stands-over now _ c.format_standing-answer.new.store c.if-blocks-gt-SCRIPT_BLOCKS.false c.requires.store
+          c.format_standing-answer.auto.store c.format_standing-answer.ensures.1;
+      text = c.put_store-written.ensures;
     })
 
-same-length-4 : tie.Need-same-length-4
+same-length-4 : tie.Need-shape_of-store-in-Refused
 same-length-4 c = search rules
 
-same-length-5 : tie.Need-same-length-5
+same-length-5 : tie.Need-shape_of-output-in-Refused
 same-length-5 c = search rules
 
-returns-3 : tie.Need-returns-3
+returns-3 : tie.Need-returns-in-Refused
 unfolding run_command
 returns-3 c =
-    let n = c.before.before.before in
-    let k = n.before.before.before in
-    let f = k.before.before.before.before in
-    let e = f.before.before in
-    let s = e.before.before.before in
-    let a = s.args in
+    let a = c.args in
     let now = a.store.now in
     let old = take (512 * a.standing) now in
     let new = take (512 * a.blocks) now in
     let o = order_of a.fill a.number a.overwrite in
-    let no = sym f.format-standing.ensures.0 ∙ k.answer.given.1 in
-    let kept : f.format-standing.new.0 ≡ now =
-    f.format-standing.ensures.1
+    let no = sym c.format_standing-answer.ensures.0 ∙ c.in-Refused.is in
+    let kept : c.format_standing-answer.new.store ≡ now =
+    c.format_standing-answer.ensures.1
     ∙ ap (λ (x : List ℕ). x ++ drop (512 * a.blocks) now) (format-kept old new a.line a.blocks o _ no)
     ∙ take-append-drop (512 * a.blocks) now in
-    runs_as (format-refused old new a.line a.blocks o (part e) e.if1.false _ no)
+    runs_as (format-refused old new a.line a.blocks o (part c.before.before.before.before.before.before.before.before.before.before) c.if-blocks-gt-SCRIPT_BLOCKS.false _ no)
     (record {
-      store = subst (λ (x : List ℕ). Stands old now x a.standing) (sym kept) (stands-kept s.requires);
-      text = wrote_as (ap (refused_text a.line) n.refusal-number.ensures)
-          c.before.before.put-refused2.ensures;
+      store = subst (λ (x : List ℕ). Stands old now x a.standing) (sym kept) (stands-kept c.requires);
+      text = wrote_as (ap (refused_text a.line) c.refusal_number.ensures)
+          c.put_refused-written-in-Refused.ensures;
     })
 
-pub run-format-spec : {M : Type 1} → statement M
-run-format-spec =
+pub run_format_spec : {M : Type 1} → statement M
+run_format_spec =
     tie.close
     (tie.spec
     put-refused-requires

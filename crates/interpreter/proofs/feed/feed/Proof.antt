@@ -9,89 +9,81 @@ whole : (c : tie.Start) → length c.args.state.line ≡ 80
 whole c = search rules
 
 -- the state and the slices serve
-fit : (c : tie.Else1) → let a = c.before.before.before.before.before.before.before.args in
+fit : (c : tie.Else-not-is_ready) → let a = c.args in
     ready a.state a.store.now a.output.now ≡ true
-fit c = sym c.before.is-ready.ensures ∙ not-false _ c.if1.false
+fit c = sym c.is_ready.ensures ∙ not-false _ c.if-not-is_ready.false-raw
 
-is-ready-requires : tie.Need-is-ready-requires
+is-ready-requires : tie.Need-is_ready-requires
 is-ready-requires c κs = search rules
 
-same_length : tie.Need-same-length
+same_length : tie.Need-shape_of-store-then-not-is_ready
 same_length c = search rules
 
-same-length-2 : tie.Need-same-length-2
+same-length-2 : tie.Need-shape_of-output-then-not-is_ready
 same-length-2 c = search rules
 
-returns : tie.Need-returns
+returns : tie.Need-returns-then-not-is_ready
 returns c =
-    let a = c.before.before.before.before.before.before.before.args in
-    let no = sym c.before.is-ready.ensures ∙ not-true _ c.if1.true in
+    let a = c.args in
+    let no = sym c.is_ready.ensures ∙ not-true _ c.if-not-is_ready.true-raw in
     (feed-unready a.state a.store.now a.input.now a.output.now no, sym no)
 
-gather-requires : tie.Need-gather-requires
+gather-requires : tie.Need-gather-gathered-requires
 gather-requires c κs = search rules
 
-same-length-3 : tie.Need-same-length-3
+same-length-3 : tie.Need-shape_of-store-then-not-gathered
 same-length-3 c = search rules
 
-same-length-4 : tie.Need-same-length-4
+same-length-4 : tie.Need-shape_of-output-then-not-gathered
 same-length-4 c = search rules
 
-returns-2 : tie.Need-returns-2
+returns-2 : tie.Need-returns-then-not-gathered
 returns-2 c =
-    let p = c.before.before.before in
-    let s = p.before.before.before.before.before.before.before.before in
-    let a = s.args in
-    let g = p.gather in
+    let a = c.args in
+    let g = c.gather-gathered in
     let store = a.store.now in
     let out = a.output.now in (
-      feed-gathered a.state store a.input.now out g.result g.ensures (whole s) (fit p.before) false
-          (not-true _ c.if2.true),
+      feed-gathered a.state store a.input.now out g.result g.ensures (whole c.before.before.before.before.before.before.before.before.before) (fit c.before.before.before.before) false
+          (not-true _ c.if-not-gathered.true),
       sym
           (room-ready g.result.state store out
-          (held-seen a.state store a.input.now out g.result g.ensures (whole s) (fit p.before))
-          (held-room a.state store a.input.now out g.result g.ensures (whole s) (fit p.before))),
+          (held-seen a.state store a.input.now out g.result g.ensures (whole c.before.before.before.before.before.before.before.before.before) (fit c.before.before.before.before))
+          (held-room a.state store a.input.now out g.result g.ensures (whole c.before.before.before.before.before.before.before.before.before) (fit c.before.before.before.before))),
     )
 
-end-line-requires : tie.Need-end-line-requires
+end-line-requires : tie.Need-end_line-requires
 end-line-requires c κs =
-    let p = c.before.before.before.before.before in
-    let s = p.before.before.before.before.before.before.before.before in
-    let a = s.args in
-    let g = p.gather in
-    held-room a.state a.store.now a.input.now a.output.now g.result g.ensures (whole s)
-    (fit p.before)
+    let a = c.args in
+    let g = c.gather-gathered in
+    held-room a.state a.store.now a.input.now a.output.now g.result g.ensures (whole c.before.before.before.before.before.before.before.before.before.before.before)
+    (fit c.before.before.before.before.before.before)
 
-same-length-5 : tie.Need-same-length-5
+same-length-5 : tie.Need-shape_of-store
 same-length-5 c = search rules
 
-same-length-6 : tie.Need-same-length-6
+same-length-6 : tie.Need-shape_of-output
 same-length-6 c = search rules
 
-returns-3 : tie.Need-returns-3
+returns-3 : tie.Need-returns
 returns-3 c =
-    let q = c.before.before.before.before in
-    let e = q.before.before.before in
-    let p = e.before.before.before in
-    let s = p.before.before.before.before.before.before.before.before in
-    let a = s.args in
-    let g = p.gather in
-    let n = q.end_line in
+    let a = c.args in
+    let g = c.gather-gathered in
+    let n = c.end_line in
     let store = a.store.now in
     let out = a.output.now in
     let held =
     room-ready g.result.state store out
-    (held-seen a.state store a.input.now out g.result g.ensures (whole s) (fit p.before))
-    (held-room a.state store a.input.now out g.result g.ensures (whole s) (fit p.before)) in (
-      feed-gathered a.state store a.input.now out g.result g.ensures (whole s) (fit p.before) true
-          (not-false _ e.if2.false)
+    (held-seen a.state store a.input.now out g.result g.ensures (whole c.before.before.before.before.before.before.before.before.before.before.before.before.before.before.before.before) (fit c.before.before.before.before.before.before.before.before.before.before.before))
+    (held-room a.state store a.input.now out g.result g.ensures (whole c.before.before.before.before.before.before.before.before.before.before.before.before.before.before.before.before) (fit c.before.before.before.before.before.before.before.before.before.before.before)) in (
+      feed-gathered a.state store a.input.now out g.result g.ensures (whole c.before.before.before.before.before.before.before.before.before.before.before.before.before.before.before.before) (fit c.before.before.before.before.before.before.before.before.before.before.before) true
+          (not-false _ c.if-not-gathered.false)
           ∙ n.ensures.0,
-      ready-next g.result.used g.result.state store out n.result n.new.1.1.0 n.new.1.1.1.0
-          held n.ensures.0 n.ensures.1 n.auto.1.1.0 n.auto.1.1.1.0,
+      ready-next g.result.used g.result.state store out n.result n.new.store n.new.output
+          held n.ensures.0 n.ensures.1 n.auto.store n.auto.output,
     )
 
-pub feed-spec : {M : Type 1} → statement M
-feed-spec =
+pub feed_spec : {M : Type 1} → statement M
+feed_spec =
     tie.close
     (tie.spec
     is-ready-requires

@@ -6,59 +6,54 @@ use Rattle.interpreter.proofs.feed.finish.Statement.{statement}
 use Rattle.interpreter.proofs.feed.finish.Tie as tie
 
 -- the state and the slices serve
-fit : (c : tie.Else1) → let a = c.before.before.before.before.before.before.args in
+fit : (c : tie.Else-not-is_ready) → let a = c.args in
     ready a.state a.store.now a.output.now ≡ true
-fit c = sym c.before.is-ready.ensures ∙ not-false _ c.if1.false
+fit c = sym c.is_ready.ensures ∙ not-false _ c.if-not-is_ready.false-raw
 
-is-ready-requires : tie.Need-is-ready-requires
+is-ready-requires : tie.Need-is_ready-requires
 is-ready-requires c κs = search rules
 
-same_length : tie.Need-same-length
+same_length : tie.Need-shape_of-store-then-not-is_ready
 same_length c = search rules
 
-same-length-2 : tie.Need-same-length-2
+same-length-2 : tie.Need-shape_of-output-then-not-is_ready
 same-length-2 c = search rules
 
-returns : tie.Need-returns
+returns : tie.Need-returns-then-not-is_ready
 returns c =
-    let a = c.before.before.before.before.before.before.args in
-    let no = sym c.before.is-ready.ensures ∙ not-true _ c.if1.true in
+    let a = c.args in
+    let no = sym c.is_ready.ensures ∙ not-true _ c.if-not-is_ready.true-raw in
     (finish-unready a.state a.store.now a.output.now no, sym no)
 
-same-length-3 : tie.Need-same-length-3
+same-length-3 : tie.Need-shape_of-store-then-state-eq0
 same-length-3 c = search rules
 
-same-length-4 : tie.Need-same-length-4
+same-length-4 : tie.Need-shape_of-output-then-state-eq0
 same-length-4 c = search rules
 
-returns-2 : tie.Need-returns-2
+returns-2 : tie.Need-returns-then-state-eq0
 returns-2 c =
-    let e = c.before.before in
-    let a = e.before.before.before.before.before.before.args in
-    (finish-still a.state a.store.now a.output.now (fit e) c.if2.true, sym (fit e))
+    let a = c.args in
+    (finish-still a.state a.store.now a.output.now (fit c.before.before) c.if-state-eq0.true, sym (fit c.before.before))
 
-end-line-requires : tie.Need-end-line-requires
+end-line-requires : tie.Need-end_line-requires
 end-line-requires c κs =
-    let e = c.before.before.before.before in
-    let a = e.before.before.before.before.before.before.args in
-    ready-room a.state a.store.now a.output.now (fit e)
+    let a = c.args in
+    ready-room a.state a.store.now a.output.now (fit c.before.before.before.before)
 
-same-length-5 : tie.Need-same-length-5
+same-length-5 : tie.Need-shape_of-store
 same-length-5 c = search rules
 
-same-length-6 : tie.Need-same-length-6
+same-length-6 : tie.Need-shape_of-output
 same-length-6 c = search rules
 
-returns-3 : tie.Need-returns-3
+returns-3 : tie.Need-returns
 returns-3 c =
-    let q = c.before.before.before.before in
-    let t = q.before.before.before in
-    let e = t.before.before in
-    let a = e.before.before.before.before.before.before.args in
-    let n = q.end_line in (
-      finish-ended a.state a.store.now a.output.now (fit e) t.if2.false ∙ n.ensures.0,
-      ready-next 0 a.state a.store.now a.output.now n.result n.new.1.1.0 n.new.1.1.1.0
-          (fit e) n.ensures.0 n.ensures.1 n.auto.1.1.0 n.auto.1.1.1.0,
+    let a = c.args in
+    let n = c.end_line in (
+      finish-ended a.state a.store.now a.output.now (fit c.before.before.before.before.before.before.before.before.before) c.if-state-eq0.false ∙ n.ensures.0,
+      ready-next 0 a.state a.store.now a.output.now n.result n.new.store n.new.output
+          (fit c.before.before.before.before.before.before.before.before.before) n.ensures.0 n.ensures.1 n.auto.store n.auto.output,
     )
 
 pub finish_spec : {M : Type 1} → statement M

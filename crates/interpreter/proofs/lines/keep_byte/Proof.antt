@@ -3,17 +3,17 @@ use Rattle.std.proofs.Common.{rules}
 use Rattle.interpreter.proofs.lines.keep_byte.Statement.{statement}
 use Rattle.interpreter.proofs.lines.keep_byte.Tie as tie
 
-array-write-line : tie.Need-array-write-line
+array-write-line : tie.Need-bounds-line-seen
 array-write-line c = search rules
 
-add-t8 : tie.Need-overflow-add-t8
+add-t8 : tie.Need-overflow_add-result
 add-t8 c = search rules
 
-returns : tie.Need-returns
-returns c = let a = c.before.before.args in kept-room a.state a.byte c.if1.true
+returns : tie.Need-returns-then-seen-lt80
+returns c = let a = c.args in kept-room a.state a.byte c.if-seen-lt80.true
 
-returns-2 : tie.Need-returns-2
-returns-2 c = let a = c.before.before.args in kept_full a.state a.byte c.if1.false
+returns-2 : tie.Need-returns
+returns-2 c = let a = c.args in kept_full a.state a.byte c.if-seen-lt80.false
 
-pub keep-byte-spec : {M : Type 1} → statement M
-keep-byte-spec = tie.close (tie.spec array-write-line add-t8 returns returns-2)
+pub keep_byte_spec : {M : Type 1} → statement M
+keep_byte_spec = tie.close (tie.spec array-write-line add-t8 returns returns-2)

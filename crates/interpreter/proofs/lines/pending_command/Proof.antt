@@ -4,30 +4,29 @@ use Rattle.line.specs.Command.{max_line}
 use Rattle.interpreter.proofs.lines.pending_command.Statement.{statement}
 use Rattle.interpreter.proofs.lines.pending_command.Tie as tie
 
-returns : tie.Need-returns
-returns c = rw (lt-leb c.before.args.state.seen max_line c.if1.true)
+returns : tie.Need-returns-then-seen-gt80
+returns c = rw (lt-leb c.args.state.seen max_line c.if-seen-gt80.true)
 
-array-share-prefix-line : tie.Need-array-share-prefix-line
+array-share-prefix-line : tie.Need-slice_bounds-line-end
 array-share-prefix-line c =
-    let long : length c.before.before.args.state.line ≡ 80 = search rules in
+    let long : length c.args.state.line ≡ 80 = search rules in
     omega arith
 
-slice-aggregate-read-line : tie.Need-slice-aggregate-read-line
+slice-aggregate-read-line : tie.Need-slice_bounds-read_line-end
 slice-aggregate-read-line c =
-    let a = c.before.before.before.args in
+    let a = c.args in
     let long : length a.state.line ≡ 80 = search rules in
     sym (length-take-le a.state.seen a.state.line (omega arith))
 
-read-line-requires : tie.Need-read-line-requires
+read-line-requires : tie.Need-read_line-requires
 read-line-requires c κs = search rules
 
-returns-2 : tie.Need-returns-2
+returns-2 : tie.Need-returns
 returns-2 c =
-    let s = c.before.before.before.before in
-    rw (le-leb s.args.state.seen max_line (omega arith)) c.read-line.ensures
+    rw (le-leb c.args.state.seen max_line (omega arith)) c.read_line.ensures
 
-pub pending-command-spec : {M : Type 1} → statement M
-pending-command-spec =
+pub pending_command_spec : {M : Type 1} → statement M
+pending_command_spec =
     tie.close
     (tie.spec
     returns
