@@ -18,6 +18,7 @@ MOVES = {
     "address": ["BucketLaws"],
     "chain": ["SearchLaws", "DecodeLaws"],
     "crc32c": ["InjectiveLaws"],
+    "cuts": ["TestedLaws", "JournalledLaws", "EventLaws", "Demand3Theorem", "PlanCallLaws", "HalvesTheorem"],
     "endian": ["EndianLaws"],
     "image": [
         "MetaLaws", "PairRuleLaws", "BoundLaws", "EncodeLaws", "EncodePagesLaws", "EncodeDecodeLaws",

@@ -11,7 +11,7 @@ use Rattle.outcomes.specs.Outcomes.{Tested, passed, failed, bucket_tested}
 use Rattle.outcomes.proofs.OutcomeLaws.{passed-numbers}
 use Rattle.journal.specs.Journal.{Disk}
 use Rattle.cuts.specs.Journalled.{tested_with, step_journalled, work_on, work_journalled, squeeze_journalled}
-use Rattle.cuts.specs.TestedLaws.{passed-ready}
+use Rattle.cuts.proofs.TestedLaws.{passed-ready}
 
 pub iterate-steps : {S : Type 0} (f : S → Step S) (budget : ℕ) (s : S) → (iterate f budget s).steps ≤ budget
 iterate-steps f zero s = omega arith

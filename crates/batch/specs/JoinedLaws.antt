@@ -16,7 +16,7 @@ use Rattle.outcomes.proofs.Demand3Theorem.{history-length}
 use Rattle.journal.specs.Journal.{Disk}
 use Rattle.journal.specs.Cut.{Ready}
 use Rattle.cuts.specs.Journalled.{run_disk}
-use Rattle.cuts.specs.JournalledLaws.{Same, journalled-bytes}
+use Rattle.cuts.proofs.JournalledLaws.{Same, journalled-bytes}
 use Rattle.batch.specs.Batch.{reply_word, reply_output, word_of, output_after, disk_after, Small, call_at, Kept}
 use Rattle.batch.specs.Batch.{ran_at, runs, also, calls_in, moment_after}
 use Rattle.batch.specs.CallLaws.{MayFit, fits-call}

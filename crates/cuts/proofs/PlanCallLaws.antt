@@ -28,7 +28,7 @@ use Rattle.cuts.specs.Halves.{Planned, answering, planned_to, planned_as, plan_c
 use Rattle.cuts.specs.Halves.{unless_short}
 use Rattle.cuts.specs.Events.{OneChange}
 use Rattle.cuts.specs.EightTheorem.{change-touches, step-touches-store}
-use Rattle.cuts.specs.TestedLaws.{Passed, passed-ready}
+use Rattle.cuts.proofs.TestedLaws.{Passed, passed-ready}
 use Rattle.cuts.specs.BecomesLaws.{becomes-call, becomes-step}
 use Rattle.cuts.specs.InOrder.{InOrder}
 use Rattle.cuts.specs.HalvesLaws.{in_order_lem}

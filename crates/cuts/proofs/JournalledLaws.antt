@@ -28,7 +28,7 @@ use Rattle.cuts.specs.Journalled.{Journalled, journalled, change_on, insert_jour
 use Rattle.cuts.specs.Journalled.{remove_journalled, step_to, step_journalled, WorkJournalled, work_on}
 use Rattle.cuts.specs.Journalled.{work_journalled}
 use Rattle.cuts.specs.Journalled.{squeeze_journalled, run_disk}
-use Rattle.cuts.specs.TestedLaws.{tested-ready, Journals, disk-fails}
+use Rattle.cuts.proofs.TestedLaws.{tested-ready, Journals, disk-fails}
 use Rattle.cuts.specs.BecomesLaws.{becomes-call, becomes-step}
 
 -- What a call did to a disk beside what it does to a store.

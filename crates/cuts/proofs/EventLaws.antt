@@ -27,9 +27,9 @@ use Rattle.journal.proofs.BecomesLaws.{Leaves, leaves}
 use Rattle.cuts.specs.Journalled.{run_disk}
 use Rattle.cuts.specs.Events.{OneChange, recovered, landed, steps_done, Goes, ran, waited, cut, cut_step, recovers}
 use Rattle.cuts.specs.Events.{cut_recovery, wipes, cut_wipe, Happens, over, and}
-use Rattle.cuts.specs.TestedLaws.{waits-leave}
+use Rattle.cuts.proofs.TestedLaws.{waits-leave}
 use Rattle.cuts.specs.BecomesLaws.{becomes-call, becomes-step}
-use Rattle.cuts.specs.JournalledLaws.{Same, journalled-same}
+use Rattle.cuts.proofs.JournalledLaws.{Same, journalled-same}
 use Rattle.cuts.specs.BudgetLaws.{works-more, fits-fewer}
 
 -- the store after some calls

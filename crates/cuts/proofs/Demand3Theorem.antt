@@ -19,8 +19,8 @@ use Rattle.journal.specs.Cut.{Ready}
 use Rattle.journal.proofs.RecoverLaws.{recover-store}
 use Rattle.cuts.specs.Journalled.{run_disk}
 use Rattle.cuts.specs.Events.{recovered, Happens}
-use Rattle.cuts.specs.EventLaws.{after_calls, after-sound, Follows, follows-ready, follows_same, last-state}
-use Rattle.cuts.specs.EventLaws.{happens-follows, happens-fits}
+use Rattle.cuts.proofs.EventLaws.{after_calls, after-sound, Follows, follows-ready, follows_same, last-state}
+use Rattle.cuts.proofs.EventLaws.{happens-follows, happens-fits}
 
 -- What holds when calls that count as cs have left f, from the store s that format made.
 pub record Covered (s : List ℕ) (o : Order) (cs : List Call) (f : Disk) : Type 0 where

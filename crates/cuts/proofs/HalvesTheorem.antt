@@ -14,7 +14,7 @@ use Rattle.journal.specs.Journal.{Disk}
 use Rattle.cuts.specs.Journalled.{insert_journalled, remove_journalled, work_journalled, squeeze_journalled, run_disk}
 use Rattle.cuts.specs.Halves.{plan_insert, plan_remove, plan_work, plan_squeeze}
 use Rattle.cuts.specs.InOrder.{InOrder}
-use Rattle.cuts.specs.PlanCallLaws.{change-in-order, step-in-order}
+use Rattle.cuts.proofs.PlanCallLaws.{change-in-order, step-in-order}
 
 module _ {d : Disk} (bytes : Bytes d.store) (b : List ℕ) (n : ℕ) where
   pub halves-insert : (p : Pair) → CallFits (inserting p) → (plan_insert d p b).answer ≡ PlanAnswer.Planned n
