@@ -20,6 +20,7 @@ MOVES = {
     "crc32c": ["InjectiveLaws"],
     "cuts": ["TestedLaws", "JournalledLaws", "EventLaws", "Demand3Theorem", "PlanCallLaws", "HalvesTheorem"],
     "endian": ["EndianLaws"],
+    "gauge": ["GaugeLaws", "GaugeTheorem", "GaugeExamples"],
     "image": [
         "MetaLaws", "PairRuleLaws", "BoundLaws", "EncodeLaws", "EncodePagesLaws", "EncodeDecodeLaws",
         "EncodeFitsLaws", "EncodeChainsLaws", "EncodeBitmapLaws", "EncodeVerdictLaws", "SoundFieldsLaws",

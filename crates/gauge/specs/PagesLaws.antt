@@ -1,5 +1,5 @@
 -- The pages that stand in chains: each bucket's own, and one for each overflow bit that is made and 1, but bit 0.
-use Rattle.std.specs.Prelude.{◌≡◌, Bool, true, false, List, [], ◌∷◌, ℕ, zero, suc, ◌+◌, ◌*◌, ◌≤◌, ◌<◌, ltb, length}
+use Rattle.std.specs.Prelude.{◌≡◌, Bool, true, false, List, [], ◌∷◌, ℕ, zero, suc, ◌+◌, ◌*◌, ◌≤◌, ◌<◌, length}
 use Rattle.std.proofs.Math.Path.{refl, sym, ap}
 use Rattle.std.proofs.Common.{◌∙◌, arith, lt-ltb, length-append}
 use Rattle.std.proofs.Math.Bool.{not}
@@ -16,7 +16,7 @@ use Rattle.model.proofs.LaidLaws.{top_one}
 use Rattle.model.proofs.BoundLaws.{laid-room, bits-le, count-pages}
 use Rattle.image.specs.declared.Meta.{Meta}
 use Rattle.image.specs.Layout.{map_bit}
-use Rattle.image.specs.Decode.{bit_of, decode}
+use Rattle.image.specs.Decode.{decode}
 use Rattle.image.specs.Rules.{map_at, bit_at, top_at}
 use Rattle.image.proofs.BoundLaws.{top_small}
 use Rattle.image.proofs.EncodeBitmapLaws.{bit-encode}

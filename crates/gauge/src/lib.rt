@@ -1,4 +1,6 @@
 // The fill gauge: held entries against buckets, and against the room of the pages that stand in chains.
+#![tactic(auto)]
+
 mod pages; // pages.rt: the pages that stand in chains
 
 ghost use Rattle.std.specs.Prelude.{◌≡◌, ◌<◌};

@@ -69,10 +69,8 @@ returns-5 c =
 returns-6 : tie.Need-returns-then-s-gt15
 unfolding meta_ok
 returns-6 c =
-    let s = c in
-    let m = s.args.m in
-    let e = c.point_of-s.ensures in
-    simp (point-high (point m.max) m.spares (sixteen s.before.before.before.before.before.before.before.before.before.before.before.before.before.before.before) (omega (arith, c.if-s-gt15.true)), and-false)
+    let m = c.args.m in
+    simp (point-high (point m.max) m.spares (sixteen c.before.before.before.before.before.before.before.before.before.before.before.before.before.before.before) (omega (arith, c.if-s-gt15.true)), and-false)
 
 check-spares-requires : tie.Need-check_spares-requires
 check-spares-requires c κs = search rules
@@ -91,21 +89,16 @@ made-blocks-requires c κs = search rules
 returns-8 : tie.Need-returns
 unfolding meta_ok
 returns-8 c =
-    let e₅ = c in
-    let e₄ = e₅ in
-    let e₃ = e₄ in
-    let e₂ = e₃ in
-    let e₁ = e₂ in
-    let a = e₁.args in
+    let a = c.args in
     let m = a.m in
     let r = c.check_spares in
-    let p = e₅.point_of-s.ensures in
+    let p = c.point_of-s.ensures in
     let t₁ : fill_ok m.fill ≡ true =
-    sym e₁.check_fill.ensures ∙ not-false e₁.check_fill.result e₁.if-not-check_fill.false-raw in
-    let t₂ = le-leb 1 m.max e₂.if-m-lt1.false in
-    let t₃ = eq-eqb m.high (high_mask m.max) (e₃.if-m-high_mask.false ∙ e₃.high_mask.ensures) in
-    let t₄ = eq-eqb m.low (low_mask m.max) (e₄.if-m-low_mask.false ∙ e₄.low_mask.ensures) in
-    let t₅ = eq-eqb m.point (point m.max) (e₅.if-m-s.false ∙ p) in
+    sym c.check_fill.ensures ∙ not-false c.check_fill.result c.if-not-check_fill.false-raw in
+    let t₂ = le-leb 1 m.max c.if-m-lt1.false in
+    let t₃ = eq-eqb m.high (high_mask m.max) (c.if-m-high_mask.false ∙ c.high_mask.ensures) in
+    let t₄ = eq-eqb m.low (low_mask m.max) (c.if-m-low_mask.false ∙ c.low_mask.ensures) in
+    let t₅ = eq-eqb m.point (point m.max) (c.if-m-s.false ∙ p) in
     let t₆ : spares_ok (point m.max) m.spares ≡ true =
     ap (λ (s : ℕ). spares_ok s m.spares) (sym p) ∙ sym r.ensures ∙ not-false r.result c.if-not-check_spares.false-raw in
     rw (t₁, t₂, t₃, t₄, t₅, t₆)

@@ -35,8 +35,7 @@ same_length c = search rules
 
 returns : tie.Need-returns
 returns c =
-    let s = c in
-    cc (front-sets s.args.m (search rules) s.args.part.now s.requires (sixteen s.before.before.before.before.before.before.before.before.before.before.before.before.before.before.before.before.before.before.before.before.before))
+    cc (front-sets c.args.m (search rules) c.args.part.now c.requires (sixteen c.before.before.before.before.before.before.before.before.before.before.before.before.before.before.before.before.before.before.before.before.before))
 
 pub put_meta_spec : {M : Type 1} → statement M
 put_meta_spec =

@@ -14,8 +14,7 @@ new-draft-requires c κs = search rules
 
 -- the pair stands in the store's index
 stands : (c : tie.After-new_draft)
-    →
-    Cuttable c.args.store.now c.args.m c.new_draft.result c.args.images.now c.args.block
+    → Cuttable c.args.store.now c.args.m c.new_draft.result c.args.images.now c.args.block
     c.args.slot 0 c.args.b c.args.pair (decode c.args.store.now)
 stands c =
     let r = c.requires.0.0 in
@@ -30,8 +29,7 @@ cut-entry-requires c κs =
     (0, c.args.b, c.args.pair, decode c.args.store.now, stands c.before)
 
 ending : (c : tie.After-cut_entry-cut)
-    →
-    Ending c.args.store.now c.args.m c.cut_entry-cut.result.change c.cut_entry-cut.new.images
+    → Ending c.args.store.now c.args.m c.cut_entry-cut.result.change c.cut_entry-cut.new.images
     c.args.held c.cut_entry-cut.result.freed Freed.Nothing
     (cut c.args.pair c.args.b (decode c.args.store.now))
 ending c =

@@ -13,8 +13,7 @@ new-draft-requires c κs = search rules
 
 -- the old chain in the store's index, and the new one in what the first cut left
 first : (c : tie.After-new_draft)
-    →
-    Findable c.args.store.now c.args.m c.new_draft.result c.args.images.now 0 c.args.old
+    → Findable c.args.store.now c.args.m c.new_draft.result c.args.images.now 0 c.args.old
     c.args.pair (decode c.args.store.now)
 first c =
     let r = c.requires.0.0 in
@@ -22,8 +21,7 @@ first c =
     findable r c.args.pair draft c.new_draft.ensures.0 c.args.old c.requires.1.0.1
 
 second : (c : tie.After-cut_in-first)
-    →
-    Findable c.args.store.now c.args.m c.cut_in-first.result.change c.cut_in-first.new.images 3
+    → Findable c.args.store.now c.args.m c.cut_in-first.result.change c.cut_in-first.new.images 3
     c.args.new c.args.pair (cut c.args.pair c.args.old (decode c.args.store.now))
 second c =
     let a = c.args in
@@ -37,8 +35,7 @@ cut-in-requires-2 : tie.Need-cut_in-second-requires
 cut-in-requires-2 c κs = (3, _, second c.before.before.before.before)
 
 ending : (c : tie.After-cut_in-second)
-    →
-    Ending c.args.store.now c.args.m c.cut_in-second.result.change c.cut_in-second.new.images
+    → Ending c.args.store.now c.args.m c.cut_in-second.result.change c.cut_in-second.new.images
     c.args.held c.cut_in-first.result.freed c.cut_in-second.result.freed
     (cut c.args.pair c.args.new (cut c.args.pair c.args.old (decode c.args.store.now)))
 ending c =

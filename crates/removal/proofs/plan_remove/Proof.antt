@@ -31,8 +31,7 @@ returns c =
 
 -- where the held entry stands
 stands : (c : tie.In-At)
-    →
-    held_at (decode c.args.store.now) c.args.pair ≡ Found.At c.in-At.block c.in-At.slot
+    → held_at (decode c.args.store.now) c.args.pair ≡ Found.At c.in-At.block c.in-At.slot
 stands c = sym c.find_held-found.ensures ∙ c.in-At.is
 
 sub_held : tie.Need-overflow_sub-held
@@ -48,8 +47,7 @@ enum-known-sources c = search rules
 
 -- out of the pair's own bucket
 home : (c : tie.In-Home)
-    →
-    remove (decode c.args.store.now) c.args.pair
+    → remove (decode c.args.store.now) c.args.pair
     ≡ done (cut c.args.pair c.in-Home.home (decode c.args.store.now))
 home c =
     done-home c.requires.0 c.args.pair c.requires.2 _ _ (stands c.before.before.before) _
@@ -74,8 +72,7 @@ enum-known-sources-2 c = search rules
 
 -- out of both chains of the job
 both : (c : tie.In-Both)
-    →
-    remove (decode c.args.store.now) c.args.pair
+    → remove (decode c.args.store.now) c.args.pair
     ≡ done (cut c.args.pair c.in-Both.new
     (cut c.args.pair c.in-Both.old (decode c.args.store.now)))
 both c =

@@ -27,8 +27,7 @@ returns c =
 
 -- the first page with room
 room-is : (c : tie.In-Page)
-    →
-    room_in c.args.store.now (walk c.args.store.now c.args.span.first) ≡ Room.Page c.in-Page.block
+    → room_in c.args.store.now (walk c.args.store.now c.args.span.first) ≡ Room.Page c.in-Page.block
 room-is c = sym c.first_room-room.ensures ∙ c.in-Page.is
 
 returns-2 : tie.Need-returns-then-block-last

@@ -71,8 +71,7 @@ insert-at-requires c κs =
     target-ready h (c.cut_entry-cut.ensures 0 _ _ _ (stands c.before.before.before.before.before.before _ h)).1 (place_is c.before.before.before.before.before.before)
 
 ending : (c : tie.After-insert_at-moved) (b : ℕ)
-    →
-    let a = (begin c.before.before.before.before.before.before.before).args in
+    → let a = (begin c.before.before.before.before.before.before.before).args in
     Moves c.before.before.before.before.before.before.before b
     → Ending a.store.now a.m c.insert_at-moved.result c.insert_at-moved.new.images a.m.count
     c.cut_entry-cut.result.freed Freed.Nothing (entered (cut a.e.pair b (decode a.store.now)) b a.e)

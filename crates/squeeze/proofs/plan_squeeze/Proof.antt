@@ -87,8 +87,7 @@ count-entries-requires : tie.Need-count_entries-slot-requires
 count-entries-requires c κs = page-whole c
 
 number : (c : tie.After-count_entries-slot)
-    →
-    c.count_entries-slot.result ≡ u16_at (block (begin c.before.before).args.store.now c.in-At.last) 0
+    → c.count_entries-slot.result ≡ u16_at (block (begin c.before.before).args.store.now c.in-At.last) 0
 number c = c.count_entries-slot.ensures ∙ ap (λ (l : List ℕ). u16_at l 0) c.block_at-page.ensures
 
 some : (c : tie.After-count_entries-slot) → 1 ≤ c.count_entries-slot.result
@@ -114,8 +113,7 @@ cast-plan-move c = omega (arith, few c.before.before)
 -- ---- the entry that goes
 
 movable : (c : tie.After-get_entry-e) (b : ℕ)
-    →
-    let s = begin c.before.before.before in
+    → let s = begin c.before.before.before in
     Of c.before.before.before b
     → Movable s.args.store.now s.args.m b c.get_entry-e.result c.in-At.last
     (c.count_entries-slot.result - 1) c.in-At.target

@@ -28,11 +28,8 @@ same_length c = search rules
 returns : tie.Need-returns
 unfolding found_text
 returns c =
-    let p3 = c in
-    let p2 = p3 in
-    let p1 = p2 in
-    then-wrote (then-wrote (then-wrote p1.put_number-a.ensures p2.put_bytes-b.ensures)
-    p3.put_places-c.ensures.0)
+    then-wrote (then-wrote (then-wrote c.put_number-a.ensures c.put_bytes-b.ensures)
+    c.put_places-c.ensures.0)
     c.put_bytes.ensures
 
 pub put_found_spec : {M : Type 1} → statement M

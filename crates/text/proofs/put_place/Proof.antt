@@ -45,22 +45,18 @@ same_length c = search rules
 returns : tie.Need-returns
 unfolding place_text
 returns c =
-    let p3 = c in
-    let p2 = p3 in
-    let p1 = p2 in
-    let g = p1 in
-    let all = then-wrote (then-wrote (then-wrote p1.put_bytes-a.ensures p2.put_number-b.ensures)
-    p3.put_bytes-c.ensures)
+    let all = then-wrote (then-wrote (then-wrote c.put_bytes-a.ensures c.put_number-b.ensures)
+    c.put_bytes-c.ensures)
     c.put_number.ensures in (
-      rw (g.get_u32-block.ensures, g.get_u16-offset.ensures) at all,
+      rw (c.get_u32-block.ensures, c.get_u16-offset.ensures) at all,
       omega (
         arith,
-        p1.put_bytes-a.ensures.ends,
-        p2.put_number-b.ensures.ends,
-        p3.put_bytes-c.ensures.ends,
+        c.put_bytes-a.ensures.ends,
+        c.put_number-b.ensures.ends,
+        c.put_bytes-c.ensures.ends,
         c.put_number.ensures.ends,
-        digits-32 g.get_u32-block.result (omega arith),
-        digits-16 g.get_u16-offset.result (omega arith),
+        digits-32 c.get_u32-block.result (omega arith),
+        digits-16 c.get_u16-offset.result (omega arith),
       ),
     )
 

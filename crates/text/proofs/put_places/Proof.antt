@@ -21,8 +21,7 @@ loop-holds c = (omega arith, omega arith, record { bytes = refl; ends = omega ar
 
 put-place-requires : tie.Need-put_place-end-requires invariant-loop decreases-loop
 put-place-requires c κs =
-    let s = c in
-    (omega arith, omega (arith, wrote-length c.loop-i.invariant.2, c.loop-i.invariant.0, c.loop-i.invariant.1, s.requires.1))
+    (omega arith, omega (arith, wrote-length c.loop-i.invariant.2, c.loop-i.invariant.0, c.loop-i.invariant.1, c.requires.1))
 
 add-i : tie.Need-overflow_add-i invariant-loop decreases-loop
 add-i c = omega arith
@@ -32,13 +31,11 @@ loop-less c = omega arith
 
 loop-again : tie.Need-loop-i-preserved invariant-loop decreases-loop
 loop-again c =
-    let l = c in
-    let s = l in
-    let both = then-wrote l.loop-i.invariant.2 c.put_place-end.ensures.0 in (
+    let both = then-wrote c.loop-i.invariant.2 c.put_place-end.ensures.0 in (
       omega arith,
-      omega (arith, c.put_place-end.ensures.1, l.loop-i.invariant.1),
+      omega (arith, c.put_place-end.ensures.1, c.loop-i.invariant.1),
       rw
-          (← bind-more (place_text s.args.places.now) l.loop-i.i) at both,
+          (← bind-more (place_text c.args.places.now) c.loop-i.i) at both,
     )
 
 same_length : tie.Need-shape_of-output invariant-loop decreases-loop

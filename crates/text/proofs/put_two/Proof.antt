@@ -28,13 +28,9 @@ same_length c = search rules
 
 returns : tie.Need-returns
 returns c =
-    let p4 = c in
-    let p3 = p4 in
-    let p2 = p3 in
-    let p1 = p2 in
-    then-wrote (then-wrote (then-wrote (then-wrote p1.put_bytes-c.ensures p2.put_number-d.ensures)
-    p3.put_bytes-e.ensures)
-    p4.put_number-f.ensures) c.put_bytes.ensures
+    then-wrote (then-wrote (then-wrote (then-wrote c.put_bytes-c.ensures c.put_number-d.ensures)
+    c.put_bytes-e.ensures)
+    c.put_number-f.ensures) c.put_bytes.ensures
 
 pub put_two_spec : {M : Type 1} → statement M
 put_two_spec =

@@ -41,8 +41,7 @@ check-block-requires c κs =
 
 -- what the test of a block tells
 check : (c : tie.After-check_block invariant-loop decreases-loop)
-    →
-    checked c.args.store.now c.loop-k.k ≡ c.check_block.result
+    → checked c.args.store.now c.loop-k.k ≡ c.check_block.result
 unfolding checked
 check c =
     sym (c.check_block.ensures

@@ -25,8 +25,7 @@ more : (c : tie.In-loop-i invariant-loop decreases-loop)
 more c = omega (arith, c.loop-i-test.true, c.count_run-count.ensures)
 
 turn : (c : tie.After-count_unmoved-n invariant-loop decreases-loop)
-    →
-    let a = c.args in
+    → let a = c.args in
     tally (is_match a.hash true) (entries_of a.page.now)
     ≡ (c.loop-i.n + c.count_unmoved-n.result)
     + tally unmoved (drop (c.loop-i.i + 1) (run_entries c.find_run-run.result.now))

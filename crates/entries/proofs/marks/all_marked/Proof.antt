@@ -115,8 +115,7 @@ array-read-offset c = omega (arith, upto c.before)
 
 -- there is a next copy
 below : (c : tie.Else-key invariant-loop decreases-loop)
-    →
-    get_or c.loop-new_keys.new_keys (get_or c.loop-new_keys.new_tree 1 0) 0 < no_key
+    → get_or c.loop-new_keys.new_keys (get_or c.loop-new_keys.new_tree 1 0) 0 < no_key
 below c = next-below c.loop-new_keys.invariant.news (some c.before) c.if-key.false
 
 is-next-moved-requires : tie.Need-is_next_moved-moved-requires invariant-loop decreases-loop
@@ -146,8 +145,7 @@ marked c =
 
 -- a turn, by what is left
 turn : (c : tie.After-is_next invariant-loop decreases-loop)
-    →
-    let a = (entry c.before.before.before.before.before.before.before.before.before.before.before.before.before.before.before.before.before).args in
+    → let a = (entry c.before.before.before.before.before.before.before.before.before.before.before.before.before.before.before.before.before).args in
     all (marked_by (joined (page_at a.store.now a.old.now) 0 a.k))
     (joined (page_at a.store.now a.new.now) 0 a.n)
     ≡ marked c

@@ -67,8 +67,7 @@ element-copy-out-offset : tie.Need-bounds-tails-j invariant-loop decreases-loop
 element-copy-out-offset c = omega (arith, upto c.before.before.before.before.before.before)
 
 below : (c : tie.Else-key invariant-loop decreases-loop)
-    →
-    get_or c.loop-n.keys (get_or c.loop-n.tree 1 0) 0 < no_key
+    → get_or c.loop-n.keys (get_or c.loop-n.tree 1 0) 0 < no_key
 below c =
     next-below c.loop-n.invariant.0 (entry c.before.before.before.before.before).requires.1 c.if-key.false
 
@@ -83,8 +82,7 @@ is-next-requires c κs =
 
 -- a turn, by what is left
 turn : (c : tie.After-is_next invariant-loop decreases-loop)
-    →
-    let a = (entry c.before.before.before.before.before.before.before.before.before.before.before.before).args in
+    → let a = (entry c.before.before.before.before.before.before.before.before.before.before.before.before).args in
     distinct (joined (page_at a.store.now a.pages.now) 0 a.n)
     ≡ not c.is_next.result
     && distinct (joined (left_of a.store.now a.pages.now c.take_first.new.tails) 0 a.n)

@@ -74,8 +74,7 @@ returns c =
 
 -- each block of the walk is a page
 pages : (c : tie.Else-not-check_blocks invariant-loop decreases-loop)
-    →
-    let s = (entry c.before.before.before.before.before.before).args.store.now in
+    → let s = (entry c.before.before.before.before.before.before).args.store.now in
     all (λ k. page_ok (block s k)) (take c.walk_bucket-count.result c.walk_bucket-count.new.blocks) ≡ true
 pages c = let h = c.check_blocks in sym h.ensures ∙ not-false h.result c.if-not-check_blocks.false-raw
 

@@ -52,8 +52,7 @@ check-walk-places-requires c κs =
 
 -- the chain of bucket b
 chain : (c : tie.After-check_walk_places invariant-loop decreases-loop)
-    →
-    let a = c.args in
+    → let a = c.args in
     homed a.store.now a.phase c.loop-b.b ≡ c.check_walk_places.result
 chain c =
     let a = c.args in

@@ -22,8 +22,7 @@ bytes : (c : tie.After-test_squeeze-test) → Bytes (given c).store
 bytes c = λ i. omega (arith, c.slice_known-1.given i)
 
 good : (c : tie.In-Passed)
-    →
-    let a = c.args in
+    → let a = c.args in
     test_of (bucket_tested (tested_with (budget_ok a.budget) (given c.before)) a.bucket) ≡ Test.Passed
 good c = sym c.test_squeeze-test.ensures ∙ c.in-Passed.is
 

@@ -19,8 +19,7 @@ bytes : (c : tie.After-test_ready-test) → Bytes (given c).store
 bytes c = λ i. omega (arith, c.shared_slice_known-1.given i)
 
 good : (c : tie.In-Passed)
-    →
-    test_of (tested_with c.args.numbers (given c.before)) ≡ Test.Passed
+    → test_of (tested_with c.args.numbers (given c.before)) ≡ Test.Passed
 good c = sym c.test_ready-test.ensures ∙ c.in-Passed.is
 
 test-ready-requires : tie.Need-test_ready-test-requires

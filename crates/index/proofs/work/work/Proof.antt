@@ -20,8 +20,7 @@ bytes : (c : tie.After-test_ready-test) → Bytes (given c).store
 bytes c = λ i. omega (arith, c.slice_known-1.given i)
 
 good : (c : tie.In-Passed)
-    →
-    test_of (tested_with (budget_ok c.args.budget) (given c.before)) ≡ Test.Passed
+    → test_of (tested_with (budget_ok c.args.budget) (given c.before)) ≡ Test.Passed
 good c = sym c.test_ready-test.ensures ∙ c.in-Passed.is
 
 test-ready-requires : tie.Need-test_ready-test-requires

@@ -41,7 +41,6 @@ returns-3 : tie.Need-returns-then-not-check_block
 returns-3 c =
     let a = c.args in
     let j = a.journal.now in
-    let n = c.count_of-count.ensures in
     few-images (record { store = a.store.now; journal = j }) (omega arith) (omega arith) false
     (and_no (checks (number_in j) 0 (head_of j)) _ c.check_block.result
     (c.check_block.ensures
@@ -56,7 +55,6 @@ returns-4 : tie.Need-returns
 returns-4 c =
     let a = c.args in
     let j = a.journal.now in
-    let n = c.count_of-count.ensures in
     few-images (record { store = a.store.now; journal = j }) (omega arith) (omega arith) _
     (and_yes (checks (number_in j) 0 (head_of j)) _ c.check_block.result _
     (c.check_block.ensures

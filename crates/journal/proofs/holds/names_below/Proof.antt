@@ -32,7 +32,6 @@ returns : tie.Need-returns-then-name-size invariant-loop decreases-loop
 returns c =
     let a = c.args in
     let l = c.loop-i in
-    let e = c.name_of-name.ensures in
     all-no (test a.journal.now a.size) a.count l.i (omega arith)
     (le-ltb (name_in a.journal.now l.i) a.size (omega (arith, c.if-name-size.true)))
 
@@ -46,7 +45,7 @@ loop-again : tie.Need-loop-i-preserved invariant-loop decreases-loop
 loop-again c =
     let a = c.args in
     let l = c.loop-i in
-    let e = c.name_of-name.ensures in (
+ (
       omega arith,
       passed-more (test a.journal.now a.size) l.i l.invariant.1
           (lt-ltb (name_in a.journal.now l.i) a.size (omega (arith, c.if-name-size.false))),

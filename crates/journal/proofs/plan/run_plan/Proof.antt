@@ -39,7 +39,6 @@ store-planned-requires : tie.Need-store_planned-requires invariant-loop decrease
 store-planned-requires c κs =
     let l = c.loop-n in
     let few = c.requires.0.2 in
-    let e = c.plan_count.ensures in
     ((l.invariant.2, c.requires.0.1), ((few, omega arith), λ i h z. omega (arith, c.requires.1 i h, l.invariant.1)))
 
 add-n : tie.Need-overflow_add-n invariant-loop decreases-loop
@@ -52,7 +51,6 @@ loop-again : tie.Need-loop-n-preserved invariant-loop decreases-loop
 unfolding plan_store
 loop-again c =
     let l = c.loop-n in
-    let count = c.plan_count.ensures in
     let a = c.args in
     let long = length-plan_stores a.plan.now in (
       omega arith,
@@ -74,7 +72,6 @@ returns : tie.Need-returns invariant-loop decreases-loop
 returns c =
     let l = c.loop-n in
     let a = c.args in
-    let e = c.plan_count.ensures in
     let count = length-plan_stores a.plan.now in
     ap (λ (qs : List BlockStore). run qs (record { store = a.store.now; journal = a.journal.now }))
     (sym (take_all l.n (plan_stores a.plan.now) (omega arith)))

@@ -24,7 +24,6 @@ block-at-requires c κs = search rules
 put-block-requires : tie.Need-put_block-requires
 put-block-requires c κs =
     let few = c.requires.1.0.0 in
-    let e = c.plan_count-count.ensures in
     (omega arith, length-of-block _ c.args.plan.now _ c.block_at.ensures (omega arith))
 
 same_length : tie.Need-shape_of-journal-then-n-count
@@ -33,7 +32,6 @@ same_length c = search rules
 returns : tie.Need-returns-then-n-count
 returns c =
     let a = c.args in
-    let e = c.plan_count-count.ensures in
     did-image a.plan.now a.store.now a.journal.now _ _ a.n (omega arith)
     c.block_at.ensures c.put_block.ensures
 
@@ -50,7 +48,6 @@ same-length-2 c = search rules
 returns-2 : tie.Need-returns-then-past-eq0
 returns-2 c =
     let a = c.args in
-    let e = c.plan_count-count.ensures in
     did-head a.plan.now a.store.now a.journal.now _ _ a.n (omega arith)
     c.block_at-then-past-eq0.ensures c.put_block-then-past-eq0.ensures
 
@@ -67,7 +64,6 @@ same-length-3 c = search rules
 returns-3 : tie.Need-returns-then-past-eq1
 returns-3 c =
     let a = c.args in
-    let e = c.plan_count-count.ensures in
     did-end a.plan.now a.store.now a.journal.now _ _ a.n (omega arith)
     c.block_at-then-past-eq1.ensures c.put_block-then-past-eq1.ensures
 
@@ -90,8 +86,7 @@ put-block-requires-4 : tie.Need-put_block-requires-then-i-count
 put-block-requires-4 c κs =
     let few = c.requires.1.0.0 in
     let n = c.plan_count-count in
-    let e = n.ensures in
-    let name = c.plan_name-name.ensures in (
+ (
       omega (arith, c.requires.1.1 (c.args.n - n.result - 2) (omega arith) (omega arith)),
       length-of-block _ c.args.plan.now _ c.block_at-then-i-count.ensures (omega arith),
     )
@@ -103,7 +98,6 @@ returns-4 : tie.Need-returns-then-i-count
 returns-4 c =
     let n = c.plan_count-count in
     let a = c.args in
-    let e = n.ensures in
     did-page a.plan.now a.store.now a.journal.now _ _ a.n (a.n - n.result - 2) _ (omega arith)
     (omega arith) c.plan_name-name.ensures c.block_at-then-i-count.ensures
     c.put_block-then-i-count.ensures
@@ -121,7 +115,6 @@ same-length-5 c = search rules
 returns-5 : tie.Need-returns
 returns-5 c =
     let a = c.args in
-    let e = c.plan_count-count.ensures in
     did-wipe a.plan.now a.store.now a.journal.now _ _ a.n (omega (arith, c.requires.1.0.1))
     c.block_at-2.ensures c.put_block-2.ensures
 

@@ -57,28 +57,21 @@ same_length c = search rules
 
 returns : tie.Need-returns
 returns c =
-    let second = c in
-    let first = second in
-    let w = first in
-    let e = w in
-    let h = e in
-    let l = h in
-    let s = l in
-    let a = s.args in
-    let inside : 1536 ≤ length a.plan.now = omega (arith, s.requires.0) in
+    let a = c.args in
+    let inside : 1536 ≤ length a.plan.now = omega (arith, c.requires.0) in
     c.put_block-3.ensures
-    ∙ ap (λ (y : List ℕ). set_block y 2 w.wiped_head-wiped.result)
-    (second.put_block-2.ensures
-    ∙ ap (λ (y : List ℕ). set_block y 1 e.head_as-end.result) first.put_block.ensures)
+    ∙ ap (λ (y : List ℕ). set_block y 2 c.wiped_head-wiped.result)
+    (c.put_block-2.ensures
+    ∙ ap (λ (y : List ℕ). set_block y 1 c.head_as-end.result) c.put_block.ensures)
     ∙ plan-written a.number a.change.numbers a.change.count
-    (put_mid 1536 (length a.plan.now - 1536) a.plan.now l.seal_change.new.images) h.head_as-head.result
-    e.head_as-end.result w.wiped_head-wiped.result h.head_as-head.ensures e.head_as-end.ensures w.wiped_head-wiped.ensures
+    (put_mid 1536 (length a.plan.now - 1536) a.plan.now c.seal_change.new.images) c.head_as-head.result
+    c.head_as-end.result c.wiped_head-wiped.result c.head_as-head.ensures c.head_as-end.ensures c.wiped_head-wiped.ensures
     ∙ ap
     (λ (y : List ℕ).
     head a.number a.change.numbers a.change.count
     ++ (ending a.number a.change.numbers a.change.count ++ (wiped ++ y)))
-    (rest_back a.plan.now 1536 inside l.seal_change.new.images
-    ∙ l.seal_change.ensures
+    (rest_back a.plan.now 1536 inside c.seal_change.new.images
+    ∙ c.seal_change.ensures
     ∙ ap (λ (y : List ℕ). seals a.number a.change.numbers y a.change.count)
     (rest-lent a.plan.now 1536 inside))
 

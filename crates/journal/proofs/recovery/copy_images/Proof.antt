@@ -45,7 +45,6 @@ block-at-requires c κs =
 put-block-requires : tie.Need-put_block-requires invariant-loop decreases-loop
 put-block-requires c κs =
     let l = c.loop-i in
-    let n = c.count_of-n.ensures in
     let few = c.requires.0.1 in (
       omega (arith, c.requires.1.inside l.i (omega arith), c.name_of-name.ensures, l.invariant.1),
       length-of-block _ c.args.journal.now _ c.block_at.ensures (omega (arith, c.requires.0.0)),

@@ -42,7 +42,6 @@ returns : tie.Need-returns-then-name-k invariant-loop decreases-loop
 returns c =
     let j = c.args.journal.now in
     let l = c.loop-i in
-    let n = c.count_of-n.ensures in
     let few = c.requires.1 in (
       λ h.
           find_first (test j c.args.k) 0 (count_in j) l.i (omega arith) (omega arith) (λ m x y. l.invariant.1 m y)
@@ -71,7 +70,6 @@ returns-2 c =
     let a = c.args in
     let j = a.journal.now in
     let l = c.loop-i in
-    let n = c.count_of-n.ensures in
     (λ h. absurd (omega arith), λ h. find-nowhere (test j a.k) 0 (count_in j) (λ m x y. l.invariant.1 m (omega arith)))
 
 pub find_image_spec : {M : Type 1} → statement M

@@ -46,15 +46,13 @@ command-of-requires c κs = tt
 
 returns-4 : tie.Need-returns
 returns-4 c =
-    let t = c in
-    let s = t in
-    let line = s.args.line.now in
+    let line = c.args.line.now in
     let whole : take (length line - 2) (drop 2 line) ≡ drop 2 line =
     take_all (length line - 2) (drop 2 line) (omega (arith, length-drop 2 line)) in
     c.command_of.ensures
     ∙ ap (command_of (get_or line 0 0))
     (c.read_fields.ensures ∙ ap (λ (l : List ℕ). fields_from Fields.None (words l)) whole)
-    ∙ sym (line-call line s.if-line-lt2.false s.if-line-gt80.false t.if-line-ne32.false)
+    ∙ sym (line-call line c.if-line-lt2.false c.if-line-gt80.false c.if-line-ne32.false)
 
 pub read_line_spec : {M : Type 1} → statement M
 read_line_spec =

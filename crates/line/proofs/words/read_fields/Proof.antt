@@ -48,42 +48,33 @@ enum_told c = search rules
 
 -- the word's number
 read : (c : tie.After-read_number-number invariant-loop decreases-loop)
-    →
-    let at = c.loop-n.at in
+    → let at = c.loop-n.at in
     c.read_number-number.result ≡ number_of (take (c.word_end-end.result - at)
     (drop at c.args.line.now))
 read c = c.read_number-number.ensures
 
 returns : tie.Need-returns-in_default invariant-loop decreases-loop
 returns c =
-    let e = c in
-    let l = e in
-    sym (l.loop-n.invariant.1 ∙ fields-stop (ends e.before.before.before) l.loop-n.fields (sym (read c.before) ∙ c.in_default.is))
+    sym (c.loop-n.invariant.1 ∙ fields-stop (ends c.before.before.before) c.loop-n.fields (sym (read c.before) ∙ c.in_default.is))
 
 add-value-requires : tie.Need-add_value-fields-requires invariant-loop decreases-loop
 add-value-requires c κs = tt
 
 -- one number more
 more : (c : tie.After-add_value-fields invariant-loop decreases-loop)
-    →
-    let l = c in
-    add_number l.loop-n.fields c.read_number-number.result ≡ c.add_value-fields.result
+    → add_number c.loop-n.fields c.read_number-number.result ≡ c.add_value-fields.result
 more c =
-    let l = c in
-    ap (add_number l.loop-n.fields) c.in-Value.is ∙ sym c.add_value-fields.ensures
+    ap (add_number c.loop-n.fields) c.in-Value.is ∙ sym c.add_value-fields.ensures
 
 returns-2 : tie.Need-returns-then-end-line invariant-loop decreases-loop
 returns-2 c =
-    let e = c in
-    let l = e in
     sym
-    (l.loop-n.invariant.1 ∙ fields-last (ends e.before.before.before.before.before) l.loop-n.fields c.if-end-line.true
-    ∙ ap (add_number l.loop-n.fields) (sym (read c.before.before.before)) ∙ more c.before)
+    (c.loop-n.invariant.1 ∙ fields-last (ends c.before.before.before.before.before) c.loop-n.fields c.if-end-line.true
+    ∙ ap (add_number c.loop-n.fields) (sym (read c.before.before.before)) ∙ more c.before)
 
 -- the word is not the last
 within : (c : tie.Else-end-line invariant-loop decreases-loop)
-    →
-    c.word_end-end.result < length c.args.line.now
+    → c.word_end-end.result < length c.args.line.now
 within c =
     omega (arith, (ends c.before.before.before.before.before).upto, c.if-end-line.false)
 
@@ -96,13 +87,11 @@ loop-less c = omega (arith, within c, (ends c.before.before.before.before.before
 
 loop-again : tie.Need-loop-n-preserved invariant-loop decreases-loop
 loop-again c =
-    let e = c in
-    let l = e in
-    let rest = words (drop (e.word_end-end.result + 1) l.args.line.now) in (
+    let rest = words (drop (c.word_end-end.result + 1) c.args.line.now) in (
       omega (arith, within c),
-      l.loop-n.invariant.1 ∙ fields-more (ends e.before.before.before.before.before) l.loop-n.fields (within c)
+      c.loop-n.invariant.1 ∙ fields-more (ends c.before.before.before.before.before) c.loop-n.fields (within c)
           ∙ ap (λ (f : Fields). fields_from f rest)
-          (ap (add_number l.loop-n.fields) (sym (read c.before.before.before)) ∙ more c.before),
+          (ap (add_number c.loop-n.fields) (sym (read c.before.before.before)) ∙ more c.before),
     )
 
 pub read_fields_spec : {M : Type 1} → statement M

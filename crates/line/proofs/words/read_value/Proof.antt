@@ -16,8 +16,7 @@ decreases-loop word value₀ i₀ value i = length word - i
 
 -- a digit takes the value on
 turn : (c : tie.Else-byte-gt57 invariant-loop decreases-loop)
-    →
-    let word = c.args.word.now in
+    → let word = c.args.word.now in
     value_from 0 word
     ≡ value_from (10 * c.loop-i.value + (get_or word c.loop-i.i 0 - 48)) (drop (c.loop-i.i + 1) word)
 turn c =

@@ -34,8 +34,7 @@ find-place-requires c κs = c.page_at.ensures.1
 
 -- the slot is the sorted place of the pair in the page
 slot_is : (c : tie.After-find_place-slot invariant-loop decreases-loop)
-    →
-    c.find_place-slot.result
+    → c.find_place-slot.result
     ≡ place_of c.args.from (page_at c.args.store.now c.args.pages.now c.loop-i.i)
 slot_is c =
     c.find_place-slot.ensures

@@ -81,8 +81,7 @@ element-copy-out-other c = omega (arith, node c.before)
 
 -- the page next to it is one of the n
 other : (c : tie.In-loop-k invariant-loop decreases-loop)
-    →
-    let a = c.args in
+    → let a = c.args in
     get_or a.tree.now (4 * (c.loop-k.k / 2) + 1 - c.loop-k.k) 0 < max_pages
 other c =
     let r = c.loop-k.invariant in

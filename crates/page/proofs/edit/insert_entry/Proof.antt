@@ -46,17 +46,14 @@ same_length c = omega arith
 
 returns : tie.Need-returns
 returns c es tail eq =
-    let gap = c in
-    let count = gap in
-    let s = count in
-    let a = s.args in
-    let n : count.count_entries-n.result ≡ length es =
-    count.count_entries-n.ensures ∙ number-page a.p.now es tail s.requires.whole eq in
+    let a = c.args in
+    let n : c.count_entries-n.result ≡ length es =
+    c.count_entries-n.ensures ∙ number-page a.p.now es tail c.requires.whole eq in
     let l₂ =
     c.put_entry.ensures
-    ∙ ap (λ (l : List ℕ). sets l (4 + 12 * a.k) (encode_entry a.e)) gap.open_gap.ensures in
+    ∙ ap (λ (l : List ℕ). sets l (4 + 12 * a.k) (encode_entry a.e)) c.open_gap.ensures in
     c.put_u16.ensures
-    ∙ ap (λ (l : List ℕ). sets l 0 (le16 (count.count_entries-n.result + 1))) l₂
+    ∙ ap (λ (l : List ℕ). sets l 0 (le16 (c.count_entries-n.result + 1))) l₂
     ∙ ap₂ (λ (l : List ℕ) (m : ℕ). with_entry l m a.k (encode_entry a.e)) eq n
     ∙ insert-page es tail a.k a.e (omega arith) (omega arith)
 

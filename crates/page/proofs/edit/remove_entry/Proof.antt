@@ -46,15 +46,12 @@ same_length c = omega arith
 
 returns : tie.Need-returns
 returns c es tail eq =
-    let gap = c in
-    let count = gap in
-    let s = count in
-    let a = s.args in
-    let n : count.count_entries-n.result ≡ length es =
-    count.count_entries-n.ensures ∙ number-page a.p.now es tail s.requires.whole eq in
-    let m : ℕ = count.count_entries-n.result - 1 in
+    let a = c.args in
+    let n : c.count_entries-n.result ≡ length es =
+    c.count_entries-n.ensures ∙ number-page a.p.now es tail c.requires.whole eq in
+    let m : ℕ = c.count_entries-n.result - 1 in
     let l₂ =
-    c.put_entry.ensures ∙ ap (λ (l : List ℕ). sets l (4 + 12 * m) (encode_entry blank)) gap.close_gap.ensures in
+    c.put_entry.ensures ∙ ap (λ (l : List ℕ). sets l (4 + 12 * m) (encode_entry blank)) c.close_gap.ensures in
     c.put_u16.ensures
     ∙ ap (λ (l : List ℕ). sets l 0 (le16 m)) l₂
     ∙ ap₂ (λ (l : List ℕ) (k : ℕ). without_entry l k (k - 1) a.k (encode_entry blank)) eq n

@@ -10,18 +10,16 @@ returns c =
 
 returns-2 : tie.Need-returns-then-a-b-2
 returns-2 c =
-    let e = c in
-    let a = e.args in
+    let a = c.args in
     sym
-    (lex-equal a.a.hash a.b.hash _ e.if-a-b.false
+    (lex-equal a.a.hash a.b.hash _ c.if-a-b.false
     ∙ lex-apart a.a.block a.b.block _ c.if-a-b-2.true)
 
 returns-3 : tie.Need-returns
 returns-3 c =
-    let e = c in
-    let a = e.args in
+    let a = c.args in
     sym
-    (lex-equal a.a.hash a.b.hash _ e.if-a-b.false
+    (lex-equal a.a.hash a.b.hash _ c.if-a-b.false
     ∙ lex-equal a.a.block a.b.block _ c.if-a-b-2.false)
 
 pub is_before_spec : {M : Type 1} → statement M

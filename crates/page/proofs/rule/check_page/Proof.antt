@@ -33,8 +33,7 @@ check-numbers-requires c κs =
 returns-3 : tie.Need-returns-then-not-check_numbers
 unfolding page_ok
 returns-3 c =
-    let m = c in
-    let t₁ = holds m.check_number.ensures m.if-not-check_number.false-raw in
+    let t₁ = holds c.check_number.ensures c.if-not-check_number.false-raw in
     let t₂ = holds c.check_rest.ensures c.if-not-check_rest.false-raw in
     let t₃ = breaks c.check_numbers.ensures c.if-not-check_numbers.true-raw in
     rw (t₁, t₂, t₃)
@@ -47,10 +46,8 @@ check-order-requires c κs =
 returns-4 : tie.Need-returns
 unfolding page_ok
 returns-4 c =
-    let r = c in
-    let m = r in
-    let t₁ = holds m.check_number.ensures m.if-not-check_number.false-raw in
-    let t₂ = holds r.check_rest.ensures r.if-not-check_rest.false-raw in
+    let t₁ = holds c.check_number.ensures c.if-not-check_number.false-raw in
+    let t₂ = holds c.check_rest.ensures c.if-not-check_rest.false-raw in
     let t₃ = holds c.check_numbers.ensures c.if-not-check_numbers.false-raw in
     rw (t₁, t₂, t₃) c.check_order.ensures
 

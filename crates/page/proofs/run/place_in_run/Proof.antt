@@ -32,13 +32,11 @@ sought c =
 
 -- what is left lies in the run
 inside : (c : tie.In-loop-left invariant-loop decreases-loop)
-    →
-    let r = c.args.run.now in
+    → let r = c.args.run.now in
     Between (λ (k : ℕ). ltb (reading_key (read_entry r (12 * k)).pair) (reading_key c.args.x))
     (place_of c.args.x (run_entries r)) (length (run_entries r)) c.loop-left.at c.loop-left.left
 inside c =
-    let s = c in
-    c.loop-left.invariant s.args.x (sought c.before.before.before)
+    c.loop-left.invariant c.args.x (sought c.before.before.before)
 
 few : (c : tie.In-loop-left invariant-loop decreases-loop) → c.loop-left.at + c.loop-left.left ≤ 40
 few c =
@@ -53,10 +51,9 @@ next : (c : tie.After-one_if_below invariant-loop decreases-loop) (x : Pair)
     (length (run_entries r)) (v.at + half v.left * c.one_if_below.result) (v.left / 2)
 next c x e =
     let v = c.loop-left in
-    let f = c in
-    let r = f.args.run.now in
-    let key = reading_key f.args.x in
-    let bytes : Bytes r = λ k. omega (arith, f.shared_slice_known-1.given k) in
+    let r = c.args.run.now in
+    let key = reading_key c.args.x in
+    let bytes : Bytes r = λ k. omega (arith, c.shared_slice_known-1.given k) in
     let tells = places-tell r bytes key x e in
     let more : 0 < v.left = omega (arith, c.loop-left-test.true) in
     turn (λ (k : ℕ). ltb (reading_key (read_entry r (12 * k)).pair) key) (place_of x (run_entries r))

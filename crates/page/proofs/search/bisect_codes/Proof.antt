@@ -31,12 +31,11 @@ next : (c : tie.After-one_if_below invariant-loop decreases-loop)
     (v.at + half v.left * c.one_if_below.result) (v.left / 2)
 next c =
     let v = c.loop-left in
-    let s = c in
-    let l = s.args.p.now in
-    let code = s.args.code in
+    let l = c.args.p.now in
+    let code = c.args.code in
     let more : 0 < v.left = omega (arith, c.loop-left-test.true) in
     turn (λ (k : ℕ). ltb (entry_at l k).pair.hash code) (run_start code (entries_of l)) (u16_at l 0)
-    (codes-tell l s.requires.0 code) v.at v.left more v.invariant c.one_if_below.result
+    (codes-tell l c.requires.0 code) v.at v.left more v.invariant c.one_if_below.result
     (c.one_if_below.ensures ∙ ap (λ (n : ℕ). b2n (ltb n code)) c.get_code.ensures)
 
 ends : (c : tie.After-one_if_below invariant-loop decreases-loop)

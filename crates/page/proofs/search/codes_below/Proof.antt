@@ -24,20 +24,18 @@ cast-if2 c = search rules
 
 returns-2 : tie.Need-returns-then-code-get_code
 returns-2 c =
-    let s = c in
-    let down = code-down s.args.p.now s.requires.0 s.args.code s.args.low
+    let down = code-down c.args.p.now c.requires.0 c.args.code c.args.low
     (omega (arith, c.if-high-low.false, c.count_entries-high.ensures))
     (omega (arith, c.if-code-get_code.true, c.get_code.ensures)) in
-    omega (arith, down, s.requires.1)
+    omega (arith, down, c.requires.1)
 
 sub-get-code : tie.Need-overflow_sub-high
 sub-get-code c = search rules
 
 get-code-requires-2 : tie.Need-get_code-requires-2
 get-code-requires-2 c κs =
-    let s = c in
-    let few = number-le s.args.p.now s.requires.0.number in
-    (omega (arith, c.if-high-low.false, c.count_entries-high.ensures, few), s.requires.0.whole)
+    let few = number-le c.args.p.now c.requires.0.number in
+    (omega (arith, c.if-high-low.false, c.count_entries-high.ensures, few), c.requires.0.whole)
 
 cast-if3 : tie.Need-overflow_cast-get_code-2
 cast-if3 c = search rules
@@ -45,18 +43,16 @@ cast-if3 c = search rules
 returns-3 : tie.Need-returns-then-get_code-code
 returns-3 c =
     let n = c.count_entries-high in
-    let s = c in
-    let l = s.args.p.now in
-    let up = code_up l s.requires.0 s.args.code (n.result - 1)
+    let l = c.args.p.now in
+    let up = code_up l c.requires.0 c.args.code (n.result - 1)
     (omega (arith, c.if-high-low.false, n.ensures)) (omega (arith, c.if-get_code-code.true, c.get_code-2.ensures)) in
-    omega (arith, up, start-inside l s.requires.0 s.args.code, n.ensures)
+    omega (arith, up, start-inside l c.requires.0 c.args.code, n.ensures)
 
 bisect-codes-requires : tie.Need-bisect_codes-requires
 bisect-codes-requires c κs =
     let n = c.count_entries-high in
-    let s = c in
-    let end = start-inside s.args.p.now s.requires.0 s.args.code in
-    (s.requires.0, s.requires.1, omega (arith, end, n.ensures), omega (arith, n.ensures), s.requires.2)
+    let end = start-inside c.args.p.now c.requires.0 c.args.code in
+    (c.requires.0, c.requires.1, omega (arith, end, n.ensures), omega (arith, n.ensures), c.requires.2)
 
 returns-4 : tie.Need-returns
 returns-4 c = search rules

@@ -14,8 +14,7 @@ use Rattle.page.proofs.search.find_place.Statement.{statement}
 use Rattle.page.proofs.search.find_place.Tie as tie
 
 place : (c : tie.After-place_in_run)
-    →
-    c.entries_before-start.result + c.place_in_run.result
+    → c.entries_before-start.result + c.place_in_run.result
     ≡ place_of c.args.x (entries_of c.args.p.now)
 unfolding order_ok
 place c =

@@ -13,10 +13,9 @@ run-from-requires c κs = (c.requires, c.entries_before-start.ensures)
 
 returns : tie.Need-returns
 returns c =
-    let s = c in
-    let bytes : Bytes s.args.p.now = λ i. omega (arith, c.shared_slice_known-1.given i) in (
+    let bytes : Bytes c.args.p.now = λ i. omega (arith, c.shared_slice_known-1.given i) in (
       c.run_from.ensures,
-      λ ok. c.run_from.ensures ∙ run-bytes s.args.p.now bytes s.requires.whole ok s.args.h,
+      λ ok. c.run_from.ensures ∙ run-bytes c.args.p.now bytes c.requires.whole ok c.args.h,
     )
 
 pub find_run_spec : {M : Type 1} → statement M

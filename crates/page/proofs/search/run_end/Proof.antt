@@ -26,11 +26,10 @@ add-codes-below-2 c = search rules
 
 codes-below-requires : tie.Need-codes_below-requires
 codes-below-requires c κs =
-    let s = c in
-    let up = code_up s.args.p.now s.requires.0 (s.args.h + 1) s.args.start
+    let up = code_up c.args.p.now c.requires.0 (c.args.h + 1) c.args.start
     (omega (arith, c.if-start-count_entries.true, c.count_entries.ensures))
     (omega (arith, c.if-get_code-h.true, c.get_code.ensures)) in
-    (s.requires.0, omega (arith, up), omega arith)
+    (c.requires.0, omega (arith, up), omega arith)
 
 returns : tie.Need-returns-then-get_code-h
 returns c =
@@ -38,13 +37,12 @@ returns c =
 
 returns-2 : tie.Need-returns-else-get_code-h
 returns-2 c =
-    let s = c in
-    let l = s.args.p.now in
-    let h = s.args.h in
-    let inside : s.args.start < u16_at l 0 = omega (arith, c.if-start-count_entries.true, c.count_entries.ensures) in
-    let none = run-empty l s.requires.0 h s.args.start s.requires.1 inside
+    let l = c.args.p.now in
+    let h = c.args.h in
+    let inside : c.args.start < u16_at l 0 = omega (arith, c.if-start-count_entries.true, c.count_entries.ensures) in
+    let none = run-empty l c.requires.0 h c.args.start c.requires.1 inside
     (λ e. c.if-get_code-h.false (c.get_code.ensures ∙ e)) in
-    omega (arith, none, s.requires.1)
+    omega (arith, none, c.requires.1)
 
 returns-3 : tie.Need-returns-else-start-count_entries
 returns-3 c =

@@ -46,8 +46,7 @@ part-result-end c = omega (arith, ends c, c.requires.0.whole)
 returns : tie.Need-returns
 unfolding run_of part
 returns c =
-    let s = c in
-    ap₂ (λ (a e : ℕ). part (4 + 12 * a) (4 + 12 * e) s.args.p.now) s.requires.1 c.run_end-end.ensures
+    ap₂ (λ (a e : ℕ). part (4 + 12 * a) (4 + 12 * e) c.args.p.now) c.requires.1 c.run_end-end.ensures
 
 pub run_from_spec : {M : Type 1} → statement M
 run_from_spec =

@@ -43,16 +43,12 @@ same_length c = omega arith
 
 returns : tie.Need-returns
 returns c =
-    let flags = c in
-    let third = flags in
-    let second = third in
-    let first = second in
-    let a = first.args in
+    let a = c.args in
     let at : ℕ = 4 + 12 * a.k in
-    let l₂ = second.put_u32-2.ensures ∙ ap (λ (l : List ℕ). sets l (at + 4) (le32 a.e.pair.block)) first.put_u32.ensures in
-    let l₃ = third.put_u16.ensures ∙ ap (λ (l : List ℕ). sets l (at + 8) (le16 a.e.pair.offset)) l₂ in
+    let l₂ = c.put_u32-2.ensures ∙ ap (λ (l : List ℕ). sets l (at + 4) (le32 a.e.pair.block)) c.put_u32.ensures in
+    let l₃ = c.put_u16.ensures ∙ ap (λ (l : List ℕ). sets l (at + 8) (le16 a.e.pair.offset)) l₂ in
     c.put_u16-2.ensures
-    ∙ ap₂ (λ (l : List ℕ) (v : ℕ). sets l (at + 10) (le16 v)) l₃ flags.entry_flags.ensures
+    ∙ ap₂ (λ (l : List ℕ) (v : ℕ). sets l (at + 10) (le16 v)) l₃ c.entry_flags.ensures
     ∙ sets-encode_entry a.p.now at a.e
 
 pub put_entry_spec : {M : Type 1} → statement M

@@ -93,8 +93,7 @@ put-prev-requires c κs =
     )
 
 sketch-2 : (c : tie.After-put_prev-linked)
-    →
-    let s = c.args.store.now in
+    → let s = c.args.store.now in
     Sketch s c.put_prev-linked.result c.put_prev-linked.new.images (linked_draft s) 2
     (bucket_at s (parent_bucket s) ∷ bucket_at s (next_bucket s) ∷ [])
 sketch-2 c =

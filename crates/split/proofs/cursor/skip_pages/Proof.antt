@@ -42,8 +42,7 @@ block-at-requires c κs = chain-whole c.requires.0.0 c.loop-left.invariant.0 c.l
 
 -- the page at the index
 page : (c : tie.After-block_at-page invariant-loop decreases-loop)
-    →
-    let a = c.args in
+    → let a = c.args in
     let ks = walk a.store.now a.first in
     PageOn a.store.now ks (length ks) c.loop-left.index c.block_at-page.result.now
 page c =
@@ -57,8 +56,7 @@ next-at-requires c κs = (page c.before.before).whole
 
 -- there is a block after it
 more : (c : tie.Else-next invariant-loop decreases-loop)
-    →
-    let a = c.args in
+    → let a = c.args in
     c.loop-left.index + 1 < length (walk a.store.now a.first)
 more c =
     link-inside c.args.first (page c.before.before.before.before) c.loop-left.invariant.0 c.next_at-next.ensures c.requires.0.2 c.if-next.false

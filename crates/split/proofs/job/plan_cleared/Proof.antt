@@ -43,8 +43,7 @@ mark-bucket-requires c κs =
     )
 
 sketch-1 : (c : tie.After-mark_bucket-settled)
-    →
-    let a = c.args in
+    → let a = c.args in
     Sketch a.store.now c.mark_bucket-settled.result c.mark_bucket-settled.new.images
     (cleared_draft a.store.now c.parent_of.result) 1 (bucket_at a.store.now c.parent_of.result ∷ [])
 sketch-1 c =

@@ -76,8 +76,7 @@ block-at-requires c κs = chain-whole c.requires.0.0 c.loop-next.invariant.0 c.l
 
 -- the page at index i
 page : (c : tie.After-block_at-page invariant-loop decreases-loop)
-    →
-    let a = c.args in
+    → let a = c.args in
     let ks = walk a.store.now a.first in
     PageOn a.store.now ks (length ks) c.loop-next.i c.block_at-page.result.now
 page c =
@@ -119,8 +118,7 @@ few c = chain-few (page c) c.requires.0.1
 
 -- the place is one of a chain's slots
 near : (c : tie.In_default invariant-loop decreases-loop)
-    →
-    c.loop-next.passed + mover_place c.first_in_page-found.result < 40 * suc max_blocks
+    → c.loop-next.passed + mover_place c.first_in_page-found.result < 40 * suc max_blocks
 near c =
     let at = c.in_default.is in
     let place = (seeks-place c.first_in_page-found.ensures.0 at).inside in
@@ -169,14 +167,12 @@ count-entries-requires c κs = (page c.before.before.before.before.before).whole
 
 -- the number of a page's entries
 number : (c : tie.After-count_entries-passed invariant-loop decreases-loop)
-    →
-    c.count_entries-passed.result ≡ length (entries_of c.block_at-page.result.now)
+    → c.count_entries-passed.result ≡ length (entries_of c.block_at-page.result.now)
 number c = c.count_entries-passed.ensures ∙ sym (length-entries_of _)
 
 -- there is a block after it
 more : (c : tie.After-count_entries-passed invariant-loop decreases-loop)
-    →
-    let a = c.args in
+    → let a = c.args in
     c.loop-next.i + 1 < length (walk a.store.now a.first)
 more c =
     link-inside c.args.first (page c.before.before.before.before.before.before) c.loop-next.invariant.0 c.next_at-next.ensures c.requires.0.2
@@ -195,8 +191,7 @@ loop-less c = omega (arith, more c)
 
 -- none of the page's entries is to move
 later : (c : tie.In-Nothing invariant-loop decreases-loop) (j : ℕ)
-    →
-    let a = c.args in
+    → let a = c.args in
     let ks = walk a.store.now a.first in
     j ≡ length (entries_of c.block_at-page.result.now)
     → Behind a.store.now ks (length ks) (movable a.copying (decode a.store.now)) (c.loop-next.passed + j)

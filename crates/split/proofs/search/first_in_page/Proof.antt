@@ -48,8 +48,7 @@ is-movable-requires c κs =
 
 -- the test of the entry in slot i
 tested : (c : tie.After-is_movable invariant-loop decreases-loop)
-    →
-    let a = c.args in
+    → let a = c.args in
     c.is_movable.result ≡ movable a.copying (decode a.store.now) (entry_at a.page.now c.loop-i.i)
 tested c =
     let a = c.args in

@@ -2,8 +2,9 @@
 -- indexes (`sound-iff-encoding`), and what it shows by the book of demand 3, at every moment of every list of calls and
 -- with power cuts.
 use Rattle.std.specs.Prelude.{◌≡◌, refl, true, List, [], ◌∷◌, ℕ, suc, ◌+◌, ◌*◌, length}
-use Rattle.std.proofs.Common.{sym, ap₂, ◌∙◌}
+use Rattle.std.proofs.Common.{ap₂, ◌∙◌}
 use Rattle.std.proofs.Math.Path.{ap}
+use Rattle.std.proofs.Math.IntN.{sub_ℕ}
 use Rattle.lists.specs.Lists.{Each}
 use Rattle.lists.specs.Block.{blocks}
 use Rattle.model.specs.declared.Order.{Order}
@@ -14,7 +15,7 @@ use Rattle.model.specs.Held.{count}
 use Rattle.model.specs.Calls.{format, standing}
 use Rattle.model.specs.Machine.{Call, formatting, CallFits, plain, stands, accepted}
 use Rattle.model.proofs.MachineLaws.{never}
-use Rattle.model.specs.History.{Moment, last_of, history, start, Always}
+use Rattle.model.specs.History.{Moment, phase_at, last_of, history, start, Always}
 use Rattle.model.specs.HistoryLaws.{always-map}
 use Rattle.model.specs.Demand.{Holds}
 use Rattle.model.specs.WellFormed.{WF}
@@ -32,7 +33,7 @@ use Rattle.journal.specs.Cut.{Ready}
 use Rattle.cuts.proofs.Demand3Theorem.{Covered}
 use Rattle.gauge.specs.declared.GaugeAnswer.{GaugeAnswer}
 use Rattle.gauge.specs.Gauge.{quotient, pages, gauge_of, zeros, shows, gauge_on, gauge_outcome}
-use Rattle.gauge.specs.GaugeLaws.{half, half_full, empty-zero}
+use Rattle.gauge.proofs.GaugeLaws.{half, half_full, empty-zero}
 
 -- ---- of sound stores
 
@@ -83,8 +84,8 @@ moment-gauge t h = go (tested true t.state) refl h.0.standing
         ≡ stands (StandingAnswer.Stands (record {
           count = length t.book;
           buckets = 2 + t.begins;
-          phase = _;
-          slack = _;
+          phase = phase_at on_store t.state;
+          slack = sub_ℕ (t.fill * (2 + t.begins)) (length t.book);
         }))
         → gauge_on k ≡ book_gauge t
     go (failed r) e s = never (cc)

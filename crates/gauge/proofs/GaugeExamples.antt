@@ -7,7 +7,7 @@ use Rattle.page.specs.declared.Entry.{Entry}
 use Rattle.model.specs.Index.{Index, idle}
 use Rattle.model.specs.Held.{count}
 use Rattle.gauge.specs.Gauge.{quotient, pages, gauge_of}
-use Rattle.gauge.specs.GaugeLaws.{half}
+use Rattle.gauge.proofs.GaugeLaws.{half}
 
 -- one third and two thirds: the nearest are the one below and the one above
 third : quotient 1 3 ≡ of_bits binary64 0x3fd5555555555555

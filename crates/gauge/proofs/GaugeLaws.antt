@@ -1,5 +1,5 @@
 -- What the gauge shows of an index: the exact cases, and between which numbers it lies.
-use Rattle.std.specs.Prelude.{◌≡◌, refl, true, List, ℕ, suc, ◌*◌, ◌<◌, negsuc, Float}
+use Rattle.std.specs.Prelude.{◌≡◌, refl, true, false, List, ℕ, suc, ◌*◌, ◌<◌, negsuc, Float}
 use Rattle.std.proofs.Common.{ap, ap₂, ◌∙◌, arith}
 use Rattle.std.specs.Float.{fin, binary64}
 use Rattle.std.specs.Float.Ieee.{round, of_bits, le}

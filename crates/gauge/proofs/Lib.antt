@@ -1,0 +1,3 @@
+pub mod GaugeLaws
+pub mod GaugeTheorem
+pub mod GaugeExamples
