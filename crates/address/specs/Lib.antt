@@ -6,7 +6,6 @@ pub mod Before
 pub mod PhaseLaws
 pub mod OverLaws
 pub mod MaskLaws
-pub mod BucketLaws
 pub mod BlockLaws
 pub mod PointLaws
 pub mod DigitLaws

@@ -10,7 +10,7 @@ use lib.Signed.{mag, le_z, non_neg}
 use mir.Syntax.{w64}
 use mir.Val.{Fits, SFits, to_z, of_z}
 use mir.ValLaws.{to_z-of_z}
-use Rattle.model.specs.MachineLaws.{never}
+use Rattle.model.proofs.MachineLaws.{never}
 use Rattle.amiqsovik.specs.Result.{twos_complement}
 
 -- what a cast to u64 asks

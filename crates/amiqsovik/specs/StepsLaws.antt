@@ -5,13 +5,13 @@ use Rattle.model.specs.Index.{Index}
 use Rattle.model.specs.Steps.{Step, next, stopped, iterate}
 use Rattle.model.specs.Calls.{budget_ok}
 use Rattle.model.specs.Machine.{of_splits, of_squeeze}
-use Rattle.model.specs.MachineLaws.{never}
+use Rattle.model.proofs.MachineLaws.{never}
 use Rattle.model.specs.Answers.{work_steps}
 use Rattle.outcomes.specs.Outcomes.{Tested, passed, failed, bucket_tested}
-use Rattle.outcomes.specs.OutcomeLaws.{passed-numbers}
+use Rattle.outcomes.proofs.OutcomeLaws.{passed-numbers}
 use Rattle.journal.specs.Journal.{Disk}
 use Rattle.cuts.specs.Journalled.{tested_with, step_journalled, work_on, work_journalled, squeeze_journalled}
-use Rattle.cuts.specs.TestedLaws.{passed-ready}
+use Rattle.cuts.proofs.TestedLaws.{passed-ready}
 
 pub iterate-steps : {S : Type 0} (f : S → Step S) (budget : ℕ) (s : S) → (iterate f budget s).steps ≤ budget
 iterate-steps f zero s = omega arith

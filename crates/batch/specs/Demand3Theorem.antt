@@ -13,7 +13,7 @@ use Rattle.model.specs.History.{Moment, start}
 use Rattle.model.specs.Demand.{Holds}
 use Rattle.image.specs.Decode.{decode}
 use Rattle.outcomes.specs.Outcomes.{run_store, on_store}
-use Rattle.outcomes.specs.Demand3Theorem.{demand3-stores}
+use Rattle.outcomes.proofs.Demand3Theorem.{demand3-stores}
 use Rattle.journal.specs.Journal.{Disk}
 use Rattle.journal.specs.Cut.{Ready}
 use Rattle.cuts.specs.Journalled.{run_disk}

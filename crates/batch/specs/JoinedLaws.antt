@@ -11,12 +11,12 @@ use Rattle.model.specs.History.{Moment, start, within, after, history, last_of}
 use Rattle.model.specs.HistoryLaws.{last-append, after-state}
 use Rattle.image.specs.SoundStore.{StaysSound}
 use Rattle.outcomes.specs.Outcomes.{run_store, on_store}
-use Rattle.outcomes.specs.OutcomeHistoryLaws.{keeps-call}
-use Rattle.outcomes.specs.Demand3Theorem.{history-length}
+use Rattle.outcomes.proofs.OutcomeHistoryLaws.{keeps-call}
+use Rattle.outcomes.proofs.Demand3Theorem.{history-length}
 use Rattle.journal.specs.Journal.{Disk}
 use Rattle.journal.specs.Cut.{Ready}
 use Rattle.cuts.specs.Journalled.{run_disk}
-use Rattle.cuts.specs.JournalledLaws.{Same, journalled-bytes}
+use Rattle.cuts.proofs.JournalledLaws.{Same, journalled-bytes}
 use Rattle.batch.specs.Batch.{reply_word, reply_output, word_of, output_after, disk_after, Small, call_at, Kept}
 use Rattle.batch.specs.Batch.{ran_at, runs, also, calls_in, moment_after}
 use Rattle.batch.specs.CallLaws.{MayFit, fits-call}

@@ -24,7 +24,7 @@ use Rattle.chain.specs.Walk.{walk, last_of, Bounded}
 use Rattle.chain.specs.WalkLaws.{walk_end, walk_more, bounded-next}
 use Rattle.chain.specs.Search.{slot_in, pair_on, room_on, found_as, find_in, room_as, room_in}
 use Rattle.chain.specs.Within.{entries_on, Within, PageOn}
-use Rattle.chain.specs.SearchLaws.{slot_at, slot-none}
+use Rattle.chain.proofs.SearchLaws.{slot_at, slot-none}
 use Rattle.chain.specs.WithinLaws.{search-here, search-later, search-end}
 
 module _ {s bs : List ℕ} {n : ℕ} (ok : Within s bs n) (i : ℕ) where

@@ -15,13 +15,13 @@ use Rattle.page.specs.Entries.{read_entry, entries_of}
 use Rattle.page.specs.Places.{place_of, run_entries}
 use Rattle.page.specs.Run.{has_code, run_start, run_of}
 use Rattle.page.specs.PlaceLaws.{place-any}
-use Rattle.page.specs.RunLaws.{place-run, any-run}
-use Rattle.page.specs.RunPartLaws.{get_or-run_entries, run-entries, run-one}
+use Rattle.page.proofs.RunLaws.{place-run, any-run}
+use Rattle.page.proofs.RunPartLaws.{get_or-run_entries, run-entries, run-one}
 use Rattle.page.specs.Rule.{order_ok}
 use Rattle.page.specs.Allowed.{Sorted}
 use Rattle.chain.specs.declared.Slot.{Slot}
 use Rattle.chain.specs.Search.{slot_in}
-use Rattle.chain.specs.SearchLaws.{slot-here, slot-nowhere}
+use Rattle.chain.proofs.SearchLaws.{slot-here, slot-nowhere}
 
 module _ {l : List ℕ} (sorted : Sorted l) (p : Pair) {r : List ℕ} (run : r ≡ run_of p.hash l) where
   entries : run_entries r ≡ keep (has_code p.hash) (entries_of l)

@@ -16,8 +16,8 @@ use Rattle.page.specs.Places.{run_entries}
 use Rattle.page.specs.EntriesLaws.{length-entries_of}
 use Rattle.page.specs.SublistLaws.{sublist-keep, length-sublist}
 use Rattle.page.specs.Allowed.{Sorted}
-use Rattle.page.specs.RuleLaws.{number-le}
-use Rattle.page.specs.RunPartLaws.{get_or-run_entries, run-entries, run_length_lem}
+use Rattle.page.proofs.RuleLaws.{number-le}
+use Rattle.page.proofs.RunPartLaws.{get_or-run_entries, run-entries, run_length_lem}
 use Rattle.model.specs.TallyLaws.{and_comm}
 use Rattle.chain.specs.Within.{entries_on, Within, PageOn}
 use Rattle.chain.specs.WithinLaws.{rest-turn, rest-done}

@@ -4,11 +4,9 @@ pub mod WalkLaws
 pub mod Within
 pub mod WithinLaws
 pub mod Search
-pub mod SearchLaws
 pub mod Pairs
 pub mod PairsLaws
 pub mod Along
 pub mod Bitmap
 pub mod BitmapLaws
-pub mod DecodeLaws
 pub mod SoundLaws

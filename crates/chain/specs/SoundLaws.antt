@@ -14,12 +14,12 @@ use Rattle.page.specs.SublistLaws.{each_map, each_all}
 use Rattle.page.specs.Rule.{page_ok}
 use Rattle.model.specs.Index.{top_bit}
 use Rattle.model.specs.Pages.{free_bit, first_free}
-use Rattle.model.specs.LaidLaws.{free-bit}
+use Rattle.model.proofs.LaidLaws.{free-bit}
 use Rattle.image.specs.Decode.{meta_at, max_at, block_of, decode}
 use Rattle.image.specs.Rules.{map_at, bit_at, top_at, free_at, bit_ok, rule6}
-use Rattle.image.specs.SoundFieldsLaws.{SoundBytes}
-use Rattle.image.specs.SoundChainsLaws.{PageRead, chain-read}
-use Rattle.image.specs.SoundBitsLaws.{free-read}
+use Rattle.image.proofs.SoundFieldsLaws.{SoundBytes}
+use Rattle.image.proofs.SoundChainsLaws.{PageRead, chain-read}
+use Rattle.image.proofs.SoundBitsLaws.{free-read}
 use Rattle.chain.specs.declared.Free.{Free}
 use Rattle.chain.specs.Walk.{walk, Sized, Walked}
 use Rattle.chain.specs.Within.{PagesOk, Within}

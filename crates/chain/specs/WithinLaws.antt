@@ -9,7 +9,7 @@ use Rattle.lists.specs.BlockLaws.{length-block}
 use Rattle.page.specs.SublistLaws.{each-get_or, all-each}
 use Rattle.page.specs.Rule.{page_ok}
 use Rattle.page.specs.Allowed.{Sorted}
-use Rattle.page.specs.RuleLaws.{page_ok-sorted}
+use Rattle.page.proofs.RuleLaws.{page_ok-sorted}
 use Rattle.address.specs.Limits.{max_blocks}
 use Rattle.chain.specs.Walk.{walk, Sized, Walked}
 use Rattle.chain.specs.WalkLaws.{walk-some, walk-few}

@@ -4,7 +4,7 @@ use Rattle.std.proofs.Common.{sym, ap, ap₂, ◌∙◌, arith, take-append-drop
 use Rattle.std.specs.Int.Bits.{bit_xor}
 use Rattle.lists.specs.Bytes.{Bytes}
 use Rattle.endian.specs.Endian.{le32, u32_at}
-use Rattle.endian.specs.EndianLaws.{le32-read}
+use Rattle.endian.proofs.EndianLaws.{le32-read}
 use Rattle.crc32c.specs.Crc.{crc_bits, crc_byte, crc_bytes, crc_of}
 use Rattle.crc32c.specs.CrcLaws.{crc_bytes-append, crc_of-append}
 use Rattle.crc32c.specs.TableLaws.{low_byte}

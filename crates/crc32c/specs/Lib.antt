@@ -5,4 +5,3 @@ pub mod Table
 pub mod XorLaws
 pub mod TableLaws
 pub mod FoursLaws
-pub mod InjectiveLaws

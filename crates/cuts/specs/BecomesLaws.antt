@@ -12,18 +12,18 @@ use Rattle.model.specs.Machine.{Call, formatting, inserting, removing, looking, 
 use Rattle.model.specs.Machine.{Kind, accepted, Ran, run_index, step_index}
 use Rattle.model.specs.Book.{effect, number_after}
 use Rattle.model.specs.WellFormed.{WF}
-use Rattle.model.specs.FrameLaws.{SameStore}
-use Rattle.model.specs.KindLaws.{kind-wf, kind-store}
-use Rattle.model.specs.MachineLaws.{never}
-use Rattle.model.specs.NumberLaws.{number-run}
-use Rattle.model.specs.RunLaws.{run-wf}
+use Rattle.model.proofs.FrameLaws.{SameStore}
+use Rattle.model.proofs.KindLaws.{kind-wf, kind-store}
+use Rattle.model.proofs.MachineLaws.{never}
+use Rattle.model.proofs.NumberLaws.{number-run}
+use Rattle.model.proofs.RunLaws.{run-wf}
 use Rattle.image.specs.Layout.{encode}
 use Rattle.image.specs.SoundStore.{Encodes}
-use Rattle.image.specs.BridgeTheorem.{encoding-is-sound}
-use Rattle.image.specs.EncodeLaws.{number-encode, checked-encode}
+use Rattle.image.proofs.BridgeTheorem.{encoding-is-sound}
+use Rattle.image.proofs.EncodeLaws.{number-encode, checked-encode}
 use Rattle.outcomes.specs.Outcomes.{step_on, run_store, step_store}
-use Rattle.outcomes.specs.OutcomeIndexLaws.{step-encode, run-encode}
-use Rattle.outcomes.specs.OutcomeSoundLaws.{run-size}
+use Rattle.outcomes.proofs.OutcomeIndexLaws.{step-encode, run-encode}
+use Rattle.outcomes.proofs.OutcomeSoundLaws.{run-size}
 use Rattle.journal.specs.Journal.{Disk}
 use Rattle.journal.specs.Altered.{altered}
 use Rattle.journal.specs.Cut.{Becomes}

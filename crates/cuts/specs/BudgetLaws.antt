@@ -5,11 +5,11 @@ use Rattle.model.specs.Index.{Index}
 use Rattle.model.specs.Steps.{Step, next, stopped, iterate}
 use Rattle.model.specs.Calls.{budget_ok}
 use Rattle.model.specs.Machine.{CallFits, Kind, of_splits, of_squeeze, stepping, worked, accepted}
-use Rattle.model.specs.MachineLaws.{never}
-use Rattle.model.specs.RunLaws.{refused-no}
+use Rattle.model.proofs.MachineLaws.{never}
+use Rattle.model.proofs.RunLaws.{refused-no}
 use Rattle.outcomes.specs.Outcomes.{Tested, passed, failed, tested, bucket_tested, work_on, work_outcome, squeeze_outcome}
 use Rattle.outcomes.specs.Outcomes.{run_store, step_store}
-use Rattle.outcomes.specs.OutcomeLaws.{passed-numbers}
+use Rattle.outcomes.proofs.OutcomeLaws.{passed-numbers}
 
 iterate-more : {S : Type 0} (f : S → Step S) (i : ℕ) (s t : S) → f (iterate f i s).state ≡ next t
     → (iterate f (suc i) s).state ≡ t

@@ -11,7 +11,7 @@ use Rattle.outcomes.specs.Outcomes.{run_store, step_store}
 use Rattle.journal.specs.Journal.{Disk, recover}
 use Rattle.journal.specs.Altered.{change_stores}
 use Rattle.journal.specs.Cut.{Cut, Tries, Ready}
-use Rattle.journal.specs.CrashTheorem.{Recovers, crash}
+use Rattle.journal.proofs.CrashTheorem.{Recovers, crash}
 use Rattle.cuts.specs.Events.{OneChange}
 use Rattle.cuts.specs.BecomesLaws.{becomes-call, becomes-step}
 

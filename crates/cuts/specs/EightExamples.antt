@@ -18,16 +18,16 @@ use Rattle.model.specs.Steps.{begin, step}
 use Rattle.model.specs.Calls.{Result, done, order_of, format, format_in, insert, remove, work}
 use Rattle.model.specs.Machine.{Call, formatting, inserting, removing, working, CallFits, Ran, Machine, settled}
 use Rattle.model.specs.Machine.{run_index, on_index}
-use Rattle.model.specs.FormatLaws.{format-wf}
-use Rattle.model.specs.FrameLaws.{remove-frame}
-use Rattle.model.specs.RemoveLaws.{remove-wf}
+use Rattle.model.proofs.FormatLaws.{format-wf}
+use Rattle.model.proofs.FrameLaws.{remove-frame}
+use Rattle.model.proofs.RemoveLaws.{remove-wf}
 use Rattle.image.specs.Layout.{paged, blank, meta_front, padded, meta_of, map_front, flags_of, bucket_image, image}
 use Rattle.image.specs.Layout.{encode_block, encode}
 use Rattle.image.specs.SoundStore.{Encodes}
 use Rattle.outcomes.specs.Outcomes.{changed, format_replacing, format_outcome, run_store, on_store}
-use Rattle.outcomes.specs.OutcomeIndexLaws.{run-encode}
-use Rattle.outcomes.specs.OutcomeMachineLaws.{simulates}
-use Rattle.outcomes.specs.OutcomeSoundLaws.{blocks_is, legal-is}
+use Rattle.outcomes.proofs.OutcomeIndexLaws.{run-encode}
+use Rattle.outcomes.proofs.OutcomeMachineLaws.{simulates}
+use Rattle.outcomes.proofs.OutcomeSoundLaws.{blocks_is, legal-is}
 use Rattle.journal.specs.Journal.{equal}
 use Rattle.journal.specs.Altered.{altered}
 use Rattle.cuts.specs.FewLaws.{framed-store, altered-bodies}

@@ -9,18 +9,18 @@ use Rattle.model.specs.Machine.{Call, formatting, inserting, removing, looking, 
 use Rattle.model.specs.Machine.{Kind, of_splits, of_squeeze, Ran, run_index}
 use Rattle.model.specs.Machine.{step_index}
 use Rattle.model.specs.WellFormed.{WF}
-use Rattle.model.specs.MachineLaws.{never}
-use Rattle.model.specs.FrameLaws.{insert-frame, remove-frame}
-use Rattle.model.specs.InsertLaws.{insert-wf}
-use Rattle.model.specs.RemoveLaws.{remove-wf}
-use Rattle.model.specs.KindLaws.{kind-wf, kind-store}
+use Rattle.model.proofs.MachineLaws.{never}
+use Rattle.model.proofs.FrameLaws.{insert-frame, remove-frame}
+use Rattle.model.proofs.InsertLaws.{insert-wf}
+use Rattle.model.proofs.RemoveLaws.{remove-wf}
+use Rattle.model.proofs.KindLaws.{kind-wf, kind-store}
 use Rattle.image.specs.Layout.{encode}
 use Rattle.image.specs.SoundStore.{Encodes}
 use Rattle.frame.specs.Frame.{put_blocks, remove_blocks, step_blocks, squeeze_blocks}
 use Rattle.frame.specs.CallsLaws.{frame-insert, frame-remove, frame_step, few-insert, few-remove, few-step}
 use Rattle.frame.specs.SqueezeLaws.{frame-squeeze, few-squeeze}
 use Rattle.outcomes.specs.Outcomes.{run_store, step_on, step_store}
-use Rattle.outcomes.specs.OutcomeIndexLaws.{run-encode, step-encode}
+use Rattle.outcomes.proofs.OutcomeIndexLaws.{run-encode, step-encode}
 use Rattle.journal.specs.Altered.{altered}
 use Rattle.cuts.specs.Events.{OneChange}
 use Rattle.cuts.specs.FewLaws.{framed-store, touches, settled-few}

@@ -14,12 +14,12 @@ use Rattle.model.specs.Calls.{Result, done, refused}
 use Rattle.model.specs.Machine.{settled}
 use Rattle.model.specs.WellFormed.{Laid}
 use Rattle.model.specs.TallyLaws.{tally-parts}
-use Rattle.model.specs.FrameLaws.{Framed, SameStore}
+use Rattle.model.proofs.FrameLaws.{Framed, SameStore}
 use Rattle.image.specs.Layout.{encode_block, sealed_block, encode}
-use Rattle.image.specs.EncodeLaws.{blocks-encode, block-encode, covered-encode}
+use Rattle.image.proofs.EncodeLaws.{blocks-encode, block-encode, covered-encode}
 use Rattle.frame.specs.Frame.{Apart}
 use Rattle.journal.specs.Journal.{equal}
-use Rattle.journal.specs.ValidLaws.{equal-eq, equal-yes}
+use Rattle.journal.proofs.ValidLaws.{equal-eq, equal-yes}
 use Rattle.journal.specs.Altered.{altered}
 
 -- ---- numbers of a run that are all among some others are no more than these

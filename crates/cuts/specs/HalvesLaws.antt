@@ -11,16 +11,16 @@ use Rattle.lists.specs.ListsLaws.{each_append}
 use Rattle.lists.specs.Block.{block}
 use Rattle.store.specs.Store.{number_at}
 use Rattle.model.specs.Calls.{size_ok}
-use Rattle.outcomes.specs.OutcomeSoundLaws.{blocks_is, legal-is}
+use Rattle.outcomes.proofs.OutcomeSoundLaws.{blocks_is, legal-is}
 use Rattle.journal.specs.Journal.{Disk, BlockStore, image, mark, page, do_store, run, head, ending, wipe, image_stores}
 use Rattle.journal.specs.Journal.{page_stores, stores, write}
 use Rattle.journal.specs.Altered.{altered, images_of, change_stores, written}
 use Rattle.journal.specs.Cut.{Cut, Torn, between, inside, later, Whole, Ready, Becomes}
 use Rattle.journal.specs.Planned.{plan_to, plan_over, plan_count, plan_store}
 use Rattle.journal.specs.CopyLaws.{each-run}
-use Rattle.journal.specs.AlteredLaws.{altered-below, stores_to-none, stores_to-some, length-stores_to}
-use Rattle.journal.specs.PlannedLaws.{length-plan_over, count-plan_over, plan_stores-to}
-use Rattle.journal.specs.BecomesLaws.{leaves}
+use Rattle.journal.proofs.AlteredLaws.{altered-below, stores_to-none, stores_to-some, length-stores_to}
+use Rattle.journal.proofs.PlannedLaws.{length-plan_over, count-plan_over, plan_stores-to}
+use Rattle.journal.proofs.BecomesLaws.{leaves}
 use Rattle.cuts.specs.Halves.{place_of, place_ok, store_ok, store_in, Stored, store_outcome}
 use Rattle.cuts.specs.InOrder.{do_stores, AllDone, InOrder}
 

@@ -5,15 +5,9 @@ pub mod FewLaws
 pub mod EightTheorem
 pub mod EightExamples
 pub mod BecomesLaws
-pub mod TestedLaws
-pub mod JournalledLaws
 pub mod CrashTheorem
 pub mod BudgetLaws
-pub mod EventLaws
-pub mod Demand3Theorem
 pub mod InOrder
 pub mod HalvesLaws
-pub mod PlanCallLaws
-pub mod HalvesTheorem
 pub mod OtherLaws
 pub mod SomeTheorem

@@ -11,15 +11,15 @@ use Rattle.model.specs.Steps.{next}
 use Rattle.model.specs.Calls.{Result, done, refused, insert, remove}
 use Rattle.model.specs.Machine.{Call, formatting, inserting, removing, looking, working, squeezing, asking, CallFits, Kind, of_splits, of_squeeze, accepted, settled}
 use Rattle.model.specs.Machine.{run_index, step_index}
-use Rattle.model.specs.MachineLaws.{never}
-use Rattle.model.specs.RunLaws.{refused-no}
+use Rattle.model.proofs.MachineLaws.{never}
+use Rattle.model.proofs.RunLaws.{refused-no}
 use Rattle.model.specs.WellFormed.{WF}
-use Rattle.model.specs.ViewLaws.{Inserting, inserted, insert-view, Removing, removed, remove-view}
-use Rattle.model.specs.FrameLaws.{begin-frame}
-use Rattle.model.specs.InsertLaws.{insert-held}
-use Rattle.model.specs.RemoveLaws.{remove-held}
-use Rattle.model.specs.StepsLeftLaws.{step-steps_left}
-use Rattle.model.specs.SqueezeStepLaws.{squeeze-spare}
+use Rattle.model.proofs.ViewLaws.{Inserting, inserted, insert-view, Removing, removed, remove-view}
+use Rattle.model.proofs.FrameLaws.{begin-frame}
+use Rattle.model.proofs.InsertLaws.{insert-held}
+use Rattle.model.proofs.RemoveLaws.{remove-held}
+use Rattle.model.proofs.StepsLeftLaws.{step-steps_left}
+use Rattle.model.proofs.SqueezeStepLaws.{squeeze-spare}
 use Rattle.cuts.specs.Events.{OneChange}
 
 module _ (x y : Index) (w : WF x) where

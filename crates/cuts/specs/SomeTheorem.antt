@@ -5,17 +5,17 @@ use Rattle.std.proofs.Common.{sym, ap, ◌∙◌, arith}
 use Rattle.model.specs.Index.{Index}
 use Rattle.model.specs.Steps.{next}
 use Rattle.model.specs.Machine.{Call, CallFits, Kind, accepted, step_index}
-use Rattle.model.specs.SimulationLaws.{alike_next}
+use Rattle.model.proofs.SimulationLaws.{alike_next}
 use Rattle.image.specs.Decode.{decode}
 use Rattle.image.specs.SoundStore.{Encodes}
 use Rattle.outcomes.specs.Outcomes.{run_store, step_store}
-use Rattle.outcomes.specs.OutcomeIndexLaws.{encodes-read, step-alike}
-use Rattle.outcomes.specs.OutcomeMachineLaws.{simulates}
+use Rattle.outcomes.proofs.OutcomeIndexLaws.{encodes-read, step-alike}
+use Rattle.outcomes.proofs.OutcomeMachineLaws.{simulates}
 use Rattle.journal.specs.Journal.{Disk}
 use Rattle.journal.specs.Altered.{altered, change_stores}
 use Rattle.journal.specs.Cut.{Becomes}
-use Rattle.journal.specs.AlteredLaws.{altered-none}
-use Rattle.journal.specs.CrashTheorem.{count}
+use Rattle.journal.proofs.AlteredLaws.{altered-none}
+use Rattle.journal.proofs.CrashTheorem.{count}
 use Rattle.cuts.specs.Events.{OneChange}
 use Rattle.cuts.specs.EightTheorem.{change-touches, step-touches-store}
 use Rattle.cuts.specs.BecomesLaws.{becomes-call, becomes-step}

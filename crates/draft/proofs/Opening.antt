@@ -9,7 +9,7 @@ use lib.ListN.{length, get_or}
 use Rattle.lists.specs.Block.{blocks, block}
 use Rattle.store.specs.declared.Change.{Change}
 use Rattle.store.specs.Change.{Fits}
-use Rattle.store.specs.ChangeLaws.{commits-ext}
+use Rattle.store.proofs.ChangeLaws.{commits-ext}
 use Rattle.draft.specs.declared.open.Place.TheVariants.{Absent}
 use Rattle.draft.specs.Draft.{Draft, Listed, Lists}
 use Rattle.draft.specs.DraftLaws.{length-draft, block-image, block-rest}

@@ -13,7 +13,7 @@ use Rattle.lists.specs.BlockLaws.{length-block, length-set_block, block_same, bl
 use Rattle.store.specs.declared.Change.{Change}
 use Rattle.store.specs.Store.{covered}
 use Rattle.store.specs.Change.{Fits}
-use Rattle.store.specs.ChangeLaws.{commits-ext, find-number}
+use Rattle.store.proofs.ChangeLaws.{commits-ext, find-number}
 use Rattle.draft.specs.Draft.{Draft, Listed}
 use Rattle.draft.specs.DraftLaws.{length-draft, block-image, block-rest}
 use Rattle.draft.specs.Trim.{alike, Kept, trimmed, Trimmed}

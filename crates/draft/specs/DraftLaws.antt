@@ -6,7 +6,7 @@ use Rattle.lists.specs.Block.{blocks, block, set_block}
 use Rattle.lists.specs.BlockLaws.{length-set_block, block_same, block-other}
 use Rattle.store.specs.declared.Change.{Change}
 use Rattle.store.specs.Change.{Fits}
-use Rattle.store.specs.ChangeLaws.{length-commits, block-commits, block-commits-rest, commits-ext}
+use Rattle.store.proofs.ChangeLaws.{length-commits, block-commits, block-commits-rest, commits-ext}
 use Rattle.draft.specs.Draft.{Draft, Listed, Lists}
 
 -- different places have different numbers

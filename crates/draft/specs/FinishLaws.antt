@@ -7,10 +7,10 @@ use Rattle.lists.specs.Block.{blocks, block}
 use Rattle.store.specs.declared.Change.{Change}
 use Rattle.store.specs.Store.{covered, sealed, number_at}
 use Rattle.store.specs.Change.{seals}
-use Rattle.store.specs.CheckLaws.{sealed-body}
-use Rattle.store.specs.ChangeLaws.{length-seals, block-seals, commits-ext}
+use Rattle.store.proofs.CheckLaws.{sealed-body}
+use Rattle.store.proofs.ChangeLaws.{length-seals, block-seals, commits-ext}
 use Rattle.store.specs.Finish.{finished_as, finished, resealed, Sealed}
-use Rattle.store.specs.FinishLaws.{bind-run, length-resealed, block-resealed}
+use Rattle.store.proofs.FinishLaws.{bind-run, length-resealed, block-resealed}
 use Rattle.model.specs.Index.{Index}
 use Rattle.image.specs.Layout.{encode_block, sealed_block, encode}
 use Rattle.draft.specs.Draft.{Draft}

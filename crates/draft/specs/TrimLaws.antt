@@ -10,10 +10,10 @@ use Rattle.lists.specs.Block.{blocks, block}
 use Rattle.lists.specs.BlockLaws.{length-block}
 use Rattle.store.specs.declared.Change.{Change}
 use Rattle.store.specs.Store.{covered, sealed, number_at}
-use Rattle.store.specs.CheckLaws.{sealed-cong}
-use Rattle.store.specs.ChangeLaws.{find-number}
+use Rattle.store.proofs.CheckLaws.{sealed-cong}
+use Rattle.store.proofs.ChangeLaws.{find-number}
 use Rattle.store.specs.Finish.{finished, resealed, Sealed}
-use Rattle.store.specs.FinishLaws.{bind-run, length-images, block-images}
+use Rattle.store.proofs.FinishLaws.{bind-run, length-images, block-images}
 use Rattle.draft.specs.Draft.{Listed}
 use Rattle.draft.specs.DraftLaws.{block-rest}
 use Rattle.draft.specs.FinishLaws.{finished-draft}

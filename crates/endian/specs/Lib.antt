@@ -1,2 +1,1 @@
 pub mod Endian
-pub mod EndianLaws

@@ -12,7 +12,7 @@ use Rattle.page.specs.SublistLaws.{each_map, tally-no}
 use Rattle.page.specs.AscendingLaws.{ascending-once}
 use Rattle.model.specs.TallyLaws.{any-more}
 use Rattle.image.specs.Rules.{distinct}
-use Rattle.image.specs.PairRuleLaws.{distinct-once, once-distinct}
+use Rattle.image.proofs.PairRuleLaws.{distinct-once, once-distinct}
 use Rattle.merge.specs.Merge.{joined, Best, Taken}
 use Rattle.merge.specs.MergeLaws.{before-then, joined-each, joined-part, taken-tally, best_none, best-end, best-least}
 use Rattle.entries.specs.Next.{head_is, head_before, NotBefore, Kept}

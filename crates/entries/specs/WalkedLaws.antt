@@ -18,7 +18,7 @@ use Rattle.chain.specs.Walk.{walk, Walked}
 use Rattle.chain.specs.Within.{entries_on, PagesOk, Within}
 use Rattle.chain.specs.WalkLaws.{walk-trail}
 use Rattle.chain.specs.WithinLaws.{walked-within}
-use Rattle.chain.specs.DecodeLaws.{entries-walk}
+use Rattle.chain.proofs.DecodeLaws.{entries-walk}
 use Rattle.merge.specs.Merge.{joined}
 use Rattle.merge.specs.Heads.{page_at}
 use Rattle.merge.specs.WalksLaws.{alone-entries}

@@ -10,7 +10,7 @@ use Rattle.model.specs.Index.{Page, Chain, Index, no_chain, chain, top_bit}
 use Rattle.model.specs.Pages.{bits_of}
 use Rattle.model.specs.WellFormed.{uses, Laid}
 use Rattle.frame.specs.Frame.{block_of_bit, map_block, page_block}
-use Rattle.image.specs.BoundLaws.{max-under}
+use Rattle.image.proofs.BoundLaws.{max-under}
 use Rattle.frame.specs.ImagesLaws.{no_page, bits-at, stands, top_one, page-made, page-block}
 
 -- ---- a bit that stands twice is counted twice

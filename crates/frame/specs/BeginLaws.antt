@@ -24,15 +24,15 @@ use Rattle.model.specs.Index.{Page, Chain, Job, idle, copying, Index, no_chain, 
 use Rattle.model.specs.Pages.{bits_of, is_free}
 use Rattle.model.specs.Steps.{widen}
 use Rattle.model.specs.WellFormed.{uses, Laid}
-use Rattle.model.specs.ViewLaws.{Beginning, same_point, new_point}
-use Rattle.model.specs.LaidLaws.{chain-wider, begin-laid}
-use Rattle.model.specs.MachineLaws.{never}
+use Rattle.model.proofs.ViewLaws.{Beginning, same_point, new_point}
+use Rattle.model.proofs.LaidLaws.{chain-wider, begin-laid}
+use Rattle.model.proofs.MachineLaws.{never}
 use Rattle.image.specs.Layout.{paged, blank, map_front, flags_in, flags_of, LinkedPage, next_of}
 use Rattle.store.specs.Flags.{no_link}
 use Rattle.image.specs.Layout.{linked_of, linked_from, linked_pages, bucket_image, overflow_image, image, encode_block}
 use Rattle.frame.specs.Frame.{Apart, block_of_bit, begin_blocks}
 use Rattle.image.specs.LinkedLaws.{has_bit}
-use Rattle.image.specs.BoundLaws.{max-under}
+use Rattle.image.proofs.BoundLaws.{max-under}
 use Rattle.frame.specs.ImagesLaws.{bits-at}
 use Rattle.frame.specs.ChainLaws.{linked_as, free-alike}
 use Rattle.frame.specs.JobLaws.{flags-else}

@@ -14,12 +14,12 @@ use Rattle.page.specs.Entries.{encode_page}
 use Rattle.model.specs.Index.{Chain, Index, no_chain, chain, top_bit}
 use Rattle.model.specs.Steps.{widen}
 use Rattle.model.specs.WellFormed.{Laid}
-use Rattle.model.specs.ViewLaws.{Beginning, same_point, new_point}
-use Rattle.model.specs.LaidLaws.{chain-wider, begin-laid}
+use Rattle.model.proofs.ViewLaws.{Beginning, same_point, new_point}
+use Rattle.model.proofs.LaidLaws.{chain-wider, begin-laid}
 use Rattle.image.specs.Layout.{paged, flags_of, next_of, bucket_image, encode_block}
 use Rattle.store.specs.Flags.{no_link}
 use Rattle.frame.specs.Frame.{page_block}
-use Rattle.image.specs.BoundLaws.{max-under}
+use Rattle.image.proofs.BoundLaws.{max-under}
 use Rattle.frame.specs.ImagesLaws.{next-first, bucket-image}
 use Rattle.frame.specs.JobLaws.{flags-new, flags-old}
 use Rattle.frame.specs.BeginLaws.{Stays, stays-point, stays-more, next-made}

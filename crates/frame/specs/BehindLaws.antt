@@ -8,7 +8,7 @@ use Rattle.lists.specs.Lists.{any}
 use Rattle.page.specs.declared.Entry.{Entry}
 use Rattle.model.specs.Index.{Page, Chain, Index}
 use Rattle.model.specs.Pages.{has_room, page_room, chain_room}
-use Rattle.model.specs.SqueezeLaws.{Moving, pages, page, behind}
+use Rattle.model.proofs.SqueezeLaws.{Moving, pages, page, behind}
 use Rattle.store.specs.Flags.{no_link}
 use Rattle.frame.specs.Frame.{block_of_bit, blocks_after, chain_blocks, place_block, first_place, room_place, last_place}
 use Rattle.frame.specs.ListsLaws.{place-left}

@@ -13,10 +13,10 @@ use Rattle.model.specs.Pages.{chain_room, add_page, free_bit, Taken, take_from, 
 use Rattle.model.specs.Steps.{Step, next, moves, to_copy, step}
 use Rattle.model.specs.Calls.{Result, done, cut_held, insert, remove}
 use Rattle.model.specs.WellFormed.{Laid, WF}
-use Rattle.model.specs.HeldLaws.{home-range, old-range, new-range}
-use Rattle.model.specs.ViewLaws.{Putting, in_page, in_new, Inserting, insert-view, inserted, Removing, remove-view}
-use Rattle.model.specs.ViewLaws.{removed, Stepping, step-view, began, copied, copied_all, cleared, cleared_all}
-use Rattle.model.specs.MachineLaws.{never}
+use Rattle.model.proofs.HeldLaws.{home-range, old-range, new-range}
+use Rattle.model.proofs.ViewLaws.{Putting, in_page, in_new, Inserting, insert-view, inserted, Removing, remove-view}
+use Rattle.model.proofs.ViewLaws.{removed, Stepping, step-view, began, copied, copied_all, cleared, cleared_all}
+use Rattle.model.proofs.MachineLaws.{never}
 use Rattle.image.specs.Layout.{encode_block}
 use Rattle.frame.specs.Frame.{Apart, map_blocks, pair_blocks, frees_at, put_alters, put_blocks, cut_blocks}
 use Rattle.frame.specs.Frame.{cuts_blocks, remove_alters, remove_blocks, copy_blocks, clear_blocks, step_alters}

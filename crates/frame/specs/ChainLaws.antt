@@ -16,7 +16,7 @@ use Rattle.model.specs.Index.{Page, Chain, Index, no_chain, chain, top_bit, set_
 use Rattle.model.specs.Pages.{bits_of, bits_used, is_free}
 use Rattle.model.specs.WellFormed.{uses, Laid}
 use Rattle.model.specs.StandLaws.{chain-here, chain-there}
-use Rattle.model.specs.LaidLaws.{bits-set}
+use Rattle.model.proofs.LaidLaws.{bits-set}
 use Rattle.image.specs.Layout.{paged, blank, map_front, flags_of, LinkedPage, next_of, linked_of}
 use Rattle.store.specs.Flags.{no_link}
 use Rattle.image.specs.Layout.{linked_from, bucket_image, overflow_image, image, encode_block}

@@ -6,12 +6,12 @@ use Rattle.lists.specs.Lists.{Each}
 use Rattle.lists.specs.Block.{block}
 use Rattle.store.specs.Store.{sealed}
 use Rattle.store.specs.Change.{Fits, commits}
-use Rattle.store.specs.ChangeLaws.{commits-ext}
+use Rattle.store.proofs.ChangeLaws.{commits-ext}
 use Rattle.model.specs.Index.{Index}
 use Rattle.model.specs.WellFormed.{Laid}
 use Rattle.image.specs.Layout.{encode_block, sealed_block, encode}
 use Rattle.frame.specs.Frame.{Apart}
-use Rattle.image.specs.EncodeLaws.{length-encode, block-encode}
+use Rattle.image.proofs.EncodeLaws.{length-encode, block-encode}
 
 -- a number is among those of a list, and has what holds of them, or is none of them
 pub in-or-apart : (Q : ℕ → Type 0) (k : ℕ) (js : List ℕ) → Each Q js → Q k ⊎ Apart k js

@@ -12,7 +12,7 @@ use Rattle.model.specs.Index.{Page, Index, on_pages}
 use Rattle.model.specs.Pages.{thin, in_use}
 use Rattle.model.specs.WellFormed.{MoreOk}
 use Rattle.model.specs.ChainLaws.{cut_more, keep-page, pages-none}
-use Rattle.model.specs.MachineLaws.{never}
+use Rattle.model.proofs.MachineLaws.{never}
 use Rattle.image.specs.Layout.{LinkedPage, next_of, linked_of}
 use Rattle.store.specs.Flags.{no_link}
 use Rattle.frame.specs.Frame.{Apart, block_of_bit, blocks_after, on_page, more_place, frees}

@@ -14,8 +14,8 @@ use Rattle.model.specs.Index.{Page, Chain, Index, chain, entries_at}
 use Rattle.model.specs.Pages.{thin_entries, thin, in_use, without, cut}
 use Rattle.model.specs.WellFormed.{MoreOk, Laid}
 use Rattle.model.specs.ChainLaws.{cut_more, thin-none}
-use Rattle.model.specs.LaidLaws.{cut-laid}
-use Rattle.model.specs.MachineLaws.{never}
+use Rattle.model.proofs.LaidLaws.{cut-laid}
+use Rattle.model.proofs.MachineLaws.{never}
 use Rattle.image.specs.Layout.{encode_block}
 use Rattle.store.specs.Flags.{no_link}
 use Rattle.frame.specs.Frame.{block_of_bit, blocks_after, chain_blocks, page_block, entries_after, page_entries}

@@ -12,8 +12,8 @@ use Rattle.model.specs.Index.{Page, Chain, Index, entries_in, chain, entries_at,
 use Rattle.model.specs.Pages.{without, cut}
 use Rattle.model.specs.WellFormed.{Laid, WF}
 use Rattle.model.specs.StandLaws.{chain-there}
-use Rattle.model.specs.HeldLaws.{old-new, old-range, new-range}
-use Rattle.model.specs.LaidLaws.{cut-laid}
+use Rattle.model.proofs.HeldLaws.{old-new, old-range, new-range}
+use Rattle.model.proofs.LaidLaws.{cut-laid}
 use Rattle.image.specs.Layout.{encode_block}
 use Rattle.store.specs.Flags.{no_link}
 use Rattle.frame.specs.Frame.{Apart, block_of_bit, chain_blocks, more_place, pair_place, frees, frees_at, page_block}

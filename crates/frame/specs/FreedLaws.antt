@@ -22,8 +22,8 @@ use Rattle.model.specs.Index.{Page, Index, on_pages, chain, entries_at, top_bit}
 use Rattle.model.specs.Pages.{thin_entries, thin, in_use, without, cut}
 use Rattle.model.specs.WellFormed.{MoreOk, uses, Laid}
 use Rattle.model.specs.ChainLaws.{cut_more, thin-none, keep-page, pages-none}
-use Rattle.model.specs.LaidLaws.{bits-set, cut-laid}
-use Rattle.model.specs.MachineLaws.{never}
+use Rattle.model.proofs.LaidLaws.{bits-set, cut-laid}
+use Rattle.model.proofs.MachineLaws.{never}
 use Rattle.image.specs.Layout.{paged, blank, map_bit, flags_of, encode_block}
 use Rattle.store.specs.Flags.{no_link}
 use Rattle.frame.specs.Frame.{block_of_bit, blocks_after, chain_blocks, page_block, entries_after, page_entries}

@@ -18,13 +18,13 @@ use Rattle.model.specs.Index.{Page, Chain, Index, chain, top_bit, set_chain}
 use Rattle.model.specs.Pages.{add_page, is_free}
 use Rattle.model.specs.WellFormed.{uses, Laid}
 use Rattle.model.specs.ChainLaws.{bits-page}
-use Rattle.model.specs.LaidLaws.{bits-set}
+use Rattle.model.proofs.LaidLaws.{bits-set}
 use Rattle.image.specs.Layout.{paged, blank, map_front, flags_of, LinkedPage, next_of, linked_of}
 use Rattle.store.specs.Flags.{no_link}
 use Rattle.image.specs.Layout.{linked_from, bucket_image, overflow_image, image, encode_block}
 use Rattle.frame.specs.Frame.{Apart, block_of_bit, blocks_after, chain_blocks, put_alters}
 use Rattle.image.specs.LinkedLaws.{has_bit}
-use Rattle.image.specs.BoundLaws.{max-under}
+use Rattle.image.proofs.BoundLaws.{max-under}
 use Rattle.frame.specs.ChainLaws.{linked_as, frame-chain, free-alike}
 use Rattle.frame.specs.PutLaws.{in-new}
 

@@ -22,8 +22,8 @@ use Rattle.store.specs.Flags.{no_link}
 use Rattle.image.specs.Layout.{next_of, linked_of, linked_from, linked_pages, bucket_image, overflow_image, image}
 use Rattle.image.specs.Layout.{encode_block}
 use Rattle.image.specs.LinkedLaws.{has_bit, tally-linked, linked-uses}
-use Rattle.image.specs.BoundLaws.{max-under}
-use Rattle.image.specs.EncodeLaws.{bit-inside, bucket-inside}
+use Rattle.image.proofs.BoundLaws.{max-under}
+use Rattle.image.proofs.EncodeLaws.{bit-inside, bucket-inside}
 use Rattle.frame.specs.ListsLaws.{get_d_map, find-zero, find-left, find-right, find-hit, find-pass}
 use Rattle.frame.specs.Frame.{block_of_bit, map_block, blocks_after, page_block, page_with, page_image}
 

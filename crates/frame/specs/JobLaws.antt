@@ -11,8 +11,8 @@ use Rattle.address.specs.RoleLaws.{role-is}
 use Rattle.page.specs.Entries.{encode_page}
 use Rattle.model.specs.Index.{Job, idle, copying, clearing, Index, chain, new_bucket, old_bucket, set_job}
 use Rattle.model.specs.WellFormed.{Laid}
-use Rattle.model.specs.HeldLaws.{old-new}
-use Rattle.model.specs.LaidLaws.{job-laid}
+use Rattle.model.proofs.HeldLaws.{old-new}
+use Rattle.model.proofs.LaidLaws.{job-laid}
 use Rattle.image.specs.Layout.{paged, blank, flags_in, flags_of, next_of, bucket_image, image, encode_block}
 use Rattle.frame.specs.Frame.{Apart, page_block, page_with, copied_blocks, cleared_blocks}
 use Rattle.frame.specs.ImagesLaws.{page-image}

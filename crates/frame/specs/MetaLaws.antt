@@ -17,21 +17,21 @@ use Rattle.model.specs.Steps.{next, step}
 use Rattle.model.specs.Calls.{Result, done, insert, remove}
 use Rattle.model.specs.Machine.{inserting, CallFits}
 use Rattle.model.specs.WellFormed.{Laid, WF}
-use Rattle.model.specs.ViewLaws.{Inserting, insert-view, inserted, Removing, remove-view, removed}
+use Rattle.model.proofs.ViewLaws.{Inserting, insert-view, inserted, Removing, remove-view, removed}
 use Rattle.model.specs.TallyLaws.{length-parts}
 use Rattle.model.specs.Book.{puts, takes, noted}
 use Rattle.model.specs.BookLaws.{noted-ascending, has-puts, has-takes}
-use Rattle.model.specs.CountLaws.{held_pairs, held_pairs-ascending, held_pairs-has, count-is}
+use Rattle.model.proofs.CountLaws.{held_pairs, held_pairs-ascending, held_pairs-has, count-is}
 use Rattle.model.specs.ChainLaws.{bits-add}
-use Rattle.model.specs.InsertLaws.{insert-wf, insert-held}
-use Rattle.model.specs.RemoveLaws.{remove-wf, remove-held}
-use Rattle.model.specs.StepLaws.{step-wf, step-held}
-use Rattle.model.specs.FrameLaws.{Framed, job-frame}
-use Rattle.model.specs.MachineLaws.{never}
+use Rattle.model.proofs.InsertLaws.{insert-wf, insert-held}
+use Rattle.model.proofs.RemoveLaws.{remove-wf, remove-held}
+use Rattle.model.proofs.StepLaws.{step-wf, step-held}
+use Rattle.model.proofs.FrameLaws.{Framed, job-frame}
+use Rattle.model.proofs.MachineLaws.{never}
 use Rattle.image.specs.declared.Meta.{Meta}
 use Rattle.image.specs.Layout.{paged, meta_front, padded, meta_of, map_bit, encode_block}
 use Rattle.store.specs.Flags.{no_link}
-use Rattle.image.specs.BoundLaws.{top_small}
+use Rattle.image.proofs.BoundLaws.{top_small}
 use Rattle.image.specs.FreeLaws.{first-zero}
 use Rattle.frame.specs.Frame.{frees_at}
 use Rattle.frame.specs.ImagesLaws.{meta-image}

@@ -18,9 +18,9 @@ use Rattle.model.specs.Index.{Page, Chain, Index, chain, set_chain}
 use Rattle.model.specs.Pages.{has_room, page_room, chain_room, enter_entry, add_more, add_entry, add_page, is_free}
 use Rattle.model.specs.WellFormed.{uses, Laid}
 use Rattle.model.specs.ChainLaws.{bits-page}
-use Rattle.model.specs.LaidLaws.{bits-set}
+use Rattle.model.proofs.LaidLaws.{bits-set}
 use Rattle.model.specs.StandLaws.{chain-here}
-use Rattle.model.specs.MachineLaws.{never}
+use Rattle.model.proofs.MachineLaws.{never}
 use Rattle.image.specs.Layout.{paged, map_bit, flags_of, encode_block}
 use Rattle.store.specs.Flags.{no_link}
 use Rattle.frame.specs.Frame.{block_of_bit, blocks_after, chain_blocks, place_block, page_block, entries_after}

@@ -10,7 +10,7 @@ use Rattle.model.specs.Index.{Page, Chain, Index, on_pages, chain, entries_at}
 use Rattle.model.specs.Pages.{without, cut}
 use Rattle.model.specs.WellFormed.{ChainOk, Laid, WF}
 use Rattle.model.specs.ChainLaws.{cut_more, thin-none, pages-none}
-use Rattle.model.specs.HeldLaws.{is-parts}
+use Rattle.model.proofs.HeldLaws.{is-parts}
 use Rattle.image.specs.Layout.{encode_block}
 use Rattle.lists.specs.TestLaws.{each_left, each_right}
 use Rattle.frame.specs.Frame.{Apart, map_block, page_block, more_place, pair_place, frees_at, map_blocks, pair_blocks}

@@ -18,12 +18,12 @@ use Rattle.model.specs.Steps.{next}
 use Rattle.model.specs.Squeeze.{final, shortened, mover, moved_to, squeeze_in, squeeze_step}
 use Rattle.model.specs.WellFormed.{Laid, WF}
 use Rattle.model.specs.StandLaws.{chain-here, set-again, set_back}
-use Rattle.model.specs.LaidLaws.{cut-laid}
-use Rattle.model.specs.StepsLeftLaws.{stands-once}
-use Rattle.model.specs.FrameLaws.{squeeze-frame}
-use Rattle.model.specs.SqueezeLaws.{pages, page, rest, behind, Moving, mover-is, nowhere, last-thin, without_is}
-use Rattle.model.specs.SqueezeLaws.{squeezed-is}
-use Rattle.model.specs.SqueezeStepLaws.{Squeezing, moved, squeeze-view, mover-range, squeeze-wf, squeeze-count}
+use Rattle.model.proofs.LaidLaws.{cut-laid}
+use Rattle.model.proofs.StepsLeftLaws.{stands-once}
+use Rattle.model.proofs.FrameLaws.{squeeze-frame}
+use Rattle.model.proofs.SqueezeLaws.{pages, page, rest, behind, Moving, mover-is, nowhere, last-thin, without_is}
+use Rattle.model.proofs.SqueezeLaws.{squeezed-is}
+use Rattle.model.proofs.SqueezeStepLaws.{Squeezing, moved, squeeze-view, mover-range, squeeze-wf, squeeze-count}
 use Rattle.image.specs.Layout.{encode_block}
 use Rattle.frame.specs.Frame.{Apart, block_of_bit, map_block, place_block, page_block}
 use Rattle.frame.specs.Frame.{room_place, last_place, early_block, on_page, more_place, pair_place, frees}

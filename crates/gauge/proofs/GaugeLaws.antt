@@ -9,7 +9,7 @@ use Rattle.model.specs.Index.{Index}
 use Rattle.model.specs.Held.{count}
 use Rattle.model.specs.WellFormed.{Laid, WF}
 use Rattle.outcomes.specs.Outcomes.{Tested, passed, failed, tested}
-use Rattle.model.specs.MachineLaws.{never}
+use Rattle.model.proofs.MachineLaws.{never}
 use Rattle.gauge.specs.declared.Gauge.{Gauge}
 use Rattle.gauge.specs.Gauge.{quotient, pages, gauge_of, zero64, zeros, gauge_on, gauge_outcome}
 use Rattle.gauge.specs.PagesLaws.{pages-some, pages-few, count_room}

@@ -14,7 +14,7 @@ use Rattle.model.specs.Index.{Index}
 use Rattle.model.specs.Held.{count}
 use Rattle.model.specs.Calls.{format, standing}
 use Rattle.model.specs.Machine.{Call, formatting, CallFits, plain, stands, accepted}
-use Rattle.model.specs.MachineLaws.{never}
+use Rattle.model.proofs.MachineLaws.{never}
 use Rattle.model.specs.History.{Moment, phase_at, last_of, history, start, Always}
 use Rattle.model.specs.HistoryLaws.{always-map}
 use Rattle.model.specs.Demand.{Holds}
@@ -24,13 +24,13 @@ use Rattle.image.specs.Decode.{decode}
 use Rattle.image.specs.VerdictLaws.{verdict-passes}
 use Rattle.outcomes.specs.Outcomes.{Tested, passed, failed, tested, Changed, format_outcome, standing_on}
 use Rattle.outcomes.specs.Outcomes.{standing_outcome, run_store, on_store}
-use Rattle.outcomes.specs.OutcomeLaws.{passed-sound}
-use Rattle.outcomes.specs.OutcomeIndexLaws.{tested-encode}
-use Rattle.outcomes.specs.OutcomeSoundLaws.{format-done}
-use Rattle.outcomes.specs.Demand3Theorem.{demand3-stores}
+use Rattle.outcomes.proofs.OutcomeLaws.{passed-sound}
+use Rattle.outcomes.proofs.OutcomeIndexLaws.{tested-encode}
+use Rattle.outcomes.proofs.OutcomeSoundLaws.{format-done}
+use Rattle.outcomes.proofs.Demand3Theorem.{demand3-stores}
 use Rattle.journal.specs.Journal.{Disk}
 use Rattle.journal.specs.Cut.{Ready}
-use Rattle.cuts.specs.Demand3Theorem.{Covered}
+use Rattle.cuts.proofs.Demand3Theorem.{Covered}
 use Rattle.gauge.specs.declared.GaugeAnswer.{GaugeAnswer}
 use Rattle.gauge.specs.Gauge.{quotient, pages, gauge_of, zeros, shows, gauge_on, gauge_outcome}
 use Rattle.gauge.proofs.GaugeLaws.{half, half_full, empty-zero}

@@ -12,14 +12,14 @@ use Rattle.model.specs.Index.{Page, Chain, Index, top_bit}
 use Rattle.model.specs.Held.{count}
 use Rattle.model.specs.Pages.{bits_of, bits_used, is_free}
 use Rattle.model.specs.WellFormed.{uses, Laid, WF}
-use Rattle.model.specs.LaidLaws.{top_one}
-use Rattle.model.specs.BoundLaws.{laid-room, bits-le, count-pages}
+use Rattle.model.proofs.LaidLaws.{top_one}
+use Rattle.model.proofs.BoundLaws.{laid-room, bits-le, count-pages}
 use Rattle.image.specs.declared.Meta.{Meta}
 use Rattle.image.specs.Layout.{map_bit}
 use Rattle.image.specs.Decode.{decode}
 use Rattle.image.specs.Rules.{map_at, bit_at, top_at}
-use Rattle.image.specs.BoundLaws.{top_small}
-use Rattle.image.specs.EncodeBitmapLaws.{bit-encode}
+use Rattle.image.proofs.BoundLaws.{top_small}
+use Rattle.image.proofs.EncodeBitmapLaws.{bit-encode}
 use Rattle.shape.specs.SumLaws.{sum, sum-tally, sum-length}
 use Rattle.view.specs.Reads.{Reads}
 use Rattle.view.specs.ReadsLaws.{reads-laid}

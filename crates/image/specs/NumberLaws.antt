@@ -19,9 +19,9 @@ use Rattle.lists.specs.Bytes.{Bytes}
 use Rattle.lists.specs.Block.{blocks, block, set_block}
 use Rattle.lists.specs.BlockLaws.{length-block, length-set_block, block_same, block-other, Bytes-block}
 use Rattle.endian.specs.Endian.{u32_at}
-use Rattle.endian.specs.EndianLaws.{u32_at-lt}
+use Rattle.endian.proofs.EndianLaws.{u32_at-lt}
 use Rattle.store.specs.Store.{check_of, checks, number_at, checked}
-use Rattle.store.specs.CheckLaws.{checks-elsewhere}
+use Rattle.store.proofs.CheckLaws.{checks-elsewhere}
 use Rattle.store.specs.InjectiveLaws.{check_of-number-inj, check_of-place-inj}
 use Rattle.image.specs.Decode.{read_meta, decode}
 use Rattle.image.specs.Rules.{damaged, judge, lowest_damaged, verdict}

@@ -10,7 +10,7 @@ use Rattle.page.specs.Entries.{encode_page, entries_of}
 use Rattle.page.specs.PageLaws.{length-encode_page}
 use Rattle.page.specs.Rule.{page_ok}
 use Rattle.page.specs.Allowed.{Allowed}
-use Rattle.page.specs.RuleLaws.{encode_page-entries_of, page_ok-allowed}
+use Rattle.page.proofs.RuleLaws.{encode_page-entries_of, page_ok-allowed}
 use Rattle.model.specs.WellFormed.{EntryOk, PageOk}
 
 -- ---- entries that a page may have

@@ -12,7 +12,7 @@ use Rattle.lists.specs.BytesLaws.{Bytes-append, part-part, all_zero-replicate, r
 use Rattle.lists.specs.Block.{block}
 use Rattle.lists.specs.BlockLaws.{length-block, Bytes-block}
 use Rattle.endian.specs.Endian.{u16_at}
-use Rattle.endian.specs.EndianLaws.{Agree}
+use Rattle.endian.proofs.EndianLaws.{Agree}
 use Rattle.store.specs.Store.{prev_at, next_at, bucket_at, flags_at, id_at, trailer, covered}
 use Rattle.store.specs.TrailerLaws.{
   length-trailer,
@@ -25,7 +25,7 @@ use Rattle.store.specs.TrailerLaws.{
   id_at-trailer,
   trailer-read,
 }
-use Rattle.store.specs.CheckLaws.{u16_at-covered}
+use Rattle.store.proofs.CheckLaws.{u16_at-covered}
 use Rattle.image.specs.Layout.{paged, blank}
 use Rattle.image.specs.Rules.{unused}
 

@@ -12,9 +12,9 @@ use Rattle.lists.specs.BlockLaws.{length-set_block, block_same, block-other, blo
 use Rattle.endian.specs.Endian.{le16, le32}
 use Rattle.store.specs.Store.{sealed}
 use Rattle.store.specs.Change.{Fits, commits, seals, copies}
-use Rattle.store.specs.ChangeLaws.{block-seals}
+use Rattle.store.proofs.ChangeLaws.{block-seals}
 use Rattle.store.specs.Finish.{finished_as}
-use Rattle.store.specs.CheckLaws.{length-sealed}
+use Rattle.store.proofs.CheckLaws.{length-sealed}
 use Rattle.store.specs.Flags.{no_link}
 use Rattle.model.specs.declared.Order.{Order}
 use Rattle.outcomes.specs.Format.{format_meta, format_block}

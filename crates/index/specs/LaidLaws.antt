@@ -12,11 +12,11 @@ use Rattle.model.specs.Index.{Index}
 use Rattle.model.specs.Steps.{Step}
 use Rattle.model.specs.Machine.{Kind, step_index}
 use Rattle.model.specs.Calls.{Result}
-use Rattle.model.specs.MachineLaws.{never}
+use Rattle.model.proofs.MachineLaws.{never}
 use Rattle.image.specs.Layout.{encode}
 use Rattle.image.specs.Decode.{decode}
 use Rattle.outcomes.specs.Outcomes.{step_on, step_store}
-use Rattle.outcomes.specs.OutcomeLaws.{step-read}
+use Rattle.outcomes.proofs.OutcomeLaws.{step-read}
 use Rattle.journal.specs.Journal.{disk}
 use Rattle.journal.specs.Altered.{stores_to}
 use Rattle.journal.specs.Planned.{plan_to, plan_over}

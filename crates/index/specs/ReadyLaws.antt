@@ -11,7 +11,7 @@ use Rattle.model.specs.Index.{Index}
 use Rattle.model.specs.Steps.{iterate}
 use Rattle.model.specs.Machine.{of_splits}
 use Rattle.model.specs.Calls.{pair_ok, budget_ok, insert, remove}
-use Rattle.model.specs.MachineLaws.{never}
+use Rattle.model.proofs.MachineLaws.{never}
 use Rattle.image.specs.Decode.{decode}
 use Rattle.image.specs.Rules.{length_ok}
 use Rattle.outcomes.specs.Outcomes.{Tested, passed, failed, tested}

@@ -7,7 +7,7 @@ use Rattle.lists.specs.Block.{block}
 use Rattle.store.specs.declared.Change.{Change}
 use Rattle.store.specs.Change.{Fits}
 use Rattle.store.specs.Finish.{finished}
-use Rattle.store.specs.FinishLaws.{finished-none}
+use Rattle.store.proofs.FinishLaws.{finished-none}
 use Rattle.model.specs.declared.Answer.{Answer}
 use Rattle.model.specs.declared.Stop.{Stop}
 use Rattle.model.specs.declared.WorkAnswer.{WorkAnswer}
@@ -16,19 +16,19 @@ use Rattle.model.specs.Steps.{Step, next, stopped, Worked, step, iterate}
 use Rattle.model.specs.Machine.{Kind, step_index}
 use Rattle.model.specs.Calls.{Result}
 use Rattle.model.specs.WellFormed.{WF}
-use Rattle.model.specs.BoundLaws.{laid-size}
-use Rattle.model.specs.StepLaws.{step-wf}
-use Rattle.model.specs.KindLaws.{kind-wf}
-use Rattle.model.specs.MachineLaws.{never}
+use Rattle.model.proofs.BoundLaws.{laid-size}
+use Rattle.model.proofs.StepLaws.{step-wf}
+use Rattle.model.proofs.KindLaws.{kind-wf}
+use Rattle.model.proofs.MachineLaws.{never}
 use Rattle.image.specs.Layout.{encode}
 use Rattle.image.specs.Decode.{decode}
-use Rattle.image.specs.EncodeDecodeLaws.{decode-encode}
+use Rattle.image.proofs.EncodeDecodeLaws.{decode-encode}
 use Rattle.outcomes.specs.Outcomes.{changed, step_on}
-use Rattle.outcomes.specs.OutcomeLaws.{step-read}
+use Rattle.outcomes.proofs.OutcomeLaws.{step-read}
 use Rattle.plan.specs.declared.Advance.{Advance}
 use Rattle.journal.specs.Journal.{Disk, disk}
 use Rattle.journal.specs.Altered.{written}
-use Rattle.journal.specs.CrashTheorem.{idle}
+use Rattle.journal.proofs.CrashTheorem.{idle}
 use Rattle.cuts.specs.Journalled.{journalled, step_to, step_journalled, worked_by}
 use Rattle.plan.specs.Plan.{Plans, Settles, accepted, declined, Advances, advanced, halted}
 use Rattle.plan.specs.PlanLaws.{fits-none}

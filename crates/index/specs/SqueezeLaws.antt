@@ -12,12 +12,12 @@ use Rattle.model.specs.declared.WorkAnswer.{WorkAnswer}
 use Rattle.model.specs.Index.{Index}
 use Rattle.model.specs.Steps.{Step, iterate}
 use Rattle.model.specs.Squeeze.{squeeze_step, is_busy, bucket_in, bucket_test}
-use Rattle.model.specs.SqueezeStepLaws.{squeeze-wf}
+use Rattle.model.proofs.SqueezeStepLaws.{squeeze-wf}
 use Rattle.model.specs.Machine.{of_squeeze}
 use Rattle.model.specs.Calls.{budget_ok}
-use Rattle.model.specs.MachineLaws.{never}
+use Rattle.model.proofs.MachineLaws.{never}
 use Rattle.image.specs.Decode.{decode}
-use Rattle.image.specs.EncodeDecodeLaws.{decode-encode}
+use Rattle.image.proofs.EncodeDecodeLaws.{decode-encode}
 use Rattle.outcomes.specs.Outcomes.{Tested, passed, failed, unless_refused, bucket_tested}
 use Rattle.journal.specs.Journal.{Disk}
 use Rattle.cuts.specs.Journalled.{tested_with, step_journalled, worked_by, work_on, squeeze_journalled}

@@ -8,14 +8,14 @@ use Rattle.model.specs.declared.Refusal.{Refusal}
 use Rattle.page.specs.declared.Pair.{Pair}
 use Rattle.model.specs.Calls.{pair_ok}
 use Rattle.address.specs.Limits.{max_blocks}
-use Rattle.model.specs.MachineLaws.{never}
+use Rattle.model.proofs.MachineLaws.{never}
 use Rattle.image.specs.declared.Meta.{Meta}
 use Rattle.image.specs.declared.Verdict.{Verdict}
 use Rattle.image.specs.Decode.{meta_at, decode}
 use Rattle.image.specs.Rules.{Judged, damaged, not_index, sound, verdict}
-use Rattle.image.specs.BridgeTheorem.{sound-is-encoding}
+use Rattle.image.proofs.BridgeTheorem.{sound-is-encoding}
 use Rattle.outcomes.specs.Outcomes.{Tested, passed, failed, judged, tested_in, tested, verdict_of, verify_outcome}
-use Rattle.outcomes.specs.OutcomeLaws.{passed-numbers}
+use Rattle.outcomes.proofs.OutcomeLaws.{passed-numbers}
 use Rattle.image.specs.Rules.{length_ok}
 use Rattle.chain.specs.WalkLaws.{length_ok-sized}
 use Rattle.view.specs.Reads.{Reads}

@@ -10,16 +10,16 @@ use Rattle.store.specs.declared.Change.{Change}
 use Rattle.store.specs.Store.{number_at}
 use Rattle.store.specs.Change.{commits, seals}
 use Rattle.store.specs.Finish.{finished_as, finished}
-use Rattle.store.specs.ChangeLaws.{length-seals, length-commits}
-use Rattle.store.specs.FinishLaws.{finished-none}
+use Rattle.store.proofs.ChangeLaws.{length-seals, length-commits}
+use Rattle.store.proofs.FinishLaws.{finished-none}
 use Rattle.journal.specs.Journal.{Disk, disk, BlockStore, head, ending, wiped, run}
 use Rattle.journal.specs.Altered.{altered, stores_to, written}
 use Rattle.journal.specs.Planned.{plan_in, plan_to, plan_over, plan_count, plan_name, plan_stores}
-use Rattle.journal.specs.AlteredLaws.{altered-below, altered-same, stores_to-none, length-stores_to}
-use Rattle.journal.specs.LinkLaws.{altered-planned, plan_to-planned}
-use Rattle.journal.specs.PlannedLaws.{length-plan_to, count-plan_over, name-plan_over, plan_stores-to}
-use Rattle.journal.specs.WrittenLaws.{written-makes}
-use Rattle.journal.specs.CrashTheorem.{idle}
+use Rattle.journal.proofs.AlteredLaws.{altered-below, altered-same, stores_to-none, length-stores_to}
+use Rattle.journal.proofs.LinkLaws.{altered-planned, plan_to-planned}
+use Rattle.journal.proofs.PlannedLaws.{length-plan_to, count-plan_over, name-plan_over, plan_stores-to}
+use Rattle.journal.proofs.WrittenLaws.{written-makes}
+use Rattle.journal.proofs.CrashTheorem.{idle}
 use Rattle.view.specs.ReadsLaws.{reads-laid, reads_sized, reads-size}
 use Rattle.index.specs.Sound.{Sound}
 use Rattle.index.specs.Written.{Alters}

@@ -12,12 +12,12 @@ use Rattle.lists.specs.ListsLaws.{eqb_yes, eqb_no}
 use Rattle.model.specs.Index.{Index, top_bit}
 use Rattle.model.specs.Pages.{free_bit, first_free, is_free}
 use Rattle.model.specs.WellFormed.{Laid}
-use Rattle.model.specs.LaidLaws.{free-bit}
+use Rattle.model.proofs.LaidLaws.{free-bit}
 use Rattle.image.specs.Layout.{map_front, map_bit}
 use Rattle.image.specs.Decode.{bit_of}
 use Rattle.image.specs.BitmapLaws.{bit_of-map_front}
-use Rattle.image.specs.BoundLaws.{top_small}
-use Rattle.image.specs.EncodeLaws.{map_bit-lt}
+use Rattle.image.proofs.BoundLaws.{top_small}
+use Rattle.image.proofs.EncodeLaws.{map_bit-lt}
 use Rattle.image.specs.FreeLaws.{first-zero}
 use Rattle.frame.specs.ChainLaws.{Free, free-yes}
 use Rattle.chain.specs.declared.Free as chain

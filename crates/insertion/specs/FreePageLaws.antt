@@ -16,8 +16,8 @@ use Rattle.image.specs.Layout.{meta_front, map_front, map_bit, encode_block}
 use Rattle.store.specs.Flags.{no_link}
 use Rattle.image.specs.Decode.{decode}
 use Rattle.image.specs.BitmapLaws.{length-map_front}
-use Rattle.image.specs.BoundLaws.{top_small}
-use Rattle.image.specs.EncodeLaws.{map_bit-lt, bit-inside}
+use Rattle.image.proofs.BoundLaws.{top_small}
+use Rattle.image.proofs.EncodeLaws.{map_bit-lt, bit-inside}
 use Rattle.frame.specs.Frame.{block_of_bit, map_block, page_block, last_place}
 use Rattle.frame.specs.ApartLaws.{page-unused, page-map}
 use Rattle.frame.specs.ChainLaws.{Free}

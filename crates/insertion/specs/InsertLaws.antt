@@ -6,7 +6,7 @@ use Rattle.std.proofs.Math.Option.{Option, some}
 use Rattle.lists.specs.Lists.{any}
 use Rattle.lists.specs.ListsLaws.{zero-any}
 use Rattle.address.specs.Address.{bucket_of}
-use Rattle.address.specs.BucketLaws.{bucket-le}
+use Rattle.address.proofs.BucketLaws.{bucket-le}
 use Rattle.page.specs.declared.Pair.{Pair}
 use Rattle.page.specs.Pair.{is}
 use Rattle.store.specs.declared.Change.{Change}
@@ -18,12 +18,12 @@ use Rattle.model.specs.Held.{held, count}
 use Rattle.model.specs.Calls.{pair_ok, Result, done, refused, or_no_room, insert_in, insert}
 use Rattle.model.specs.Machine.{inserting, CallFits}
 use Rattle.model.specs.WellFormed.{unmoved_at, moved_at, WF}
-use Rattle.model.specs.BoundLaws.{count-le}
+use Rattle.model.proofs.BoundLaws.{count-le}
 use Rattle.model.specs.PlacedLaws.{held-zero}
 use Rattle.model.specs.HeldIn.{held_in}
-use Rattle.model.specs.HeldLaws.{is-parts, held-no}
-use Rattle.model.specs.InsertLaws.{insert-wf}
-use Rattle.model.specs.ViewLaws.{unmoved_entry}
+use Rattle.model.proofs.HeldLaws.{is-parts, held-no}
+use Rattle.model.proofs.InsertLaws.{insert-wf}
+use Rattle.model.proofs.ViewLaws.{unmoved_entry}
 use Rattle.image.specs.declared.Meta.{Meta}
 use Rattle.image.specs.Decode.{decode}
 use Rattle.frame.specs.MetaLaws.{insert-count}

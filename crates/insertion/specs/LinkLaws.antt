@@ -24,7 +24,7 @@ use Rattle.store.specs.Flags.{no_link}
 use Rattle.image.specs.Decode.{decode}
 use Rattle.image.specs.PageOkLaws.{length-page_front}
 use Rattle.frame.specs.Frame.{block_of_bit, chain_blocks, page_block, page_entries, page_with, last_place}
-use Rattle.image.specs.BoundLaws.{max-under}
+use Rattle.image.proofs.BoundLaws.{max-under}
 use Rattle.frame.specs.ApartLaws.{page-meta}
 use Rattle.frame.specs.ImagesLaws.{page-made, page-block}
 use Rattle.frame.specs.PagesLaws.{last-image, new-image}

@@ -10,13 +10,13 @@ use Rattle.store.specs.declared.Change.{Change}
 use Rattle.store.specs.Store.{covered}
 use Rattle.model.specs.Index.{Index}
 use Rattle.model.specs.WellFormed.{Laid}
-use Rattle.model.specs.FrameLaws.{SameStore}
-use Rattle.model.specs.BoundLaws.{laid-size}
+use Rattle.model.proofs.FrameLaws.{SameStore}
+use Rattle.model.proofs.BoundLaws.{laid-size}
 use Rattle.image.specs.declared.Meta.{Meta}
 use Rattle.image.specs.Layout.{paged, meta_front, meta_of, encode_block}
 use Rattle.store.specs.Flags.{no_link}
 use Rattle.image.specs.Decode.{decode}
-use Rattle.image.specs.BoundLaws.{length-meta}
+use Rattle.image.proofs.BoundLaws.{length-meta}
 use Rattle.frame.specs.Frame.{Apart}
 use Rattle.frame.specs.ImagesLaws.{meta-image}
 use Rattle.view.specs.Reads.{Reads}

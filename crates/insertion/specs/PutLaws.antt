@@ -15,7 +15,7 @@ use Rattle.page.specs.Places.{place_of, insert_at}
 use Rattle.page.specs.Gap.{Room}
 use Rattle.page.specs.Rule.{page_ok}
 use Rattle.page.specs.Allowed.{Sorted}
-use Rattle.page.specs.RuleLaws.{page_ok-sorted}
+use Rattle.page.proofs.RuleLaws.{page_ok-sorted}
 use Rattle.page.specs.PlaceLaws.{place-le, enter-insert_at}
 use Rattle.page.specs.SlotLaws.{length-insert_at}
 use Rattle.page.specs.SublistLaws.{all-each, each-get_or}

@@ -6,7 +6,7 @@ use Rattle.line.specs.declared.Command.{Command}
 use Rattle.line.specs.Words.{comma}
 use Rattle.line.specs.Command.{read_line}
 use Rattle.text.specs.Text.{refused_text}
-use Rattle.line.specs.CommaLaws.{comma-unreadable}
+use Rattle.line.proofs.CommaLaws.{comma-unreadable}
 use Rattle.interpreter.specs.Script.{run_command}
 
 pub comma-refused : (l : List ℕ) → comma l ≡ true → (number : ℕ) (store : List ℕ)

@@ -6,7 +6,7 @@ use Rattle.lists.specs.Block.{blocks}
 use Rattle.line.specs.declared.Command.{Command}
 use Rattle.line.specs.Words.{span}
 use Rattle.line.specs.Command.{max_line, read_line}
-use Rattle.line.specs.FitsLaws.{CommandFits, line-fits}
+use Rattle.line.proofs.FitsLaws.{CommandFits, line-fits}
 use Rattle.text.specs.Text.{line_output}
 use Rattle.interpreter.specs.declared.ScriptState.{ScriptState}
 use Rattle.interpreter.specs.declared.Gathered.{Gathered}

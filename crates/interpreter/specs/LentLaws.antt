@@ -15,7 +15,7 @@ use Rattle.journal.specs.Cut.{Ready}
 use Rattle.journal.specs.HeadLaws.{length-wiped}
 use Rattle.cuts.specs.Journalled.{Journalled, WorkJournalled, insert_journalled, remove_journalled, work_journalled}
 use Rattle.cuts.specs.Journalled.{run_disk}
-use Rattle.cuts.specs.JournalledLaws.{Same, journalled-bytes}
+use Rattle.cuts.proofs.JournalledLaws.{Same, journalled-bytes}
 
 plain-eq : {a b : Answer} → plain a ≡ plain b → a ≡ b
 plain-eq e = cc

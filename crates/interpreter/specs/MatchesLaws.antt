@@ -16,9 +16,9 @@ use Rattle.model.specs.Index.{entries_at, new_bucket, old_bucket}
 use Rattle.model.specs.Held.{sources_in, sources, matches}
 use Rattle.model.specs.WellFormed.{MoreOk, ChainOk, Laid}
 use Rattle.model.specs.SortedLaws.{length-sorted}
-use Rattle.model.specs.BoundLaws.{laid-room, bits-le}
-use Rattle.image.specs.BoundLaws.{one-part, two-parts}
-use Rattle.model.specs.MachineLaws.{never}
+use Rattle.model.proofs.BoundLaws.{laid-room, bits-le}
+use Rattle.image.proofs.BoundLaws.{one-part, two-parts}
+use Rattle.model.proofs.MachineLaws.{never}
 use Rattle.interpreter.specs.Script.{script_blocks}
 
 -- ---- entries of one chain and of two

@@ -15,13 +15,13 @@ use Rattle.model.specs.Index.{Index}
 use Rattle.model.specs.Held.{matches}
 use Rattle.model.specs.Calls.{Result, done, refused, size_ok, order_of, format_ok, overwrites, format, format_in, listed}
 use Rattle.model.specs.Calls.{lookup}
-use Rattle.model.specs.FormatLaws.{fill-ok}
-use Rattle.model.specs.MachineLaws.{never}
+use Rattle.model.proofs.FormatLaws.{fill-ok}
+use Rattle.model.proofs.MachineLaws.{never}
 use Rattle.image.specs.Rules.{length_ok}
 use Rattle.outcomes.specs.Outcomes.{Tested, passed, failed, tested, store_in_use, in_use_outcome, Changed, refusing}
 use Rattle.outcomes.specs.Outcomes.{changed, format_replacing, format_outcome, lookup_on, lookup_outcome}
-use Rattle.outcomes.specs.OutcomeSoundLaws.{legal-is}
-use Rattle.outcomes.specs.InUseLaws.{format-in_use, format-accepted, in-use-is}
+use Rattle.outcomes.proofs.OutcomeSoundLaws.{legal-is}
+use Rattle.outcomes.proofs.InUseLaws.{format-in_use, format-accepted, in-use-is}
 use Rattle.interpreter.specs.Script.{Turn, format_turn, format_line}
 use Rattle.interpreter.specs.Feed.{store_bytes, over}
 use Rattle.interpreter.specs.Script.{script_blocks}

@@ -5,15 +5,15 @@ use Rattle.std.proofs.lemmas.List.{length-replicate}
 use Rattle.lists.specs.Lists.{Each}
 use Rattle.lists.specs.Block.{blocks}
 use Rattle.line.specs.Command.{read_line}
-use Rattle.line.specs.FitsLaws.{line-fits}
+use Rattle.line.proofs.FitsLaws.{line-fits}
 use Rattle.model.specs.declared.Refusal.{Refusal}
 use Rattle.model.specs.declared.LookupAnswer.{LookupAnswer}
 use Rattle.model.specs.Held.{matches}
 use Rattle.model.specs.Calls.{Looked, listed, lookup}
-use Rattle.model.specs.MachineLaws.{never}
+use Rattle.model.proofs.MachineLaws.{never}
 use Rattle.outcomes.specs.Outcomes.{tested, lookup_outcome}
 use Rattle.image.specs.Rules.{length_ok}
-use Rattle.outcomes.specs.OutcomeIndexLaws.{lookup-encode}
+use Rattle.outcomes.proofs.OutcomeIndexLaws.{lookup-encode}
 use Rattle.interpreter.specs.Script.{lent, run_command, lines}
 use Rattle.interpreter.specs.Stores.{ScriptStore, empty, bytes, stands_at, NotShort}
 use Rattle.interpreter.specs.StoresLaws.{store-after}

@@ -4,26 +4,26 @@ use Rattle.std.proofs.Common.{sym, ap, ◌∙◌, subst, arith, leb-true}
 use Rattle.std.proofs.lemmas.List.{length-replicate}
 use Rattle.lists.specs.Block.{blocks}
 use Rattle.line.specs.declared.Command.{Command}
-use Rattle.line.specs.FitsLaws.{CommandFits}
+use Rattle.line.proofs.FitsLaws.{CommandFits}
 use Rattle.model.specs.declared.Order.{Order}
 use Rattle.model.specs.Index.{Job, idle, copying, clearing, Index}
 use Rattle.model.specs.Steps.{next, step}
 use Rattle.model.specs.Calls.{size_ok, order_of, format_ok, overwrites, format, format_in}
 use Rattle.model.specs.Machine.{Call, formatting, inserting, removing, working, CallFits, Kind, of_splits, of_squeeze}
 use Rattle.model.specs.Machine.{Ran, run_index, step_index}
-use Rattle.model.specs.FormatLaws.{format-wf}
-use Rattle.model.specs.FrameLaws.{SameJob, insert-frame, remove-frame, begin-frame, job-frame, squeeze-frame}
-use Rattle.model.specs.InsertLaws.{insert-wf}
-use Rattle.model.specs.RemoveLaws.{remove-wf}
-use Rattle.model.specs.KindLaws.{kind-wf, kind-store}
-use Rattle.model.specs.RunLaws.{run-keeps}
-use Rattle.model.specs.MachineLaws.{never}
-use Rattle.image.specs.BridgeTheorem.{encoding-is-sound}
+use Rattle.model.proofs.FormatLaws.{format-wf}
+use Rattle.model.proofs.FrameLaws.{SameJob, insert-frame, remove-frame, begin-frame, job-frame, squeeze-frame}
+use Rattle.model.proofs.InsertLaws.{insert-wf}
+use Rattle.model.proofs.RemoveLaws.{remove-wf}
+use Rattle.model.proofs.KindLaws.{kind-wf, kind-store}
+use Rattle.model.proofs.RunLaws.{run-keeps}
+use Rattle.model.proofs.MachineLaws.{never}
+use Rattle.image.proofs.BridgeTheorem.{encoding-is-sound}
 use Rattle.outcomes.specs.Outcomes.{tested, store_in_use, changed, format_replacing, insert_outcome, remove_outcome}
 use Rattle.image.specs.Rules.{length_ok}
 use Rattle.outcomes.specs.Outcomes.{work_outcome, run_store}
-use Rattle.outcomes.specs.OutcomeIndexLaws.{run-encode}
-use Rattle.outcomes.specs.OutcomeSoundLaws.{legal-size}
+use Rattle.outcomes.proofs.OutcomeIndexLaws.{run-encode}
+use Rattle.outcomes.proofs.OutcomeSoundLaws.{legal-size}
 use Rattle.interpreter.specs.Script.{script_blocks, format_turn, format_line, run_command}
 use Rattle.interpreter.specs.Stores.{Made, ScriptStore, empty, bytes}
 

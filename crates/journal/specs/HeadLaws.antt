@@ -9,9 +9,9 @@ use Rattle.std.proofs.Math.ListN.{length, get_or, length-append, length-replicat
 use Rattle.std.proofs.Math.Seq.{length-take-le, get_or-take}
 use Rattle.lists.specs.Lists.{bind}
 use Rattle.endian.specs.Endian.{le32, u32_at}
-use Rattle.endian.specs.EndianLaws.{length-le32, u32_at-front, u32_at-shift, u32_at-take, u32_at-le32}
+use Rattle.endian.proofs.EndianLaws.{length-le32, u32_at-front, u32_at-shift, u32_at-take, u32_at-le32}
 use Rattle.store.specs.Store.{covered, sealed}
-use Rattle.store.specs.CheckLaws.{length-sealed, covered-sealed}
+use Rattle.store.proofs.CheckLaws.{length-sealed, covered-sealed}
 use Rattle.journal.specs.Journal.{head_bytes, head, ending, wiped, head_of, number_in, count_in, name_in}
 
 -- numbers written one after the other

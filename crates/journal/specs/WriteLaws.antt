@@ -12,10 +12,10 @@ use Rattle.std.proofs.Math.Seq.{sets-eq, drop_at, drop-append-add, length-take-l
 use Rattle.lists.specs.Lists.{bind}
 use Rattle.lists.specs.ListsLaws.{bind-append}
 use Rattle.endian.specs.Endian.{le32}
-use Rattle.endian.specs.EndianLaws.{length-le32}
+use Rattle.endian.proofs.EndianLaws.{length-le32}
 use Rattle.crc32c.specs.Crc.{crc_of}
 use Rattle.store.specs.Store.{covered, check_of, sealed}
-use Rattle.store.specs.CheckLaws.{sealed-body, sets-check}
+use Rattle.store.proofs.CheckLaws.{sealed-body, sets-check}
 use Rattle.journal.specs.Journal.{head_bytes, wiped}
 
 -- a wiped head: zeros, and their check, computed

@@ -2,6 +2,4 @@ pub mod Words
 pub mod WordsLaws
 pub mod Command
 pub mod CommandLaws
-pub mod CommaLaws
-pub mod FitsLaws
 pub mod Examples

@@ -11,7 +11,7 @@ use Rattle.page.specs.SublistLaws.{sublist-drop}
 use Rattle.page.specs.Allowed.{Allowed}
 use Rattle.page.specs.AllowedLaws.{allowed-sublist}
 use Rattle.page.specs.Entries.{entry_at}
-use Rattle.page.specs.RuleLaws.{number-le}
+use Rattle.page.proofs.RuleLaws.{number-le}
 use Rattle.merge.specs.Tree.{max_pages, ahead, Above, Settled, Won, Second}
 use Rattle.merge.specs.ReplayLaws.{won-upto, won-first, settled-moved}
 use Rattle.merge.specs.SecondLaws.{next-kept, kept-won}

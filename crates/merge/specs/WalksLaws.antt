@@ -10,7 +10,7 @@ use Rattle.page.specs.declared.Entry.{Entry}
 use Rattle.page.specs.PairLaws.{before-hash}
 use Rattle.page.specs.Places.{place_of}
 use Rattle.page.specs.Allowed.{Sorted, Allowed}
-use Rattle.page.specs.RuleLaws.{page_ok-allowed}
+use Rattle.page.proofs.RuleLaws.{page_ok-allowed}
 use Rattle.chain.specs.Within.{entries_on, PagesOk, Within}
 use Rattle.chain.specs.WithinLaws.{block_inside, block-sorted, block-fine, walk_turn, walk-done}
 use Rattle.merge.specs.Tree.{max_pages}

@@ -8,10 +8,10 @@ use lib.Seq.{sets, sets-eq}
 use Rattle.lists.specs.Lists.{bind}
 use Rattle.lists.specs.BytesLaws.{sets-append}
 use Rattle.endian.specs.Endian.{le16, le32}
-use Rattle.endian.specs.EndianLaws.{le32-split}
+use Rattle.endian.proofs.EndianLaws.{le32-split}
 use Rattle.image.specs.declared.Meta.{Meta}
 use Rattle.image.specs.Layout.{meta_front}
-use Rattle.image.specs.MetaLaws.{length-meta_front}
+use Rattle.image.proofs.MetaLaws.{length-meta_front}
 
 le32-half : (v : ℕ) → v < 2 ^ 16 → le32 v ≡ le16 v ++ le16 0
 le32-half v h =

@@ -11,7 +11,7 @@ use lib.ListN.{length, get_or}
 use Rattle.lists.specs.Lists.{b2n}
 use Rattle.lists.specs.Bytes.{Bytes}
 use Rattle.endian.specs.Endian.{u16_at}
-use Rattle.endian.specs.EndianLaws.{u16_at-lt}
+use Rattle.endian.proofs.EndianLaws.{u16_at-lt}
 use Rattle.page.specs.declared.Pair.{Pair}
 use Rattle.page.specs.declared.Entry.{Entry}
 use Rattle.page.specs.Pair.{before}
@@ -22,8 +22,8 @@ use Rattle.page.specs.EntriesLaws.{length-entries_of, get_or-entries_of}
 use Rattle.page.specs.PairLaws.{Order, less, equal, more, order, before-hash}
 use Rattle.page.specs.PlaceLaws.{place-le, place-above, place-below}
 use Rattle.page.specs.SublistLaws.{each-get_or}
-use Rattle.page.specs.RunLaws.{lowest, run_start-place, run_end, before-place}
-use Rattle.page.specs.RunPartLaws.{get_or-run_entries}
+use Rattle.page.proofs.RunLaws.{lowest, run_start-place, run_end, before-place}
+use Rattle.page.proofs.RunPartLaws.{get_or-run_entries}
 use Rattle.page.specs.Rule.{order_ok}
 use Rattle.page.specs.Allowed.{Sorted, OneCode}
 

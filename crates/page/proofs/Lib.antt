@@ -1,2 +1,5 @@
 pub mod Bisect
 pub mod Turns
+pub mod RuleLaws
+pub mod RunPartLaws
+pub mod RunLaws

@@ -5,7 +5,7 @@ use Prim.Native.Nat.{ℕ, zero, suc, ◌+◌, ◌-◌, ◌*◌, ◌<◌}
 use Rattle.lists.specs.Lists.{Each}
 use Rattle.lists.specs.Bytes.{Bytes}
 use Rattle.endian.specs.Endian.{u16_at}
-use Rattle.endian.specs.EndianLaws.{u16_at-lt, u32_at-lt}
+use Rattle.endian.proofs.EndianLaws.{u16_at-lt, u32_at-lt}
 use Rattle.page.specs.declared.Entry.{Entry}
 use Rattle.page.specs.Pair.{PairFits}
 use Rattle.page.specs.Entries.{read_entry, entry_at, entries_from, entries_of}

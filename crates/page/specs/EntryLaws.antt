@@ -9,8 +9,8 @@ use Rattle.std.proofs.lemmas.List.Edits.{sets}
 use Rattle.lists.specs.Bytes.{Bytes, part}
 use Rattle.lists.specs.BytesLaws.{sets-append}
 use Rattle.endian.specs.Endian.{le16, le32, u16_at, u32_at}
-use Rattle.endian.specs.EndianLaws.{u16_at-le16, u32_at-le32, u16_at-shift, u32_at-shift, le16-read, le32-read}
-use Rattle.endian.specs.EndianLaws.{u16_at-take, u32_at-take, u16_at-drop, u32_at-drop}
+use Rattle.endian.proofs.EndianLaws.{u16_at-le16, u32_at-le32, u16_at-shift, u32_at-shift, le16-read, le32-read}
+use Rattle.endian.proofs.EndianLaws.{u16_at-take, u32_at-take, u16_at-drop, u32_at-drop}
 use Rattle.page.specs.declared.Entry.{Entry}
 use Rattle.page.specs.Pair.{PairFits}
 use Rattle.page.specs.Entries.{entry_flags, encode_entry, read_entry}

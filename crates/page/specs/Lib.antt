@@ -11,13 +11,10 @@ pub mod EntriesLaws
 pub mod PageLaws
 pub mod SlotLaws
 pub mod PlaceLaws
-pub mod RunLaws
 pub mod Gap
 pub mod GapLaws
 pub mod EditLaws
 pub mod Rule
 pub mod Allowed
-pub mod RuleLaws
-pub mod RunPartLaws
 pub mod RunExamples
 pub mod AllowedLaws

@@ -8,7 +8,7 @@ use Rattle.lists.specs.Lists.{bind, Each}
 use Rattle.lists.specs.Bytes.{Bytes}
 use Rattle.lists.specs.BytesLaws.{Bytes-append, Bytes-replicate}
 use Rattle.endian.specs.Endian.{le16, le32, u16_at}
-use Rattle.endian.specs.EndianLaws.{length-le16, u16_at-shift, Bytes-le16, Bytes-le32}
+use Rattle.endian.proofs.EndianLaws.{length-le16, u16_at-shift, Bytes-le16, Bytes-le32}
 use Rattle.page.specs.declared.Entry.{Entry}
 use Rattle.page.specs.Pair.{PairFits}
 use Rattle.page.specs.Entries.{entry_flags, encode_entry, encode_page, read_entry, entry_at, entries_from, entries_of}

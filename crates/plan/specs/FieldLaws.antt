@@ -9,11 +9,11 @@ use Rattle.address.specs.Address.{point, bit_block, made}
 use Rattle.address.specs.AgreeLaws.{bit-same, made-same}
 use Rattle.model.specs.Index.{Index, top_bit}
 use Rattle.model.specs.Pages.{first_free}
-use Rattle.model.specs.BoundLaws.{laid-point}
+use Rattle.model.proofs.BoundLaws.{laid-point}
 use Rattle.image.specs.declared.Meta.{Meta}
 use Rattle.image.specs.Layout.{padded, meta_of}
 use Rattle.image.specs.Decode.{decode}
-use Rattle.image.specs.EncodeLaws.{bit-inside}
+use Rattle.image.proofs.EncodeLaws.{bit-inside}
 use Rattle.frame.specs.Frame.{block_of_bit}
 use Rattle.view.specs.Reads.{Reads}
 use Rattle.view.specs.ReadsLaws.{reads-laid, reads-meta}

@@ -10,13 +10,13 @@ use Rattle.store.specs.Store.{covered, number_at}
 use Rattle.store.specs.Change.{Fits}
 use Rattle.model.specs.Index.{Index}
 use Rattle.model.specs.WellFormed.{Laid}
-use Rattle.model.specs.FrameLaws.{SameStore}
+use Rattle.model.proofs.FrameLaws.{SameStore}
 use Rattle.image.specs.declared.Meta.{Meta}
 use Rattle.image.specs.Layout.{encode_block, encode}
 use Rattle.image.specs.Decode.{decode}
 use Rattle.frame.specs.Frame.{Apart}
 use Rattle.frame.specs.CommitLaws.{in-or-apart}
-use Rattle.image.specs.EncodeLaws.{covered-encode}
+use Rattle.image.proofs.EncodeLaws.{covered-encode}
 use Rattle.image.specs.NumberLaws.{number-decode}
 use Rattle.view.specs.Reads.{Reads}
 use Rattle.view.specs.ReadsLaws.{reads-size, reads_sized}

@@ -9,7 +9,7 @@ use Rattle.address.specs.Address.{last_split}
 use Rattle.page.specs.Entries.{encode_page}
 use Rattle.store.specs.Store.{covered, checked}
 use Rattle.store.specs.Finish.{Sealed}
-use Rattle.store.specs.FinishLaws.{sealed-checked}
+use Rattle.store.proofs.FinishLaws.{sealed-checked}
 use Rattle.model.specs.Index.{Page, Chain, Index, chain}
 use Rattle.model.specs.WellFormed.{MoreOk, ChainOk}
 use Rattle.image.specs.declared.Meta.{Meta}
@@ -18,8 +18,8 @@ use Rattle.store.specs.Flags.{no_link}
 use Rattle.image.specs.Decode.{decode}
 use Rattle.image.specs.BitmapLaws.{length-map_front}
 use Rattle.image.specs.PageOkLaws.{length-page_front}
-use Rattle.image.specs.BoundLaws.{length-meta}
-use Rattle.image.specs.EncodeLaws.{bit-inside, covered-encode, checked-encode, Bytes-encode}
+use Rattle.image.proofs.BoundLaws.{length-meta}
+use Rattle.image.proofs.EncodeLaws.{bit-inside, covered-encode, checked-encode, Bytes-encode}
 use Rattle.frame.specs.Frame.{map_block, chain_blocks, page_block, entries_after, place_entries, page_entries, prev_in}
 use Rattle.frame.specs.Frame.{flags_for, page_with}
 use Rattle.frame.specs.ImagesLaws.{top_one, page-inside, page-image, meta-image, map-image}

@@ -12,7 +12,7 @@ use Rattle.address.specs.Limits.{max_blocks}
 use Rattle.image.specs.declared.Meta.{Meta}
 use Rattle.image.specs.Decode.{read_meta, meta_at, max_at, point_at, spares_at, role_at, block_of}
 use Rattle.image.specs.Rules.{map_at, top_at, rule2}
-use Rattle.image.specs.MetaLaws.{length-words_at}
+use Rattle.image.proofs.MetaLaws.{length-words_at}
 use Rattle.chain.specs.Walk.{Sized}
 use Rattle.chain.specs.WalkLaws.{length_ok-sized}
 use Rattle.meta.specs.Addressed.{Addressed, addressed, addressed-wider, home-inside}

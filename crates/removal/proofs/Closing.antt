@@ -21,7 +21,7 @@ use Rattle.store.specs.Flags.{no_link}
 use Rattle.model.specs.Pages.{is_free}
 use Rattle.image.specs.Decode.{decode}
 use Rattle.image.specs.BitmapLaws.{length-map_front}
-use Rattle.image.specs.BoundLaws.{length-meta}
+use Rattle.image.proofs.BoundLaws.{length-meta}
 use Rattle.frame.specs.Frame.{map_block}
 use Rattle.frame.specs.ImagesLaws.{meta-image, map-image}
 use Rattle.view.specs.ReadsLaws.{reads-laid, reads-size}

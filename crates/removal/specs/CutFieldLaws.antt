@@ -10,10 +10,10 @@ use Rattle.model.specs.Index.{Index, on_pages, chain, entries_at, top_bit}
 use Rattle.model.specs.Pages.{first_free, cut}
 use Rattle.model.specs.Held.{count}
 use Rattle.model.specs.WellFormed.{Laid}
-use Rattle.model.specs.LaidLaws.{cut-laid}
-use Rattle.model.specs.MachineLaws.{never}
+use Rattle.model.proofs.LaidLaws.{cut-laid}
+use Rattle.model.proofs.MachineLaws.{never}
 use Rattle.image.specs.Layout.{meta_of, map_bit}
-use Rattle.image.specs.BoundLaws.{top_small}
+use Rattle.image.proofs.BoundLaws.{top_small}
 use Rattle.frame.specs.Frame.{more_place, frees_at}
 use Rattle.frame.specs.ImagesLaws.{no_page, page-made}
 use Rattle.frame.specs.CutLaws.{frees-none}

@@ -22,10 +22,10 @@ use Rattle.store.specs.Store.{trailer, covered}
 use Rattle.model.specs.Index.{Index, chain}
 use Rattle.model.specs.Pages.{thin_entries, cut}
 use Rattle.model.specs.WellFormed.{PageOk, Laid}
-use Rattle.model.specs.MachineLaws.{never}
+use Rattle.model.proofs.MachineLaws.{never}
 use Rattle.image.specs.declared.Meta.{Meta}
 use Rattle.image.specs.Layout.{paged, flags_of, encode_block}
-use Rattle.image.specs.BoundLaws.{max-under}
+use Rattle.image.proofs.BoundLaws.{max-under}
 use Rattle.image.specs.PageOkLaws.{length-page_front}
 use Rattle.frame.specs.Frame.{chain_blocks, page_block, page_entries, prev_in, flags_for, page_with}
 use Rattle.frame.specs.Frame.{pair_place, frees_at}

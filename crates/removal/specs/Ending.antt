@@ -11,7 +11,7 @@ use Rattle.image.specs.Decode.{decode}
 use Rattle.frame.specs.Frame.{Apart, map_block}
 use Rattle.draft.specs.Draft.{Listed}
 use Rattle.view.specs.Reads.{Reads}
-use Rattle.model.specs.FrameLaws.{SameStore}
+use Rattle.model.proofs.FrameLaws.{SameStore}
 use Rattle.plan.specs.Fields.{fields_after}
 use Rattle.plan.specs.Shape.{Shaped}
 use Rattle.plan.specs.Sketch.{Sketch}

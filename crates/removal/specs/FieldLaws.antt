@@ -7,7 +7,7 @@ use Rattle.address.specs.Address.{point}
 use Rattle.address.specs.Role.{SparesOk, role_of}
 use Rattle.address.specs.AgreeLaws.{role_same, spares-wider}
 use Rattle.address.specs.Limits.{max_blocks}
-use Rattle.model.specs.BoundLaws.{laid-point}
+use Rattle.model.proofs.BoundLaws.{laid-point}
 use Rattle.image.specs.declared.Meta.{Meta}
 use Rattle.image.specs.Decode.{point_at, decode}
 use Rattle.view.specs.Reads.{Reads}

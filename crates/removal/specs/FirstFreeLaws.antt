@@ -10,7 +10,7 @@ use Rattle.model.specs.Index.{Index, top_bit}
 use Rattle.model.specs.Pages.{first_free}
 use Rattle.model.specs.WellFormed.{Laid}
 use Rattle.image.specs.Layout.{map_bit}
-use Rattle.image.specs.BoundLaws.{top_small}
+use Rattle.image.proofs.BoundLaws.{top_small}
 use Rattle.image.specs.FreeLaws.{first-zero}
 use Rattle.frame.specs.ListsLaws.{find-hit, find-pass}
 use Rattle.removal.specs.declared.Freed.{Freed}

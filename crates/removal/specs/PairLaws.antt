@@ -14,7 +14,7 @@ use Rattle.model.specs.Index.{Page, Chain, on_pages, entries_in}
 use Rattle.model.specs.Pages.{thin_entries, thin, in_use}
 use Rattle.model.specs.WellFormed.{PageOk, MoreOk, ChainOk}
 use Rattle.model.specs.TallyLaws.{length-parts}
-use Rattle.model.specs.MachineLaws.{never}
+use Rattle.model.proofs.MachineLaws.{never}
 use Rattle.frame.specs.Frame.{entries_after, place_entries, on_page, more_place, pair_place, frees}
 use Rattle.frame.specs.ImagesLaws.{no_page}
 use Rattle.frame.specs.ListsLaws.{get_d_map}

@@ -14,9 +14,9 @@ use Rattle.model.specs.Pages.{cut}
 use Rattle.model.specs.Held.{held, count}
 use Rattle.model.specs.Calls.{pair_ok, Result, done, cut_held, remove_in, remove}
 use Rattle.model.specs.WellFormed.{WF}
-use Rattle.model.specs.HeldLaws.{old-new}
-use Rattle.model.specs.RemoveLaws.{remove-wf}
-use Rattle.model.specs.MachineLaws.{never}
+use Rattle.model.proofs.HeldLaws.{old-new}
+use Rattle.model.proofs.RemoveLaws.{remove-wf}
+use Rattle.model.proofs.MachineLaws.{never}
 use Rattle.image.specs.declared.Meta.{Meta}
 use Rattle.image.specs.Decode.{decode}
 use Rattle.frame.specs.MetaLaws.{remove-count}

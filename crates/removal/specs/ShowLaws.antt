@@ -26,7 +26,7 @@ use Rattle.image.specs.Decode.{decode}
 use Rattle.image.specs.PageOkLaws.{length-page_front}
 use Rattle.frame.specs.Frame.{block_of_bit, map_block, chain_blocks, page_block, page_entries, page_with, place_image}
 use Rattle.frame.specs.Frame.{Apart, place_block, place_entries, pair_place, frees_at, map_blocks, pair_blocks, page_image}
-use Rattle.image.specs.EncodeLaws.{bit-inside}
+use Rattle.image.proofs.EncodeLaws.{bit-inside}
 use Rattle.frame.specs.ImagesLaws.{top_one, page-inside, page-image}
 use Rattle.frame.specs.CommitLaws.{in-or-apart}
 use Rattle.frame.specs.RemoveLaws.{frame-cut}

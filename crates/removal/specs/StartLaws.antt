@@ -12,7 +12,7 @@ use Rattle.model.specs.Index.{Chain, Index, entries_in, chain, entries_at}
 use Rattle.model.specs.Pages.{first_free, without, cut}
 use Rattle.model.specs.Held.{count}
 use Rattle.model.specs.WellFormed.{Laid}
-use Rattle.model.specs.LaidLaws.{cut-laid}
+use Rattle.model.proofs.LaidLaws.{cut-laid}
 use Rattle.model.specs.StandLaws.{chain-there}
 use Rattle.image.specs.declared.Meta.{Meta}
 use Rattle.image.specs.Layout.{map_bit}

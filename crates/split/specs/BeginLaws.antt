@@ -26,16 +26,16 @@ use Rattle.model.specs.Pages.{bits_of, bits_used, free_of, is_free, free_bit, fi
 use Rattle.model.specs.Held.{count}
 use Rattle.model.specs.Steps.{widen, begin}
 use Rattle.model.specs.WellFormed.{Laid}
-use Rattle.model.specs.ViewLaws.{Beginning, no_point, same_point, new_point, begin-view}
+use Rattle.model.proofs.ViewLaws.{Beginning, no_point, same_point, new_point, begin-view}
 use Rattle.model.specs.TallyLaws.{any-more}
-use Rattle.model.specs.LaidLaws.{begin-laid}
+use Rattle.model.proofs.LaidLaws.{begin-laid}
 use Rattle.image.specs.declared.Meta.{Meta}
 use Rattle.image.specs.Layout.{padded, meta_of}
-use Rattle.image.specs.BoundLaws.{max-under}
-use Rattle.image.specs.EncodeLaws.{bucket-inside}
+use Rattle.image.proofs.BoundLaws.{max-under}
+use Rattle.image.proofs.EncodeLaws.{bucket-inside}
 use Rattle.frame.specs.BeginLaws.{Stays, stays-point, stays-more}
 use Rattle.chain.specs.FindLaws.{is_some}
-use Rattle.model.specs.FrameLaws.{SameStore}
+use Rattle.model.proofs.FrameLaws.{SameStore}
 use Rattle.plan.specs.Fields.{fields_with}
 
 module _ (x : Index) (l : Laid x) where

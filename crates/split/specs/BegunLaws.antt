@@ -16,14 +16,14 @@ use Rattle.store.specs.Store.{trailer, covered}
 use Rattle.model.specs.Index.{idle, Index, chain}
 use Rattle.model.specs.Held.{count, wanted}
 use Rattle.model.specs.Steps.{or_full, begin}
-use Rattle.model.specs.BoundLaws.{laid-size}
-use Rattle.model.specs.ViewLaws.{Beginning, begin-view}
-use Rattle.model.specs.MachineLaws.{never}
+use Rattle.model.proofs.BoundLaws.{laid-size}
+use Rattle.model.proofs.ViewLaws.{Beginning, begin-view}
+use Rattle.model.proofs.MachineLaws.{never}
 use Rattle.image.specs.declared.Meta.{Meta}
 use Rattle.image.specs.Layout.{paged, meta_front, padded, meta_of}
 use Rattle.store.specs.Flags.{no_link}
 use Rattle.image.specs.Decode.{decode}
-use Rattle.image.specs.BoundLaws.{length-meta}
+use Rattle.image.proofs.BoundLaws.{length-meta}
 use Rattle.image.specs.PageOkLaws.{length-page_front}
 use Rattle.frame.specs.Frame.{page_block, begin_blocks}
 use Rattle.frame.specs.ImagesLaws.{meta-image}

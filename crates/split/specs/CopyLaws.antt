@@ -11,8 +11,8 @@ use Rattle.model.specs.Pages.{put, cut}
 use Rattle.model.specs.Held.{count}
 use Rattle.model.specs.Steps.{next, or_full, moves, to_copy, step}
 use Rattle.model.specs.WellFormed.{WF}
-use Rattle.model.specs.ViewLaws.{moved_entry}
-use Rattle.model.specs.StepLaws.{step-wf}
+use Rattle.model.proofs.ViewLaws.{moved_entry}
+use Rattle.model.proofs.StepLaws.{step-wf}
 use Rattle.image.specs.declared.Meta.{Meta}
 use Rattle.image.specs.Decode.{decode}
 use Rattle.frame.specs.MetaLaws.{step_count}

@@ -19,13 +19,13 @@ use Rattle.model.specs.Steps.{next, or_full, widen, moves, to_copy}
 use Rattle.model.specs.WellFormed.{WF}
 use Rattle.model.specs.TallyLaws.{any-more}
 use Rattle.model.specs.StandLaws.{chain-here, number-here, chain-there}
-use Rattle.model.specs.HeldLaws.{old-new, old-range, new-range}
+use Rattle.model.proofs.HeldLaws.{old-new, old-range, new-range}
 use Rattle.model.specs.PlacedLaws.{clearing-copying}
-use Rattle.model.specs.ViewLaws.{moved_entry, PutAs, put_as, Putting, put_view}
-use Rattle.model.specs.LaidLaws.{chain-wider}
-use Rattle.model.specs.BeginLaws.{begin-widens}
-use Rattle.model.specs.StepsLeftLaws.{stands-once}
-use Rattle.model.specs.MachineLaws.{never}
+use Rattle.model.proofs.ViewLaws.{moved_entry, PutAs, put_as, Putting, put_view}
+use Rattle.model.proofs.LaidLaws.{chain-wider}
+use Rattle.model.proofs.BeginLaws.{begin-widens}
+use Rattle.model.proofs.StepsLeftLaws.{stands-once}
+use Rattle.model.proofs.MachineLaws.{never}
 use Rattle.split.specs.declared.Spot.{Spot}
 use Rattle.split.specs.declared.Position.{Position}
 use Rattle.split.specs.Mover.{movable, copied}

@@ -15,15 +15,15 @@ use Rattle.store.specs.declared.Change.{Change}
 use Rattle.store.specs.Store.{covered}
 use Rattle.model.specs.Index.{Job, idle, copying, clearing, Index, chain, entries_at, new_bucket, old_bucket, set_job}
 use Rattle.model.specs.Steps.{next, moves, to_copy, step}
-use Rattle.model.specs.HeldLaws.{old-new}
-use Rattle.model.specs.LaidLaws.{job-laid}
-use Rattle.model.specs.MachineLaws.{never}
+use Rattle.model.proofs.HeldLaws.{old-new}
+use Rattle.model.proofs.LaidLaws.{job-laid}
+use Rattle.model.proofs.MachineLaws.{never}
 use Rattle.image.specs.declared.Meta.{Meta}
 use Rattle.image.specs.Layout.{paged, flags_in, encode_block}
 use Rattle.image.specs.Decode.{decode}
-use Rattle.image.specs.BoundLaws.{max-under}
+use Rattle.image.proofs.BoundLaws.{max-under}
 use Rattle.image.specs.PageOkLaws.{length-page_front}
-use Rattle.image.specs.EncodeLaws.{bucket-inside}
+use Rattle.image.proofs.EncodeLaws.{bucket-inside}
 use Rattle.frame.specs.Frame.{Apart, page_block}
 use Rattle.frame.specs.MetaLaws.{step-meta}
 use Rattle.frame.specs.JobLaws.{frame-copied, frame-cleared, job-image, flags-old, flags-done}

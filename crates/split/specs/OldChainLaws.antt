@@ -12,7 +12,7 @@ use Rattle.page.specs.Pair.{is}
 use Rattle.page.specs.Allowed.{Sorted}
 use Rattle.page.specs.Entries.{entries_of}
 use Rattle.page.specs.EntriesLaws.{length-entries_of}
-use Rattle.page.specs.RuleLaws.{number-le}
+use Rattle.page.proofs.RuleLaws.{number-le}
 use Rattle.model.specs.Index.{chain, entries_at}
 use Rattle.store.specs.Store.{next_at}
 use Rattle.store.specs.Flags.{no_link}

@@ -16,9 +16,9 @@ use Rattle.model.specs.Index.{Page, Chain, Index, on_pages, chain, entries_at, n
 use Rattle.model.specs.Pages.{Taken, take_from, take_page, free_bit, thin_entries, thin, in_use, without, cut}
 use Rattle.model.specs.WellFormed.{MoreOk, WF}
 use Rattle.model.specs.StandLaws.{chain-here, chain-there}
-use Rattle.model.specs.HeldLaws.{old-new, old-range, new-range}
-use Rattle.model.specs.ViewLaws.{Putting, in_page, in_new}
-use Rattle.model.specs.MachineLaws.{never}
+use Rattle.model.proofs.HeldLaws.{old-new, old-range, new-range}
+use Rattle.model.proofs.ViewLaws.{Putting, in_page, in_new}
+use Rattle.model.proofs.MachineLaws.{never}
 use Rattle.image.specs.declared.Meta.{Meta}
 use Rattle.image.specs.Decode.{block_of, trail, read_page, decode}
 use Rattle.frame.specs.Frame.{block_of_bit, blocks_after, chain_blocks, entries_after}
@@ -26,7 +26,7 @@ use Rattle.frame.specs.FreshLaws.{more_spares, fresh-blocks}
 use Rattle.chain.specs.Walk.{walk}
 use Rattle.chain.specs.WalkLaws.{walk-some, walk_first}
 use Rattle.chain.specs.Within.{entries_on}
-use Rattle.chain.specs.DecodeLaws.{chain-decode}
+use Rattle.chain.proofs.DecodeLaws.{chain-decode}
 use Rattle.reader.specs.JobLaws.{old-low}
 use Rattle.view.specs.Reads.{Reads}
 use Rattle.view.specs.ReadsLaws.{reads_known, reads-max}

@@ -18,7 +18,7 @@ use Rattle.model.specs.Pages.{has_room, page_room, chain_room}
 use Rattle.model.specs.Squeeze.{init, final, mover_in, mover}
 use Rattle.model.specs.WellFormed.{MoreOk, ChainOk}
 use Rattle.model.specs.TallyLaws.{tally-any}
-use Rattle.model.specs.MachineLaws.{never}
+use Rattle.model.proofs.MachineLaws.{never}
 use Rattle.frame.specs.Frame.{first_place, room_place, last_place, entries_after, place_entries, page_block, page_entries}
 use Rattle.frame.specs.Frame.{more_place, pair_place}
 use Rattle.frame.specs.BehindLaws.{place_inside}

@@ -21,12 +21,12 @@ use Rattle.store.specs.Store.{trailer, covered}
 use Rattle.model.specs.Index.{Index, chain}
 use Rattle.model.specs.Pages.{first_free, cut}
 use Rattle.model.specs.Held.{count}
-use Rattle.model.specs.MachineLaws.{never}
+use Rattle.model.proofs.MachineLaws.{never}
 use Rattle.image.specs.declared.Meta.{Meta}
 use Rattle.image.specs.Layout.{paged, flags_of, meta_of, map_bit, encode_block}
 use Rattle.image.specs.Decode.{decode}
 use Rattle.image.specs.PageOkLaws.{length-page_front}
-use Rattle.image.specs.EncodeLaws.{bit-inside}
+use Rattle.image.proofs.EncodeLaws.{bit-inside}
 use Rattle.frame.specs.Frame.{map_block, chain_blocks, page_block, page_entries, prev_in, flags_for, page_with, room_place}
 use Rattle.frame.specs.Frame.{cut_blocks}
 use Rattle.frame.specs.ImagesLaws.{top_one, page-image}

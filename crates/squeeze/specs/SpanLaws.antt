@@ -12,8 +12,8 @@ use Rattle.model.specs.Index.{Page, Chain, Index, chain}
 use Rattle.model.specs.Pages.{has_room, page_room, enter_entry, add_more, add_entry}
 use Rattle.model.specs.Squeeze.{squeezed, moved_to}
 use Rattle.model.specs.StandLaws.{chain-here}
-use Rattle.model.specs.SqueezeLaws.{Moving, mover-is, pages, page, rest, behind}
-use Rattle.model.specs.SqueezeStepLaws.{mover-range}
+use Rattle.model.proofs.SqueezeLaws.{Moving, mover-is, pages, page, rest, behind}
+use Rattle.model.proofs.SqueezeStepLaws.{mover-range}
 use Rattle.image.specs.declared.Meta.{Meta}
 use Rattle.image.specs.Decode.{block_of, decode}
 use Rattle.image.specs.PagedLaws.{prev-paged}

@@ -20,7 +20,7 @@ use Rattle.model.specs.Index.{Page, Chain, Index, chain}
 use Rattle.model.specs.Pages.{chain_room}
 use Rattle.model.specs.Steps.{Step, next}
 use Rattle.model.specs.Squeeze.{final, mover, moved_to, squeeze_in, squeeze_step}
-use Rattle.model.specs.MachineLaws.{never}
+use Rattle.model.proofs.MachineLaws.{never}
 use Rattle.image.specs.declared.Meta.{Meta}
 use Rattle.image.specs.Decode.{block_of, decode}
 use Rattle.frame.specs.Frame.{room_place, last_place, block_of_bit, chain_blocks, page_block, place_entries, page_entries}

@@ -12,7 +12,7 @@ use Rattle.page.specs.Pair.{is}
 use Rattle.page.specs.Entries.{entries_of}
 use Rattle.page.specs.Rule.{page_ok}
 use Rattle.page.specs.Allowed.{Sorted}
-use Rattle.page.specs.RuleLaws.{page_ok-sorted}
+use Rattle.page.proofs.RuleLaws.{page_ok-sorted}
 use Rattle.page.specs.SublistLaws.{all-each, each-get_or}
 use Rattle.store.specs.Flags.{no_link}
 use Rattle.model.specs.Index.{Page, Chain, Index, chain, entries_at}
@@ -21,8 +21,8 @@ use Rattle.model.specs.Held.{count}
 use Rattle.model.specs.Steps.{next}
 use Rattle.model.specs.Squeeze.{moved_to, squeeze_in, squeeze_step}
 use Rattle.model.specs.WellFormed.{WF, Laid}
-use Rattle.model.specs.SqueezeLaws.{Moving, mover-is, behind, rest, page, pages, without_is, without-room}
-use Rattle.model.specs.SqueezeStepLaws.{squeeze-wf, squeeze-count}
+use Rattle.model.proofs.SqueezeLaws.{Moving, mover-is, behind, rest, page, pages, without_is, without-room}
+use Rattle.model.proofs.SqueezeStepLaws.{squeeze-wf, squeeze-count}
 use Rattle.image.specs.declared.Meta.{Meta}
 use Rattle.image.specs.Decode.{decode}
 use Rattle.frame.specs.Frame.{block_of_bit, map_block, chain_blocks, page_block, entries_after, place_entries, page_entries}

@@ -4,9 +4,9 @@ use Rattle.std.specs.Prelude.{◌≡◌, ◌≢◌, List, ◌++◌, ℕ, ◌^◌
 use Rattle.lists.specs.Bytes.{Bytes}
 use Rattle.lists.specs.BytesLaws.{Bytes-append, Bytes-take}
 use Rattle.endian.specs.Endian.{le32}
-use Rattle.endian.specs.EndianLaws.{Bytes-le32}
+use Rattle.endian.proofs.EndianLaws.{Bytes-le32}
 use Rattle.crc32c.specs.Crc.{crc_of}
-use Rattle.crc32c.specs.InjectiveLaws.{crc_of-first-inj, crc_of-second-inj, crc_of-zeros}
+use Rattle.crc32c.proofs.InjectiveLaws.{crc_of-first-inj, crc_of-second-inj, crc_of-zeros}
 use Rattle.store.specs.Store.{covered, check_of}
 
 -- one check at one place: one store number

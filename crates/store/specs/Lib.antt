@@ -2,10 +2,7 @@ pub mod Flags
 pub mod Store
 pub mod Change
 pub mod TrailerLaws
-pub mod CheckLaws
 pub mod CopyLaws
-pub mod ChangeLaws
 pub mod Finish
-pub mod FinishLaws
 pub mod InjectiveLaws
 pub mod CheckExamples

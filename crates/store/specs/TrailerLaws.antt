@@ -7,7 +7,7 @@ use Rattle.std.proofs.lemmas.List.Edits.{sets}
 use Rattle.lists.specs.Bytes.{Bytes, part}
 use Rattle.lists.specs.BytesLaws.{get_or-sets-in, part-part, Bytes-append}
 use Rattle.endian.specs.Endian.{le16, le32, u16_at, u32_at}
-use Rattle.endian.specs.EndianLaws.{
+use Rattle.endian.proofs.EndianLaws.{
   Agree,
   u16_at-cong,
   u32_at-cong,

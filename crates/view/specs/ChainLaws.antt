@@ -9,23 +9,23 @@ use Rattle.lists.specs.Block.{blocks, block}
 use Rattle.address.specs.Address.{bucket_block}
 use Rattle.page.specs.Rule.{page_ok}
 use Rattle.model.specs.Index.{Page, Chain, Index, chain, entries_at}
-use Rattle.model.specs.BoundLaws.{bits-le, laid-room}
+use Rattle.model.proofs.BoundLaws.{bits-le, laid-room}
 use Rattle.image.specs.declared.Meta.{Meta}
 use Rattle.image.specs.Layout.{encode}
 use Rattle.store.specs.Flags.{no_link}
 use Rattle.image.specs.Decode.{max_at, block_of, trail, read_page, read_chain, decode}
 use Rattle.frame.specs.Frame.{block_of_bit, blocks_after, chain_blocks, page_block, place_entries, page_entries}
 use Rattle.lists.specs.TestLaws.{each_all}
-use Rattle.image.specs.BoundLaws.{bits-part}
-use Rattle.image.specs.EncodePagesLaws.{max-encode}
-use Rattle.image.specs.EncodeDecodeLaws.{trail-encode}
-use Rattle.image.specs.EncodeChainsLaws.{pages_rule, pages-encode}
+use Rattle.image.proofs.BoundLaws.{bits-part}
+use Rattle.image.proofs.EncodePagesLaws.{max-encode}
+use Rattle.image.proofs.EncodeDecodeLaws.{trail-encode}
+use Rattle.image.proofs.EncodeChainsLaws.{pages_rule, pages-encode}
 use Rattle.frame.specs.ListsLaws.{get_d_map}
 use Rattle.frame.specs.ImagesLaws.{page-inside}
 use Rattle.chain.specs.Walk.{walk, Walked, Bounded}
 use Rattle.chain.specs.WalkLaws.{walk-trail, walk-few}
 use Rattle.chain.specs.Within.{entries_on, PagesOk, Within}
-use Rattle.chain.specs.DecodeLaws.{chain-decode, entries-walk}
+use Rattle.chain.proofs.DecodeLaws.{chain-decode, entries-walk}
 use Rattle.view.specs.Reads.{Reads}
 use Rattle.view.specs.ReadsLaws.{reads-laid, reads_sized, reads-size, reads-max}
 

@@ -12,7 +12,7 @@ use Rattle.model.specs.Index.{Job, copying, Index, chain, entries_at, bucket, ne
 use Rattle.model.specs.Held.{sources, held}
 use Rattle.model.specs.WellFormed.{unmoved_at, moved_at, WF}
 use Rattle.model.specs.HeldIn.{held_no, held_in}
-use Rattle.model.specs.HeldLaws.{is-parts, stands-none, held-is}
+use Rattle.model.proofs.HeldLaws.{is-parts, stands-none, held-is}
 use Rattle.frame.specs.Frame.{page_block, page_entries, pair_place}
 use Rattle.chain.specs.declared.Found.{Found}
 use Rattle.chain.specs.Search.{is_found}

@@ -14,7 +14,7 @@ use Rattle.page.specs.SublistLaws.{each_map}
 use Rattle.page.specs.AscendingLaws.{ascending-cons, ascending-once, each-enter}
 use Rattle.page.specs.Places.{place_of}
 use Rattle.page.specs.PlaceLaws.{place-take, place-drop}
-use Rattle.page.specs.RunLaws.{lowest}
+use Rattle.page.proofs.RunLaws.{lowest}
 use Rattle.model.specs.Held.{self, sorted}
 use Rattle.model.specs.SortedLaws.{tally-sorted, ascending-sorted, ascending-ext}
 use Rattle.chain.specs.Pairs.{counts, is_match, pairs_in}

@@ -11,7 +11,7 @@ use Rattle.model.specs.declared.LookupAnswer.{LookupAnswer}
 use Rattle.model.specs.Calls.{lookup}
 use Rattle.image.specs.declared.Meta.{Meta}
 use Rattle.image.specs.Decode.{decode}
-use Rattle.model.specs.MatchesLaws.{matches-ascending}
+use Rattle.model.proofs.MatchesLaws.{matches-ascending}
 use Rattle.chain.specs.Along.{pairs_along}
 use Rattle.view.specs.Reads.{Reads}
 use Rattle.view.specs.Places.{Sourced}

@@ -25,7 +25,7 @@ use Rattle.chain.specs.WalkLaws.{walk-trail}
 use Rattle.chain.specs.Search.{pair_on, room_on, found_as, find_in, room_as, room_in}
 use Rattle.chain.specs.Within.{entries_on}
 use Rattle.chain.specs.FindLaws.{any-bind}
-use Rattle.chain.specs.DecodeLaws.{chain-decode, room-walk}
+use Rattle.chain.proofs.DecodeLaws.{chain-decode, room-walk}
 use Rattle.view.specs.Reads.{Reads}
 use Rattle.view.specs.Places.{find_at, room_at}
 use Rattle.view.specs.FirstLaws.{get_d_default, find-place, place_inside, place_map}

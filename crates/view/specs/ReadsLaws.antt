@@ -12,12 +12,12 @@ use Rattle.image.specs.declared.Meta.{Meta}
 use Rattle.image.specs.Layout.{meta_of, encode}
 use Rattle.image.specs.Decode.{meta_at, decode}
 use Rattle.image.specs.Rules.{rule2, sound, verdict, length_ok}
-use Rattle.image.specs.BoundLaws.{max-small}
-use Rattle.image.specs.EncodeLaws.{length_ok-encode}
-use Rattle.image.specs.EncodePagesLaws.{meta-encode}
-use Rattle.image.specs.EncodeDecodeLaws.{decode-encode}
-use Rattle.image.specs.EncodeVerdictLaws.{passes-encode}
-use Rattle.image.specs.BridgeTheorem.{sound-is-encoding}
+use Rattle.image.proofs.BoundLaws.{max-small}
+use Rattle.image.proofs.EncodeLaws.{length_ok-encode}
+use Rattle.image.proofs.EncodePagesLaws.{meta-encode}
+use Rattle.image.proofs.EncodeDecodeLaws.{decode-encode}
+use Rattle.image.proofs.EncodeVerdictLaws.{passes-encode}
+use Rattle.image.proofs.BridgeTheorem.{sound-is-encoding}
 use Rattle.chain.specs.Walk.{Sized}
 use Rattle.reader.specs.Known.{Known2}
 use Rattle.reader.specs.KnownLaws.{sized, block-whole, block-full}

@@ -14,10 +14,10 @@ use Rattle.model.specs.Index.{Page, Index, chain}
 use Rattle.model.specs.Held.{sorted, matches}
 use Rattle.model.specs.WellFormed.{Laid}
 use Rattle.model.specs.SortedLaws.{length-sorted}
-use Rattle.model.specs.BoundLaws.{laid-room, bits-le}
+use Rattle.model.proofs.BoundLaws.{laid-room, bits-le}
 use Rattle.image.specs.declared.Meta.{Meta}
 use Rattle.image.specs.Decode.{block_of, decode}
-use Rattle.image.specs.BoundLaws.{one-part, two-parts}
+use Rattle.image.proofs.BoundLaws.{one-part, two-parts}
 use Rattle.frame.specs.Frame.{block_of_bit, chain_blocks}
 use Rattle.chain.specs.Walk.{Walked}
 use Rattle.chain.specs.Within.{entries_on, PagesOk, Within}

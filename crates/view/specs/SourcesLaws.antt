@@ -9,7 +9,7 @@ use Rattle.lists.specs.ListsLaws.{eqb-eq}
 use Rattle.lists.specs.Block.{block}
 use Rattle.address.specs.Address.{bucket_of, split_from}
 use Rattle.address.specs.MaskLaws.{split-lt}
-use Rattle.address.specs.BucketLaws.{bucket-le}
+use Rattle.address.proofs.BucketLaws.{bucket-le}
 use Rattle.page.specs.declared.Entry.{Entry}
 use Rattle.store.specs.Store.{flags_at}
 use Rattle.model.specs.Index.{Job, idle, copying, clearing, Index, entries_at, new_bucket, old_bucket}

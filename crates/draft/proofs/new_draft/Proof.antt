@@ -1,6 +1,6 @@
 use mathlib.Core.Path.{refl, sym}
 use native.Mathlib.Omega.{arith}
-use Rattle.store.specs.ChangeLaws.{commits-zero}
+use Rattle.store.proofs.ChangeLaws.{commits-zero}
 use Rattle.draft.proofs.new_draft.Statement.{statement}
 use Rattle.draft.proofs.new_draft.Tie as tie
 

@@ -1,5 +1,5 @@
 use native.Mathlib.Omega.{arith}
-use Rattle.endian.specs.EndianLaws.{u32_at-split}
+use Rattle.endian.proofs.EndianLaws.{u32_at-split}
 use borrow.Author.Rules.{rules}
 use Rattle.endian.proofs.get_u32.Statement.{statement}
 use Rattle.endian.proofs.get_u32.Tie as tie

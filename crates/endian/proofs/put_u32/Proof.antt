@@ -1,4 +1,4 @@
-use Rattle.endian.specs.EndianLaws.{sets-le32}
+use Rattle.endian.proofs.EndianLaws.{sets-le32}
 use borrow.Author.Rules.{rules}
 use Rattle.endian.proofs.put_u32.Statement.{statement}
 use Rattle.endian.proofs.put_u32.Tie as tie

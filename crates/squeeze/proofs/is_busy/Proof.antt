@@ -5,7 +5,7 @@ use Rattle.model.specs.Squeeze.{is_busy}
 use Rattle.image.specs.Decode.{decode}
 use Rattle.view.specs.ReadsLaws.{reads_known}
 use Rattle.model.specs.Demand.{of_job}
-use Rattle.model.specs.Demand3SqueezeLaws.{busy-phase}
+use Rattle.model.proofs.Demand3SqueezeLaws.{busy-phase}
 use Rattle.squeeze.proofs.is_busy.Statement.{statement}
 use Rattle.squeeze.proofs.is_busy.Tie as tie
 

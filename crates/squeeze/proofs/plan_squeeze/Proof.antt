@@ -11,7 +11,7 @@ use Rattle.endian.specs.Endian.{u16_at}
 use Rattle.page.specs.Entries.{entry_at}
 use Rattle.store.specs.Store.{prev_at}
 use Rattle.model.specs.Index.{Index}
-use Rattle.model.specs.MachineLaws.{never}
+use Rattle.model.proofs.MachineLaws.{never}
 use Rattle.image.specs.Decode.{decode}
 use Rattle.view.specs.ReadsLaws.{reads_whole, reads-block, reads-max}
 use Rattle.squeeze.specs.Move.{Movable}

@@ -3,7 +3,7 @@ use Prim.Native.Nat.{◌-◌, ◌≤◌}
 use native.Mathlib.Omega.{arith}
 use lib.ListN.{length}
 use Rattle.store.specs.Change.{commits}
-use Rattle.store.specs.ChangeLaws.{commits-zero, commits-suc}
+use Rattle.store.proofs.ChangeLaws.{commits-zero, commits-suc}
 use Rattle.store.proofs.commit.Statement.{statement}
 use Rattle.store.proofs.commit.Tie as tie
 

@@ -1,4 +1,4 @@
-use Rattle.store.specs.CheckLaws.{sets-check}
+use Rattle.store.proofs.CheckLaws.{sets-check}
 use borrow.Author.Rules.{rules}
 use Rattle.store.proofs.seal_block.Statement.{statement}
 use Rattle.store.proofs.seal_block.Tie as tie

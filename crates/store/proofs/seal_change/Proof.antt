@@ -3,7 +3,7 @@ use Prim.Native.Nat.{◌-◌, ◌≤◌}
 use native.Mathlib.Omega.{arith}
 use lib.ListN.{length}
 use Rattle.store.specs.Change.{seals}
-use Rattle.store.specs.ChangeLaws.{seals-zero, seals-suc}
+use Rattle.store.proofs.ChangeLaws.{seals-zero, seals-suc}
 use Rattle.store.proofs.seal_change.Statement.{statement}
 use Rattle.store.proofs.seal_change.Tie as tie
 

@@ -7,7 +7,7 @@ use Rattle.lists.specs.Lists.{b2n, tally}
 use Rattle.page.specs.declared.Entry.{Entry}
 use Rattle.page.specs.Entries.{entries_of}
 use Rattle.page.specs.Places.{run_entries}
-use Rattle.page.specs.RunPartLaws.{length-run_entries}
+use Rattle.page.proofs.RunPartLaws.{length-run_entries}
 use Rattle.chain.specs.Pairs.{is_match}
 use Rattle.chain.proofs.Tallies.{unmoved, count-few, fresh_start, fresh-turn, fresh-end}
 use Rattle.chain.proofs.counting.count_fresh.Statement.{statement}

@@ -6,8 +6,8 @@ use lib.ListN.{length}
 use Rattle.page.specs.Pair.{same}
 use Rattle.page.specs.Entries.{read_entry}
 use Rattle.page.specs.Places.{run_entries}
-use Rattle.page.specs.RunPartLaws.{length-run_entries, run_inside, run_length_lem, run-one}
-use Rattle.page.specs.RuleLaws.{number-le}
+use Rattle.page.proofs.RunPartLaws.{length-run_entries, run_inside, run_length_lem, run-one}
+use Rattle.page.proofs.RuleLaws.{number-le}
 use Rattle.chain.proofs.Slots.{slot_same, slot-other, slot-past}
 use borrow.Author.Rules.{rules}
 use Rattle.chain.proofs.search.find_slot.Statement.{statement}

@@ -4,7 +4,7 @@ use native.Mathlib.Omega.{arith}
 use borrow.Author.Rules.{rules}
 use lib.ListN.{length, drop, length-append, length-drop}
 use Rattle.image.specs.Layout.{meta_front}
-use Rattle.image.specs.MetaLaws.{length-meta_front}
+use Rattle.image.proofs.MetaLaws.{length-meta_front}
 use Rattle.draft.proofs.Editing.{image-inside, edit-part}
 use Rattle.draft.proofs.edit.put_fields.Statement.{statement}
 use Rattle.draft.proofs.edit.put_fields.Tie as tie

@@ -7,7 +7,7 @@ use lib.ListN.{get_or, drop}
 use lib.Seq.{get_or-take}
 use Rattle.lists.specs.ListsLaws.{and-false}
 use Rattle.store.specs.Store.{covered}
-use Rattle.store.specs.CheckLaws.{length-covered}
+use Rattle.store.proofs.CheckLaws.{length-covered}
 use Rattle.draft.specs.Trim.{alike}
 use Rattle.draft.specs.TrimLaws.{alike-more, alike-stop, alike_end}
 use Rattle.draft.proofs.trim.same_bytes.Statement.{statement}

@@ -4,7 +4,7 @@ use native.Mathlib.Omega.{arith}
 use Rattle.lists.specs.Lists.{b2n, tally}
 use Rattle.endian.specs.Endian.{u16_at}
 use Rattle.page.specs.Entries.{entry_at, entries_of}
-use Rattle.page.specs.RuleLaws.{number-le}
+use Rattle.page.proofs.RuleLaws.{number-le}
 use Rattle.entries.specs.Counts.{live_in}
 use Rattle.shape.specs.LoopLaws.{rest, rest-start, rest-turn, rest-done}
 use Rattle.entries.proofs.counts.count_page.Statement.{statement}

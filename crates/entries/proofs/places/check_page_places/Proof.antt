@@ -8,7 +8,7 @@ use Rattle.endian.specs.Endian.{u16_at}
 use Rattle.address.specs.Address.{bucket_of}
 use Rattle.page.specs.declared.Entry.{Entry}
 use Rattle.page.specs.Entries.{entries_of}
-use Rattle.page.specs.RuleLaws.{number-le}
+use Rattle.page.proofs.RuleLaws.{number-le}
 use Rattle.model.specs.declared.Phase.{Phase}
 use Rattle.entries.specs.Tests.{stands_in}
 use Rattle.shape.specs.LoopLaws.{passed, failed, rest, rest-start, rest-turn, rest-done}

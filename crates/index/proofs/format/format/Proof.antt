@@ -3,7 +3,7 @@ use mathlib.Core.Bool.{true, false, not, ◌&&◌}
 use borrow.Author.Tests.{not-true, not-false}
 use Rattle.lists.specs.Block.{blocks}
 use Rattle.model.specs.Calls.{format_ok, overwrites}
-use Rattle.model.specs.FormatLaws.{fill-high}
+use Rattle.model.proofs.FormatLaws.{fill-high}
 use Rattle.image.specs.Rules.{length_ok}
 use Rattle.outcomes.specs.Outcomes.{store_in_use, format_replacing, format_outcome}
 use Rattle.outcomes.specs.FormatLaws.{format-bytes}

@@ -1,7 +1,7 @@
 use mathlib.Core.Path.{refl, ap, ◌∙◌}
 use lib.ListN.{replicate}
 use Rattle.lists.specs.Block.{set_block}
-use Rattle.store.specs.CheckLaws.{sealed-body}
+use Rattle.store.proofs.CheckLaws.{sealed-body}
 use Rattle.index.proofs.Blocks.{fits_one, finished-one}
 use borrow.Author.Rules.{rules}
 use Rattle.index.proofs.format.format_block.Statement.{statement}

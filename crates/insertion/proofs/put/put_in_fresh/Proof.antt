@@ -5,7 +5,7 @@ use borrow.Author.Rules.{rules}
 use lib.ListN.{get_or, set}
 use Rattle.model.specs.Index.{top_bit}
 use Rattle.image.specs.Decode.{decode}
-use Rattle.image.specs.BoundLaws.{top_small}
+use Rattle.image.proofs.BoundLaws.{top_small}
 use Rattle.frame.specs.Frame.{block_of_bit}
 use Rattle.view.specs.ReadsLaws.{reads-laid, reads_sized, reads-size}
 use Rattle.plan.specs.FieldLaws.{point-low, read-top, read_made}

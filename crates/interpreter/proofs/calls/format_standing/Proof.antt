@@ -5,8 +5,8 @@ use Rattle.address.specs.Limits.{max_blocks}
 use Rattle.model.specs.Calls.{format_ok, overwrites}
 use Rattle.image.specs.Rules.{length_ok}
 use Rattle.outcomes.specs.Outcomes.{store_in_use, Changed}
-use Rattle.outcomes.specs.OutcomeSoundLaws.{legal-is}
-use Rattle.outcomes.specs.InUseLaws.{format-length, format-number, format-in_use}
+use Rattle.outcomes.proofs.OutcomeSoundLaws.{legal-is}
+use Rattle.outcomes.proofs.InUseLaws.{format-length, format-number, format-in_use}
 use Rattle.interpreter.specs.Script.{script_blocks}
 use Rattle.interpreter.specs.Feed.{store_bytes}
 use Rattle.interpreter.specs.RunsLaws.{format-overwriting, refused-part}

@@ -6,7 +6,7 @@ use native.Mathlib.Omega.{arith}
 use borrow.Author.Tests.{not-true, not-false}
 use Rattle.store.specs.Store.{checks}
 use Rattle.journal.specs.Journal.{name_in, image_in}
-use Rattle.journal.specs.LoopLaws.{Passed, passed-more, all_yes, all-no}
+use Rattle.journal.proofs.LoopLaws.{Passed, passed-more, all_yes, all-no}
 use Rattle.journal.proofs.Parts.{length-of-block}
 use borrow.Author.Rules.{rules}
 use Rattle.journal.proofs.holds.images_good.Statement.{statement}

@@ -6,7 +6,7 @@ use native.Mathlib.Omega.{arith}
 use borrow.Author.Tests.{eq-eqb, ne_eqb}
 use lib.Dec.{eqb}
 use Rattle.journal.specs.Journal.{name_in}
-use Rattle.journal.specs.LoopLaws.{Passed, passed-more, all_yes, all-no}
+use Rattle.journal.proofs.LoopLaws.{Passed, passed-more, all_yes, all-no}
 use borrow.Author.Rules.{rules}
 use Rattle.journal.proofs.holds.name_differs.Statement.{statement}
 use Rattle.journal.proofs.holds.name_differs.Tie as tie

@@ -5,7 +5,7 @@ use native.Mathlib.Omega.{arith}
 use borrow.Author.Tests.{le-ltb, lt-ltb}
 use lib.Dec.{ltb}
 use Rattle.journal.specs.Journal.{name_in}
-use Rattle.journal.specs.LoopLaws.{Passed, passed-more, all_yes, all-no}
+use Rattle.journal.proofs.LoopLaws.{Passed, passed-more, all_yes, all-no}
 use borrow.Author.Rules.{rules}
 use Rattle.journal.proofs.holds.names_below.Statement.{statement}
 use Rattle.journal.proofs.holds.names_below.Tie as tie

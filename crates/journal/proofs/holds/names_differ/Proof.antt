@@ -7,7 +7,7 @@ use borrow.Author.Tests.{not-true, not-false}
 use lib.Dec.{eqb}
 use Rattle.lists.specs.Lists.{all, up_from}
 use Rattle.journal.specs.Journal.{name_in}
-use Rattle.journal.specs.LoopLaws.{Passed, passed-more, all_yes, all-no}
+use Rattle.journal.proofs.LoopLaws.{Passed, passed-more, all_yes, all-no}
 use borrow.Author.Rules.{rules}
 use Rattle.journal.proofs.holds.names_differ.Statement.{statement}
 use Rattle.journal.proofs.holds.names_differ.Tie as tie

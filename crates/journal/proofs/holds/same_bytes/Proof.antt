@@ -4,7 +4,7 @@ use native.Mathlib.Omega.{arith}
 use borrow.Author.Count.{below_more}
 use borrow.Author.Rules.{rules}
 use lib.ListN.{length, get_or}
-use Rattle.journal.specs.LoopLaws.{same-yes, same-no}
+use Rattle.journal.proofs.LoopLaws.{same-yes, same-no}
 use Rattle.journal.proofs.holds.same_bytes.Statement.{statement}
 use Rattle.journal.proofs.holds.same_bytes.Tie as tie
 

@@ -7,7 +7,7 @@ use lib.ListN.{length}
 use Rattle.lists.specs.Block.{set_block}
 use Rattle.store.specs.Change.{seals}
 use Rattle.journal.specs.Journal.{head, ending, wiped}
-use Rattle.journal.specs.PlanLaws.{plan-written}
+use Rattle.journal.proofs.PlanLaws.{plan-written}
 use Rattle.journal.proofs.Parts.{rest-lent, rest_back}
 use borrow.Author.Rules.{rules}
 use Rattle.journal.proofs.plan.work_out.Statement.{statement}

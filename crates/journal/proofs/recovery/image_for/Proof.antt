@@ -4,7 +4,7 @@ use mathlib.Core.Option.{none, some}
 use native.Mathlib.Omega.{arith}
 use borrow.Author.Tests.{not-true, not-false}
 use Rattle.journal.specs.Journal.{Disk, holds}
-use Rattle.journal.specs.ValidLaws.{holds-held}
+use Rattle.journal.proofs.ValidLaws.{holds-held}
 use Rattle.journal.specs.HoldsLaws.{image-no, image-found}
 use borrow.Author.Rules.{rules}
 use Rattle.journal.proofs.recovery.image_for.Statement.{statement}

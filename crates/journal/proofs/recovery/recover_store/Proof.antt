@@ -2,8 +2,8 @@ use mathlib.Core.Path.{◌≡◌, refl, sym, ◌∙◌}
 use mathlib.Core.Bool.{true}
 use Rattle.lists.specs.Block.{blocks}
 use Rattle.journal.specs.Journal.{Disk, holds}
-use Rattle.journal.specs.ValidLaws.{holds-held}
-use Rattle.journal.specs.RecoverLaws.{recover-yes, recover-no, copying}
+use Rattle.journal.proofs.ValidLaws.{holds-held}
+use Rattle.journal.proofs.RecoverLaws.{recover-yes, recover-no, copying}
 use Rattle.journal.specs.HoldsLaws.{disk-eq}
 use borrow.Author.Rules.{rules}
 use Rattle.journal.proofs.recovery.recover_store.Statement.{statement}

@@ -7,7 +7,7 @@ use lib.ListN.{drop}
 use Rattle.endian.specs.Endian.{u16_at}
 use Rattle.page.specs.declared.Entry.{Entry}
 use Rattle.page.specs.Entries.{entries_of}
-use Rattle.page.specs.RuleLaws.{number-le}
+use Rattle.page.proofs.RuleLaws.{number-le}
 use Rattle.merge.specs.Heads.{tail_of}
 use Rattle.merge.specs.HeadLaws.{left-done, left-more}
 use Rattle.merge.proofs.heads.tail_at.Statement.{statement}

@@ -2,7 +2,7 @@ use mathlib.Core.Path.{◌≡◌, sym, ◌∙◌}
 use Prim.Native.Nat.{◌-◌, ◌≤◌}
 use native.Mathlib.Omega.{arith}
 use Rattle.page.specs.Rule.{numbers_ok}
-use Rattle.page.specs.RuleLaws.{number-le}
+use Rattle.page.proofs.RuleLaws.{number-le}
 use Rattle.page.proofs.Turns.{holds, breaks, passed, failed, numbers_from, numbers-start, numbers-turn}
 use Rattle.page.proofs.Turns.{numbers-end}
 use Rattle.page.proofs.rule.check_numbers.Statement.{statement}

@@ -6,7 +6,7 @@ use Rattle.page.specs.declared.Entry.{Entry}
 use Rattle.page.specs.Pair.{before}
 use Rattle.page.specs.Entries.{entry_at}
 use Rattle.page.specs.Rule.{order_ok}
-use Rattle.page.specs.RuleLaws.{number-le}
+use Rattle.page.proofs.RuleLaws.{number-le}
 use Rattle.page.proofs.Turns.{holds, breaks, passed, failed, order_from, order-start, order-turn, order-end}
 use Rattle.page.proofs.rule.check_order.Statement.{statement}
 use Rattle.page.proofs.rule.check_order.Tie as tie

@@ -7,7 +7,7 @@ use lib.Dec.{eqb}
 use Rattle.lists.specs.Bytes.{part, all_zero}
 use Rattle.endian.specs.Endian.{u16_at}
 use Rattle.page.specs.Rule.{rest_zero}
-use Rattle.page.specs.RuleLaws.{number-le}
+use Rattle.page.proofs.RuleLaws.{number-le}
 use Rattle.page.proofs.rule.check_rest.Statement.{statement}
 use Rattle.page.proofs.rule.check_rest.Tie as tie
 

@@ -1,5 +1,5 @@
 use mathlib.Core.Path.{sym}
-use Rattle.page.specs.RunPartLaws.{length-run_entries}
+use Rattle.page.proofs.RunPartLaws.{length-run_entries}
 use Rattle.page.proofs.run.count_run.Statement.{statement}
 use Rattle.page.proofs.run.count_run.Tie as tie
 

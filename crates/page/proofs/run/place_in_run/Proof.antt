@@ -9,7 +9,7 @@ use Rattle.lists.specs.Bytes.{Bytes}
 use Rattle.page.specs.declared.Pair.{Pair}
 use Rattle.page.specs.Entries.{read_entry}
 use Rattle.page.specs.Places.{place_of, run_entries, reading_key}
-use Rattle.page.specs.RunPartLaws.{length-run_entries}
+use Rattle.page.proofs.RunPartLaws.{length-run_entries}
 use Rattle.page.specs.PlaceLaws.{place-le}
 use Rattle.page.proofs.Bisect.{half, Between, turn, Sought, places-tell}
 use Rattle.page.proofs.run.place_in_run.Statement.{statement}

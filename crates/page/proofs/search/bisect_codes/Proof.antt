@@ -7,7 +7,7 @@ use Rattle.lists.specs.Lists.{b2n}
 use Rattle.endian.specs.Endian.{u16_at}
 use Rattle.page.specs.Entries.{entry_at, entries_of}
 use Rattle.page.specs.Run.{run_start}
-use Rattle.page.specs.RuleLaws.{number-le}
+use Rattle.page.proofs.RuleLaws.{number-le}
 use Rattle.page.proofs.Bisect.{half, Between, turn, codes-tell}
 use Rattle.page.proofs.search.bisect_codes.Statement.{statement}
 use Rattle.page.proofs.search.bisect_codes.Tie as tie

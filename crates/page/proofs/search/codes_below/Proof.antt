@@ -1,6 +1,6 @@
 use Prim.Native.Nat.{◌-◌}
 use native.Mathlib.Omega.{arith}
-use Rattle.page.specs.RuleLaws.{number-le}
+use Rattle.page.proofs.RuleLaws.{number-le}
 use Rattle.page.proofs.Bisect.{start-inside, code_up, code-down}
 use borrow.Author.Rules.{rules}
 use Rattle.page.proofs.search.codes_below.Statement.{statement}

@@ -5,10 +5,10 @@ use Rattle.page.specs.Entries.{entries_of}
 use Rattle.page.specs.Places.{place_of}
 use Rattle.page.specs.EntriesLaws.{length-entries_of}
 use Rattle.page.specs.PlaceLaws.{place-le}
-use Rattle.page.specs.RunLaws.{place-run}
-use Rattle.page.specs.RunPartLaws.{run-entries, run-one}
+use Rattle.page.proofs.RunLaws.{place-run}
+use Rattle.page.proofs.RunPartLaws.{run-entries, run-one}
 use Rattle.page.specs.Rule.{order_ok}
-use Rattle.page.specs.RuleLaws.{number-le}
+use Rattle.page.proofs.RuleLaws.{number-le}
 use borrow.Author.Rules.{rules}
 use Rattle.page.proofs.search.find_place.Statement.{statement}
 use Rattle.page.proofs.search.find_place.Tie as tie

@@ -1,7 +1,7 @@
 use mathlib.Core.Path.{◌∙◌}
 use native.Mathlib.Omega.{arith}
 use Rattle.lists.specs.Bytes.{Bytes}
-use Rattle.page.specs.RunPartLaws.{run-bytes}
+use Rattle.page.proofs.RunPartLaws.{run-bytes}
 use Rattle.page.proofs.search.find_run.Statement.{statement}
 use Rattle.page.proofs.search.find_run.Tie as tie
 

@@ -3,8 +3,8 @@ use Prim.Native.Nat.{◌+◌, ◌<◌}
 use native.Mathlib.Omega.{arith}
 use Rattle.endian.specs.Endian.{u16_at}
 use Rattle.page.specs.Entries.{entries_of}
-use Rattle.page.specs.RunLaws.{run_end}
-use Rattle.page.specs.RuleLaws.{number-le}
+use Rattle.page.proofs.RunLaws.{run_end}
+use Rattle.page.proofs.RuleLaws.{number-le}
 use Rattle.page.proofs.Bisect.{start-inside, code_up, run-empty}
 use borrow.Author.Rules.{rules}
 use Rattle.page.proofs.search.run_end.Statement.{statement}

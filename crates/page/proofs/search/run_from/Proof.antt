@@ -3,8 +3,8 @@ use Prim.Native.Nat.{ℕ, ◌+◌, ◌*◌, ◌≤◌}
 use native.Mathlib.Omega.{arith}
 use Rattle.lists.specs.Bytes.{part}
 use Rattle.page.specs.Run.{run_of}
-use Rattle.page.specs.RunPartLaws.{run_inside}
-use Rattle.page.specs.RuleLaws.{number-le}
+use Rattle.page.proofs.RunPartLaws.{run_inside}
+use Rattle.page.proofs.RuleLaws.{number-le}
 use borrow.Author.Rules.{rules}
 use Rattle.page.proofs.search.run_from.Statement.{statement}
 use Rattle.page.proofs.search.run_from.Tie as tie

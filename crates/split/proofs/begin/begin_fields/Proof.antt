@@ -2,8 +2,8 @@ use mathlib.Core.Path.{ap}
 use native.Mathlib.Omega.{arith}
 use borrow.Author.Rules.{rules}
 use Rattle.address.specs.Address.{point}
-use Rattle.model.specs.BoundLaws.{laid-point}
-use Rattle.image.specs.BoundLaws.{max-small}
+use Rattle.model.proofs.BoundLaws.{laid-point}
+use Rattle.image.proofs.BoundLaws.{max-small}
 use Rattle.split.specs.BeginLaws.{point-small, field_next, field-point, next-meta}
 use Rattle.split.proofs.begin.begin_fields.Statement.{statement}
 use Rattle.split.proofs.begin.begin_fields.Tie as tie

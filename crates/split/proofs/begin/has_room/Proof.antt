@@ -9,8 +9,8 @@ use Rattle.address.specs.Address.{buckets_at, point}
 use Rattle.model.specs.Index.{Index}
 use Rattle.model.specs.WellFormed.{Laid}
 use Rattle.image.specs.Layout.{meta_of}
-use Rattle.image.specs.BoundLaws.{max-small, top_small}
-use Rattle.model.specs.BoundLaws.{laid-point}
+use Rattle.image.proofs.BoundLaws.{max-small, top_small}
+use Rattle.model.proofs.BoundLaws.{laid-point}
 use Rattle.split.specs.BeginLaws.{point-small, buckets-small, begin-room, field_next, field-point, field_top}
 use Rattle.split.specs.BeginLaws.{field-size}
 use Rattle.split.proofs.begin.has_room.Statement.{statement}

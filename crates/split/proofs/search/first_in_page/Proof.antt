@@ -4,7 +4,7 @@ use native.Mathlib.Omega.{arith}
 use Rattle.endian.specs.Endian.{u16_at}
 use Rattle.page.specs.declared.Entry.{Entry}
 use Rattle.page.specs.Entries.{entry_at, entries_of}
-use Rattle.page.specs.RuleLaws.{number-le}
+use Rattle.page.proofs.RuleLaws.{number-le}
 use Rattle.image.specs.Decode.{decode}
 use Rattle.chain.specs.declared.Found.{Found}
 use Rattle.split.specs.declared.Mover.{Mover}

@@ -2,7 +2,7 @@ use mathlib.Core.Path.{◌≡◌}
 use mathlib.Core.Bool.{true, false}
 use native.Mathlib.Omega.{arith}
 use borrow.Author.Tests.{not-true}
-use Rattle.model.specs.MachineLaws.{never}
+use Rattle.model.proofs.MachineLaws.{never}
 use Rattle.view.specs.ReadsLaws.{reads_known}
 use Rattle.split.specs.MoverLaws.{walks-copies}
 use Rattle.split.proofs.search.walk_copies.Statement.{statement}

@@ -8,7 +8,7 @@ use Rattle.address.specs.Limits.{max_blocks}
 use Rattle.model.specs.Held.{wanted}
 use Rattle.image.specs.declared.Meta.{Meta}
 use Rattle.image.specs.Layout.{meta_of}
-use Rattle.image.specs.BoundLaws.{max-small}
+use Rattle.image.proofs.BoundLaws.{max-small}
 use Rattle.split.specs.BeginLaws.{field_next}
 use Rattle.split.proofs.step.is_wanted.Statement.{statement}
 use Rattle.split.proofs.step.is_wanted.Tie as tie

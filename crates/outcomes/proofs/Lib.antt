@@ -1,0 +1,14 @@
+pub mod OutcomeLaws
+pub mod OutcomeIndexLaws
+pub mod OutcomeSoundLaws
+pub mod NumberLaws
+pub mod OutcomeHistoryLaws
+pub mod OutcomeMachineLaws
+pub mod Demand3Theorem
+pub mod InUseLaws
+pub mod SqueezeLaws
+pub mod SqueezeTheorem
+pub mod BusyTheorem
+pub mod RoomLaws
+pub mod RoomTheorem
+pub mod CardsLaws
