@@ -1,11 +1,11 @@
 -- Where a hash code goes when max bucket grows by one: it keeps its bucket, or goes from the bucket that splits to the new one.
-use Rattle.std.specs.Prelude.{◌≡◌, refl, ◌≢◌, Bool, true, false, cond, ℕ, suc, pred, ◌-◌, ◌*◌, ◌%◌, ◌^◌, ◌≤◌, ◌<◌, leb, T}
+use Rattle.std.specs.Prelude.{◌≡◌, refl, ◌≢◌, Bool, true, false, cond, ℕ, suc, pred, ◌-◌, ◌*◌, ◌%◌, ◌^◌, ◌≤◌, ◌<◌, leb}
 use Rattle.std.proofs.Common.{sym, ap, ◌∙◌, mod-lt, mod-eq_of_lt, one-add, arith, leb→le, pow_pos}
 use Rattle.std.proofs.Math.Nat.{mod-eq-sub-mod, pow-succ'}
 use Rattle.std.proofs.Math.Decide.{dec_lt, dec_le}
 use Rattle.std.proofs.Math.Dec.{nleb→lt}
 use Rattle.std.proofs.Math.Pow.{mod-mod-pow}
-use Rattle.address.specs.Address.{power, mask_digits, bucket_of, split_from, bit_length}
+use Rattle.address.specs.Address.{power, mask_digits, bucket_of, split_from}
 use Rattle.address.specs.OverLaws.{Over, over-unique, power-grows}
 use Rattle.address.specs.MaskLaws.{mask_is, mask-suc, low_digits, high-double, low-size, digits-mask}
 

@@ -5,14 +5,13 @@ use Rattle.std.proofs.Common.{◌∙◌, arith}
 use Rattle.std.proofs.Math.Decide.{dec_lt}
 use Rattle.std.proofs.Math.Dec.{eqb}
 use Rattle.std.proofs.Math.ListN.{get_or}
-use Rattle.lists.specs.Lists.{find, up_from}
 use Rattle.lists.specs.RunLaws.{find-same}
 use Rattle.address.specs.Address.{first_over, power, buckets_at, point, bucket_point, bucket_block, bit_point}
 use Rattle.address.specs.Address.{bit_block, made}
 use Rattle.address.specs.Role.{role_from, role_of}
 use Rattle.address.specs.Before.{point_before, bucket_before, bit_before, made_before, role_before, AsBefore}
 use Rattle.address.specs.PhaseLaws.{buckets-low}
-use Rattle.address.specs.OverLaws.{Over, over-is, over-unique, power-grows, buckets-grow, buckets-mono}
+use Rattle.address.specs.OverLaws.{Over, over-is, over-unique, power-grows, buckets-mono}
 use Rattle.address.specs.BlockLaws.{point-is, bucket_point-is, bit_point-is}
 
 -- the smallest number by either function, where it is below 10 by the one

@@ -1,7 +1,7 @@
 -- Blocks of buckets and overflow bits: each its own, past the meta block and below the made ones; more spares move none.
-use Rattle.std.specs.Prelude.{◌≡◌, ◌≢◌, Bool, true, false, List, ltb, T}
+use Rattle.std.specs.Prelude.{◌≡◌, ◌≢◌, Bool, true, false, List, ltb}
 use Rattle.std.proofs.Math.Path.{refl, subst}
-use Rattle.std.proofs.Common.{sym, ap, ltb→lt, nltb→le}
+use Rattle.std.proofs.Common.{sym, ltb→lt, nltb→le}
 use Prim.Native.Nat.{ℕ, zero, suc, pred, ◌+◌, ◌≤◌, ◌<◌}
 use native.Mathlib.Omega.{arith}
 use Rattle.std.proofs.Math.Decide.{dec_le, dec_lt}

@@ -2,7 +2,7 @@
 use Rattle.std.specs.Prelude.{◌≡◌, refl, List, ℕ, ◌≤◌, ◌<◌}
 use Rattle.std.proofs.Common.{arith}
 use Rattle.std.proofs.Math.Decide.{dec_lt}
-use Rattle.address.specs.Address.{buckets_at, point, made}
+use Rattle.address.specs.Address.{buckets_at, made}
 use Rattle.address.specs.Limits.{max_blocks, point_bound}
 use Rattle.address.specs.OverLaws.{buckets-mono}
 

@@ -1,5 +1,5 @@
 -- The buckets in all at a point: a power of two up to point 9, and from 10 on five to eight quarters of one.
-use Rattle.std.specs.Prelude.{◌≡◌, ℕ, suc, ◌+◌, ◌-◌, ◌*◌, ◌/◌, ◌%◌, ◌^◌, ◌<◌, ltb}
+use Rattle.std.specs.Prelude.{◌≡◌, ℕ, suc, ◌+◌, ◌-◌, ◌*◌, ◌/◌, ◌%◌, ◌^◌, ◌<◌}
 use Rattle.std.proofs.Math.Nat.{pow-succ'}
 use Rattle.std.proofs.Common.{add-mul, arith, lt-ltb, le-ltb}
 use Rattle.address.specs.Address.{phased, buckets_at}

@@ -1,5 +1,5 @@
 -- Spares that grow: by an overflow page at the overflow point, or by a point. They keep their rule and move no block.
-use Rattle.std.specs.Prelude.{◌≡◌, Bool, cond, List, [], ◌∷◌, ◌++◌, ltb, T, length, set}
+use Rattle.std.specs.Prelude.{◌≡◌, Bool, cond, List, [], ◌∷◌, ◌++◌, ltb, set}
 use Rattle.std.proofs.Math.Path.{refl, ap}
 use Rattle.std.proofs.Common.{sym, ◌∙◌, lt-ltb, ltb→lt, nltb→le, length-set, length-append, get_or-set_same, get_or-set_other}
 use Rattle.std.proofs.Math.Bool.{true, false}

@@ -1,4 +1,5 @@
 // Document 01, "Where things stand": the bucket of a hash code, and the blocks of buckets and overflow bits.
+#![tactic(auto)]
 
 pub mod limits; // limits.rt: the largest N
 

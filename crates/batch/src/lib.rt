@@ -1,5 +1,7 @@
 // A list of calls, encoded as numbers, run one after the other through the public functions: what demand 3 says of
 // lists of calls after an accepted format, it says of this function (specs/Demand3Theorem.antt).
+#![tactic(auto)]
+
 ghost use Rattle.std.specs.Prelude.{◌≡◌, ◌++◌, ◌+◌, ◌*◌, ◌/◌, ◌≤◌, min, length, take, drop};
 ghost use Rattle.journal.specs.Journal.{disk};
 ghost use Rattle.outcomes.specs.Outcomes.{lookup_outcome};

@@ -1,5 +1,7 @@
 // Chains of blocks in a store of legal length, whatever its bytes: walks, searches along a walk that stays inside the
 // store, the lowest free bit.
+#![tactic(auto)]
+
 pub mod links; // links.rt: the blocks of a chain
 pub mod search; // search.rt: a pair in a chain, the first page with room
 pub mod counting; // counting.rt: the number of pairs of a hash code

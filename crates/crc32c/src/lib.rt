@@ -1,4 +1,6 @@
 // CRC-32C (RFC 3720), a byte at a time from a table.
+#![tactic(auto)]
+
 mod table; // table.rt: what eight single-bit steps make of each byte
 
 ghost use Rattle.std.specs.Prelude.{◌≡◌, ◌++◌, ◌*◌, ◌/◌, length, drop};

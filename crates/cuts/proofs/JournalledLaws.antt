@@ -5,7 +5,7 @@ use Rattle.std.proofs.Common.{sym, ◌∙◌, subst}
 use Rattle.lists.specs.Bytes.{Bytes}
 use Rattle.model.specs.declared.WorkAnswer.{WorkAnswer}
 use Rattle.model.specs.Index.{Index}
-use Rattle.model.specs.Steps.{Step, next, stopped, Worked, iterate}
+use Rattle.model.specs.Steps.{Step, next, stopped, iterate}
 use Rattle.model.specs.Calls.{Result, done, refused, pair_ok, budget_ok, insert, remove}
 use Rattle.model.specs.Machine.{Call, formatting, inserting, removing, looking, working, squeezing, asking, CallFits}
 use Rattle.model.specs.Machine.{Kind, of_splits, of_squeeze, plain, worked, Ran, step_index}

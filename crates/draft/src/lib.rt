@@ -1,4 +1,6 @@
 // A change of some blocks that is being built: planning reads the store and edits copies of the blocks that change.
+#![tactic(auto)]
+
 pub mod open; // open.rt: a block's copy, at its place in the change
 pub mod trim; // trim.rt: blocks that are not altered
 pub mod pages; // pages.rt: pages and unused blocks

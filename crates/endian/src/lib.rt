@@ -1,4 +1,6 @@
 // Little-endian numbers at a place of a byte slice.
+#![tactic(auto)]
+
 pub mod raw; // raw.rt: bytes copied, made zero and tested for zero
 
 ghost use Rattle.std.specs.Prelude.{◌≡◌, ◌+◌, ◌≤◌, ◌<◌, length};

@@ -8,7 +8,7 @@ use Prim.Native.Nat.{ℕ, suc, ◌≤◌}
 use Rattle.lists.specs.Lists.{all, bind}
 use Rattle.lists.specs.ListsLaws.{and_left}
 use Rattle.lists.specs.RunLaws.{all-get}
-use Rattle.lists.specs.Block.{blocks, block}
+use Rattle.lists.specs.Block.{block}
 use Rattle.page.specs.Rule.{page_ok}
 use Rattle.model.specs.Index.{entries_at}
 use Rattle.image.specs.declared.Meta.{Meta}

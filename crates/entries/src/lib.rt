@@ -1,5 +1,7 @@
 // The entries of an index: what stands in its pages, rules 5, 7 and 8. Each is proved equal to the rule's definition
 // under the rules before it.
+#![tactic(auto)]
+
 pub mod next; // next.rt: a merge of all entries of pages, and its next entry
 pub mod pages; // pages.rt: rule 5, pages, and no pair twice in a chain
 pub mod marks; // marks.rt: rule 7, the marks of copies

@@ -17,7 +17,6 @@ use Rattle.address.specs.MaskLaws.{mask_is, high-double, low-size}
 use Rattle.address.specs.BlockLaws.{point-is, point-pos, spares-mono}
 use Rattle.model.specs.Index.{Page, Chain, no_chain, Job, idle, copying, clearing, Index, top_bit}
 use Rattle.model.specs.Pages.{bits_of, free_bit, first_free}
-use Rattle.model.specs.Held.{count}
 use Rattle.model.specs.WellFormed.{Laid, WF}
 use Rattle.model.proofs.LaidLaws.{free-bit}
 use Rattle.model.proofs.BoundLaws.{laid-room, laid-point, count-le}

@@ -36,7 +36,7 @@ use Rattle.image.specs.Layout.{
 }
 use Rattle.store.specs.Flags.{no_link}
 use Rattle.image.specs.Decode.{max_at, role_at}
-use Rattle.image.specs.Rules.{unused, unlinked, bucket_flags_ok, fits, rule3}
+use Rattle.image.specs.Rules.{unlinked, bucket_flags_ok, fits, rule3}
 use Rattle.lists.specs.TestLaws.{cond-put}
 use Rattle.image.specs.PagedLaws.{
   prev-paged,

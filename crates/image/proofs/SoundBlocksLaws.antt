@@ -13,7 +13,7 @@ use Rattle.lists.specs.RunLaws.{all-get}
 use Rattle.lists.specs.Bytes.{Bytes}
 use Rattle.lists.specs.Block.{blocks, block}
 use Rattle.lists.specs.BlockLaws.{length-block, Bytes-block}
-use Rattle.address.specs.Address.{buckets_at, split_from, bit_block, made}
+use Rattle.address.specs.Address.{buckets_at, split_from, bit_block}
 use Rattle.address.specs.Role.{Role, meta, bucket_page, bit_page, unmade, RoleIs}
 use Rattle.address.specs.RoleLaws.{role-is, role-bucket}
 use Rattle.address.specs.BlockLaws.{point-pos, point-is, bit-made, bucket-made}

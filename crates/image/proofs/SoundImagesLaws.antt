@@ -13,7 +13,7 @@ use Rattle.lists.specs.Lists.{b2n, all, find}
 use Rattle.lists.specs.ListsLaws.{and_left, and_right, each-find, find-no, find-yes}
 use Rattle.lists.specs.RunLaws.{all-get}
 use Rattle.lists.specs.Block.{blocks, block}
-use Rattle.address.specs.Address.{last_split, point, bit_block}
+use Rattle.address.specs.Address.{last_split, bit_block}
 use Rattle.address.specs.Role.{Role, meta, bucket_page, bit_page, unmade, RoleIs}
 use Rattle.page.specs.Entries.{encode_page}
 use Rattle.store.specs.Store.{prev_at, next_at, bucket_at, flags_at, id_at, covered, number_at}

@@ -1,4 +1,5 @@
 // The fields of a meta block but for its magic and edition, and what a store is found to be.
+#![tactic(auto)]
 
 #[derive(Clone, Copy)]
 pub struct Meta {

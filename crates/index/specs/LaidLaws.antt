@@ -20,7 +20,7 @@ use Rattle.outcomes.proofs.OutcomeLaws.{step-read}
 use Rattle.journal.specs.Journal.{disk}
 use Rattle.journal.specs.Altered.{stores_to}
 use Rattle.journal.specs.Planned.{plan_to, plan_over}
-use Rattle.cuts.specs.Halves.{Planned, answering, planned_to, planned_as, planned_step}
+use Rattle.cuts.specs.Halves.{answering, planned_to, planned_as, planned_step}
 use Rattle.plan.specs.declared.Advance.{Advance}
 use Rattle.plan.specs.Plan.{Plans, Settles, accepted, declined, Advances, advanced, halted}
 use Rattle.index.specs.WrittenLaws.{none-lays}

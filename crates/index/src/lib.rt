@@ -1,4 +1,6 @@
 // The public calls of the index.
+#![tactic(auto)]
+
 pub mod in_use; // in_use.rt: whether a store is in use
 pub mod format; // format.rt: a store made new
 pub mod read; // read.rt: lookup and standing

@@ -3,7 +3,7 @@ use Rattle.std.specs.Prelude.{◌≡◌, refl, ◌≢◌, true, cond, List, [], 
 use Rattle.std.proofs.Common.{sym, ap, ap₂, ◌∙◌, subst, arith}
 use Rattle.lists.specs.ListsLaws.{eqb_yes, eqb_no}
 use Rattle.lists.specs.Block.{blocks, block, set_block}
-use Rattle.address.specs.Address.{point, made}
+use Rattle.address.specs.Address.{point}
 use Rattle.address.specs.BlockLaws.{point-pos, bit-apart}
 use Rattle.page.specs.declared.Entry.{Entry}
 use Rattle.store.specs.declared.Change.{Change}

@@ -18,7 +18,6 @@ use Rattle.image.specs.Decode.{decode}
 use Rattle.image.specs.BitmapLaws.{length-map_front}
 use Rattle.frame.specs.Frame.{Apart, block_of_bit, map_block, last_place}
 use Rattle.frame.specs.ApartLaws.{page-map}
-use Rattle.frame.specs.ChainLaws.{Free}
 use Rattle.frame.specs.FreshLaws.{more_spares, next-block, frame_fresh, fresh-blocks}
 use Rattle.frame.specs.ImagesLaws.{top_one, map-image}
 use Rattle.chain.specs.declared.Free as chain

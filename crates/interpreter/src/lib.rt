@@ -1,4 +1,6 @@
 // The script program's library: a script's bytes to its output's bytes, piece by piece.
+#![tactic(auto)]
+
 mod answers; // answers.rt: answers as text
 mod lent; // lent.rt: the calls that change a store, lent a journal
 mod calls; // calls.rt: the call of a line, on the store that stands

@@ -1,5 +1,5 @@
 -- A planned change, which lists exactly the blocks that it alters, has the images and the plan of the change to t.
-use Rattle.std.specs.Prelude.{◌≡◌, refl, ◌≢◌, ℕ, zero, suc, ◌+◌, ◌*◌, ◌≤◌, ◌<◌, length}
+use Rattle.std.specs.Prelude.{◌≡◌, refl, ◌≢◌, ℕ, zero, suc, ◌*◌, ◌≤◌, ◌<◌, length}
 use Rattle.std.proofs.Math.Path.{sym, ap, ap₂}
 use Rattle.std.proofs.Common.{◌∙◌, arith, get_or-take, length-take-le}
 use Rattle.std.proofs.Math.Logic.{⊎_elim}
@@ -14,7 +14,7 @@ use Rattle.store.specs.Store.{sealed}
 use Rattle.store.specs.Change.{commits, Fits}
 use Rattle.store.specs.CopyLaws.{find_at_lem}
 use Rattle.store.proofs.ChangeLaws.{block-commits, block-commits-rest, length-commits}
-use Rattle.journal.specs.Journal.{head_bytes, head, ending, wiped, stores}
+use Rattle.journal.specs.Journal.{head_bytes, head, ending, wiped}
 use Rattle.journal.specs.Altered.{altered, images_of}
 use Rattle.journal.specs.Planned.{plan_to}
 use Rattle.journal.specs.PartLaws.{block-take}

@@ -1,4 +1,6 @@
 // A line of the script read as a command.
+#![tactic(auto)]
+
 pub mod words; // words.rt: the words of a line, numbers
 pub mod commands; // commands.rt: a line as a command
 

@@ -10,7 +10,7 @@ use Rattle.std.proofs.Math.Seq.{get_or-take, get_or-drop, take_at, get_or-append
 use Rattle.lists.specs.Lists.{bind, up_from}
 use Rattle.lists.specs.Bytes.{Bytes}
 use Rattle.lists.specs.BytesLaws.{Bytes-take, Bytes-drop}
-use Rattle.lists.specs.Block.{blocks, block, set_block}
+use Rattle.lists.specs.Block.{block, set_block}
 
 -- two numbers are in order or not
 order : (a b : ℕ) → (a < b) ⊎ (b ≤ a)

@@ -1,5 +1,7 @@
 // Sorted pages merged: again and again the page whose first entry left comes first, by a winner tree. Nothing is
 // allocated; of n pages an entry costs about log2 n comparisons, and inside a run of one page's entries one.
+#![tactic(auto)]
+
 pub mod tree; // tree.rt: the page that is ahead of all others
 pub mod heads; // heads.rt: what stands first in what is left of each page
 pub mod walks; // walks.rt: the pages of two walks

@@ -1,6 +1,6 @@
 -- What rule 2's test of the spares says of them.
 use Rattle.std.specs.Prelude.{◌≡◌, refl, Bool, false, List, leb, eqb, length, get_or, take}
-use Rattle.std.proofs.Common.{ap, ◌∙◌, arith, length-take-le}
+use Rattle.std.proofs.Common.{◌∙◌, arith, length-take-le}
 use Rattle.std.proofs.Math.Bool.{true}
 use Prim.Native.Nat.{ℕ, zero, suc, ◌-◌, ◌≤◌, ◌<◌}
 use Rattle.std.proofs.Math.Decide.{dec_le}

@@ -1,5 +1,5 @@
 -- The book is a set, strictly ascending; what each effect does to what it has.
-use Rattle.std.specs.Prelude.{◌≡◌, refl, Bool, true, false, cond, not, ◌&&◌, ◌||◌, [], ◌∷◌, ℕ}
+use Rattle.std.specs.Prelude.{◌≡◌, refl, Bool, true, false, cond, not, ◌&&◌, ◌||◌, [], ◌∷◌}
 use Rattle.std.proofs.Common.{ap, ◌∙◌}
 use Rattle.lists.specs.ListsLaws.{any-no}
 use Rattle.page.specs.declared.Pair.{Pair}

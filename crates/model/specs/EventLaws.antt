@@ -1,6 +1,6 @@
 -- The book of a list's last moment is what its events make of it, so it has a pair exactly when the latest accepted
 -- call that bears on the pair put it in.
-use Rattle.std.specs.Prelude.{◌≡◌, refl, Bool, true, false, cond, not, ◌&&◌, ◌||◌, List, [], ◌∷◌, ℕ}
+use Rattle.std.specs.Prelude.{◌≡◌, refl, Bool, true, false, cond, not, ◌&&◌, ◌||◌, List, [], ◌∷◌}
 use Rattle.std.proofs.Common.{ap, ap₂, ◌∙◌}
 use Rattle.std.proofs.Math.Option.{Option, none, some, get_or}
 use Rattle.page.specs.declared.Pair.{Pair}

@@ -1,4 +1,6 @@
 // The types of the calls' numbers and answers. The papers' number of each answer is a definition in specs/Answers.antt.
+#![tactic(auto)]
+
 pub mod numbers; // numbers.rt: the numbers of answers, in code
 
 // The numbers that a caller gives format: the fill, the store number, and whether it overwrites a store in use (1) or

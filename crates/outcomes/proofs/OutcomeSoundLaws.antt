@@ -20,7 +20,7 @@ use Rattle.model.proofs.FormatLaws.{format-wf}
 use Rattle.model.proofs.MachineLaws.{never}
 use Rattle.image.specs.Layout.{encode}
 use Rattle.image.specs.Rules.{sound, verdict}
-use Rattle.outcomes.specs.Outcomes.{passed, judged, tested, store_in_use, Changed, changed, format_replacing}
+use Rattle.outcomes.specs.Outcomes.{passed, tested, store_in_use, Changed, changed, format_replacing}
 use Rattle.image.specs.Rules.{length_ok}
 use Rattle.outcomes.specs.Outcomes.{format_outcome, step_on, run_store, step_store}
 use Rattle.image.proofs.BridgeTheorem.{sound-is-encoding, encoding-is-sound}

@@ -2,7 +2,7 @@
 -- order is 1, 2, 3, 4, 8, 5 or 6, 7. Format tests 1, 2 and 12 only, in this order. Every refusal leaves store and
 -- output untouched, but for work and squeeze (6.7, 6.13). Squeeze tests 1, 2 (the budget), 3, 4, 2 (the bucket), 11,
 -- in this order."
-use Rattle.std.specs.Prelude.{Bool, true, false, cond, not, ◌&&◌, List, ℕ, length}
+use Rattle.std.specs.Prelude.{Bool, true, false, cond, not, ◌&&◌, List, ℕ}
 use Rattle.std.proofs.Math.Option.{Option, none, some}
 use Rattle.lists.specs.Block.{blocks}
 use Rattle.endian.specs.Endian.{u32_at}

@@ -7,9 +7,7 @@ use native.Mathlib.Numerals.{add-one}
 use native.Mathlib.Omega.{arith}
 use borrow.Author.Tests.{not-true, not-false}
 use lib.Dec.{eqb}
-use lib.ListN.{take}
 use Rattle.lists.specs.Lists.{all, up_from}
-use Rattle.lists.specs.Bytes.{part}
 use Rattle.endian.specs.Endian.{u16_at}
 use Rattle.page.specs.declared.Entry.{Entry}
 use Rattle.page.specs.Pair.{before, bad_pair, pair_of, ascending}

@@ -1,4 +1,6 @@
 // Entries of a 512-byte page: the number of entries at 0, entries of 12 bytes from 4.
+#![tactic(auto)]
+
 pub mod order; // order.rt: which of two pairs, or of two numbers, stands first
 pub mod slots; // slots.rt: one entry of a page
 pub mod run; // run.rt: what a run tells: its entries, the place of a pair among them

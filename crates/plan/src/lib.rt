@@ -1,4 +1,6 @@
 // What a call or a step would change, as a change of some blocks: planning reads the store and writes nothing to it.
+#![tactic(auto)]
+
 ghost use Rattle.std.specs.Prelude.{◌≡◌};
 ghost use Rattle.model.specs.declared.Answer.{Answer};
 ghost use Rattle.plan.specs.declared.Advance.{Advance};

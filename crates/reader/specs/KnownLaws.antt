@@ -3,7 +3,7 @@ use Rattle.std.specs.Prelude.{◌≡◌, List, ℕ, suc, ◌+◌, ◌*◌, ◌�
 use Rattle.std.proofs.Common.{sym, ap, subst, ◌∙◌, arith}
 use Rattle.lists.specs.Block.{blocks, block}
 use Rattle.lists.specs.BlockLaws.{length-block}
-use Rattle.address.specs.Address.{buckets_at, point, bucket_block, bit_block, made}
+use Rattle.address.specs.Address.{buckets_at, bucket_block, bit_block, made}
 use Rattle.address.specs.Role.{SparesOk, role_of, RoleIs}
 use Rattle.address.specs.BlockLaws.{point-pos}
 use Rattle.address.specs.SparesLaws.{top_pos}

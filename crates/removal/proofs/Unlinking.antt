@@ -15,7 +15,7 @@ use Rattle.store.specs.Flags.{no_link}
 use Rattle.draft.specs.Draft.{Ready, Edited}
 use Rattle.draft.specs.DraftLaws.{length-draft}
 use Rattle.plan.specs.Sketch.{Sketch}
-use Rattle.plan.specs.SketchLaws.{ready, edited, sketch-here, sketch-there, sketch-more}
+use Rattle.plan.specs.SketchLaws.{ready, sketch-here, sketch-there, sketch-more}
 use Rattle.removal.specs.ShowLaws.{sketch-wider}
 use Rattle.removal.specs.Freeing.{Linkable, Linked, Freeable, Freeing}
 

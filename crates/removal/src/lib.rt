@@ -1,4 +1,6 @@
 // Plans removals: a pair out of its bucket's chain and, while copying, out of both chains of the job.
+#![tactic(auto)]
+
 pub mod pages; // pages.rt: an entry out of its page, an emptied page freed
 pub mod ending; // ending.rt: the bitmap and the meta block
 

@@ -1,4 +1,6 @@
 // The steps of a split, planned: its begin, one entry copied or cleared, and the ends of copying and clearing.
+#![tactic(auto)]
+
 mod cursor; // cursor.rt: the page that a search begins at
 mod search; // search.rt: the entry that a step moves
 mod job; // job.rt: the ends of copying and clearing

@@ -1,4 +1,6 @@
 // A squeeze's step, planned: the last entry of a chain's last page goes to the first earlier page with room.
+#![tactic(auto)]
+
 ghost use Rattle.std.specs.Prelude.{◌≡◌, cond, ◌||◌, ℕ, ◌≤◌, eqb, length};
 ghost use Rattle.store.specs.Store.{prev_at};
 ghost use Rattle.model.specs.Squeeze.{moved_to, squeeze_step, is_busy};

@@ -1,4 +1,5 @@
 // Blocks of a store: their trailers and checks, and a change of some of them.
+#![tactic(auto)]
 
 pub mod flags; // flags.rt: the flags, the page id and "none" by name
 

@@ -1,5 +1,7 @@
 // Numbers and lines of output as text. Each function writes from `at` or from the output's start on, and answers where
 // it ended.
+#![tactic(auto)]
+
 ghost use Rattle.std.specs.Prelude.{◌≡◌, ◌+◌, ◌*◌, ◌≤◌, ◌<◌, length, drop};
 ghost use Rattle.lists.specs.Lists.{bind, up_from};
 ghost use Rattle.text.specs.Digits.{digits};

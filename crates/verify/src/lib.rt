@@ -1,5 +1,7 @@
 // What a store is: of bad length, damaged, not an index, or sound. The rules one by one stand in the crates `meta` (1
 // and 2), `shape` (3, 4 and 6) and `entries` (5, 7 and 8).
+#![tactic(auto)]
+
 ghost use Rattle.std.specs.Prelude.{◌≡◌, true};
 ghost use Rattle.image.specs.Rules.{rule1, lowest_broken, verdict};
 ghost use Rattle.outcomes.specs.Outcomes.{verdict_of, verify_outcome};

@@ -1,4 +1,6 @@
 // A sound store read as its index: the pending job, the chains of its buckets, where pairs are held, and lookups.
+#![tactic(auto)]
+
 pub mod chains; // chains.rt: the chain of a bucket
 pub mod job; // job.rt: the pending job, standing
 pub mod held; // held.rt: the held entry of a pair

@@ -2,7 +2,7 @@ use mathlib.Core.Path.{◌≡◌, refl, sym, ap, ◌∙◌}
 use Prim.Native.Nat.{ℕ, zero, suc, ◌+◌, ◌-◌, ◌≤◌}
 use native.Mathlib.Omega.{arith}
 use borrow.Author.Rules.{rules}
-use borrow.Author.Tests.{eqb-true, eqb-false}
+use borrow.Author.Tests.{eqb-false}
 use Rattle.address.specs.Address.{split_from, last_split}
 use Rattle.address.specs.LastSplitLaws.{last_none, last-far, last-own}
 use Rattle.address.proofs.last_split.Statement.{statement}
@@ -19,8 +19,8 @@ returns c =
     let max = c.before.args.max in
     let b = c.before.args.bucket in
     elim c.then-max-bucket.branch [
-      then-max-bucket-via-then-max-bucket w ↦ sym (last_none max b w.if-max-bucket.true)
-    | then-max-bucket-via-else-max-bucket+then-max-eq0 w ↦ sym (at_zero max b w.if-max-eq0.true)
+      | then-max-bucket-via-then-max-bucket w ↦ sym (last_none max b w.if-max-bucket.true)
+      | then-max-bucket-via-else-max-bucket+then-max-eq0 w ↦ sym (at_zero max b w.if-max-eq0.true)
     ]
 
 parent-of-requires : tie.Need-parent_of-requires

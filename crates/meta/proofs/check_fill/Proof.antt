@@ -1,4 +1,3 @@
-use native.Mathlib.Omega.{arith}
 use borrow.Author.Tests.{le-leb, lt-leb}
 use Rattle.meta.proofs.check_fill.Statement.{statement}
 use Rattle.meta.proofs.check_fill.Tie as tie

@@ -1,7 +1,6 @@
 use mathlib.Core.Path.{◌≡◌, ◌∙◌}
 use mathlib.Core.Bool.{true, false}
 use borrow.Author.Tests.{eq-eqb, ne_eqb, not-true, not-false}
-use lib.Dec.{eqb}
 use Rattle.lists.specs.Bytes.{part, all_zero}
 use Rattle.endian.specs.Endian.{u32_at}
 use Rattle.image.specs.Rules.{front_ok}

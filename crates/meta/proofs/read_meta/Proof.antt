@@ -1,4 +1,3 @@
-use mathlib.Core.Path.{◌≡◌}
 use Rattle.image.specs.Decode.{read_meta}
 use borrow.Author.Rules.{rules}
 use Rattle.meta.proofs.read_meta.Statement.{statement}

@@ -35,13 +35,12 @@ halt-requires : tie.Need-halt-requires
 halt-requires c κs = search rules
 
 returns : tie.Need-returns-in_default
-returns c =
-    (
-      λ b w.
-          halts (decode c.args.store.now) b (sym c.in_default.is ∙ c.find_spot-spot.ensures b w)
-          c.halt.ensures.0 c.halt.ensures.1,
-      λ b w e. never ( cc),
-    )
+returns c = (
+  λ b w.
+      halts (decode c.args.store.now) b (sym c.in_default.is ∙ c.find_spot-spot.ensures b w)
+      c.halt.ensures.0 c.halt.ensures.1,
+  λ b w e. never (cc),
+)
 
 -- ---- the last page and the page with room
 

@@ -1,5 +1,4 @@
 use mathlib.Core.Path.{refl}
-use native.Mathlib.Omega.{arith}
 use Rattle.text.proofs.Parts.{put-part}
 use borrow.Author.Rules.{rules}
 use Rattle.text.proofs.put_bytes.Statement.{statement}

@@ -1,4 +1,3 @@
-use mathlib.Core.Path.{◌≡◌}
 use native.Mathlib.Omega.{arith}
 use Rattle.text.specs.Text.{place_text}
 use Rattle.text.specs.TextLaws.{then-wrote, digits-16, digits-32}

@@ -1,4 +1,4 @@
-use mathlib.Core.Path.{◌≡◌, refl, sym, ap, ◌∙◌}
+use mathlib.Core.Path.{◌≡◌, sym, ap, ◌∙◌}
 use mathlib.Core.List.{List, [], ◌++◌, append-nil}
 use Prim.Native.Nat.{ℕ, ◌≤◌}
 use native.Mathlib.Omega.{arith}
@@ -47,12 +47,11 @@ same_length : tie.Need-shape_of-space-then-rest-eq0 invariant-loop decreases-loo
 same_length c = simp length-set (omega arith)
 
 returns : tie.Need-returns-then-rest-eq0 invariant-loop decreases-loop
-returns c =
-    (
-      omega arith,
-      spell_last c.args.n c.loop-rest.rest c.loop-rest.at c.loop-rest.space (room c.before)
-          (omega arith) c.loop-rest.invariant.4 c.if-rest-eq0.true,
-    )
+returns c = (
+  omega arith,
+  spell_last c.args.n c.loop-rest.rest c.loop-rest.at c.loop-rest.space (room c.before)
+      (omega arith) c.loop-rest.invariant.4 c.if-rest-eq0.true,
+)
 
 loop-less : tie.Need-loop-rest-smaller invariant-loop decreases-loop
 loop-less c = omega (arith, room c.before)

@@ -1,6 +1,5 @@
 use mathlib.Core.Path.{◌≡◌, sym, ◌∙◌}
 use mathlib.Core.Bool.{true, false}
-use borrow.Author.Rules.{rules as goals}
 use borrow.Author.Tests.{not-true, not-false}
 use Rattle.image.specs.Rules.{rule3, rule4, rule5, rule6, rule7, rule8, rules, lowest_broken}
 use Rattle.shape.specs.Known.{Known3, Known4, Known5}

@@ -70,15 +70,14 @@ returns-2 c =
     rw (one c.before.before.before, broken)
 
 judge-blocks-requires : tie.Need-judge_blocks-requires
-judge-blocks-requires c κs =
-    (
-      one c.before.before.before,
-      record {
-        whole = c.requires;
-        meta = read c.before.before;
-        holds = fields c.before ∙ not-false c.check_meta.result c.if-not-check_meta.false-raw;
-      },
-    )
+judge-blocks-requires c κs = (
+  one c.before.before.before,
+  record {
+    whole = c.requires;
+    meta = read c.before.before;
+    holds = fields c.before ∙ not-false c.check_meta.result c.if-not-check_meta.false-raw;
+  },
+)
 
 returns-3 : tie.Need-returns
 returns-3 c = search goals

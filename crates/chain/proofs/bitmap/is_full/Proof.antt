@@ -45,8 +45,8 @@ loop-again c =
       omega arith,
       omega arith,
       elim c.if-map-i.branch [
-        then-map-i w ↦ λ e. absurd (false≢true (sym w.full-is ∙ e))
-      | else-map-i w ↦ λ e. ones-more a.map.now a.at l.i (l.invariant.2 (sym w.full-is ∙ e)) w.if-map-i.false
+        | then-map-i w ↦ λ e. absurd (false≢true (sym w.full-is ∙ e))
+        | else-map-i w ↦ λ e. ones-more a.map.now a.at l.i (l.invariant.2 (sym w.full-is ∙ e)) w.if-map-i.false
       ],
     )
 

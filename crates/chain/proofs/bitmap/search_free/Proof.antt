@@ -88,10 +88,10 @@ loop-again c =
     let i = c.loop-i.i in
     let passed : free_from map (8 * i) ≡ free_from map (8 * i + 8) =
     elim c.if-map-i.branch [
-      then-map-i+else-loop-j-test b ↦
-        let e : 8 * i + b.loop-j.j ≡ 8 * i + 8 = omega (arith, b.loop-j.invariant.0, b.loop-j-test.false) in
-        sym c.loop-i.invariant.1 ∙ b.loop-j.invariant.1 ∙ ap (free_from map) e
-    | else-map-i b ↦ free-byte map i (omega arith) (omega (arith, b.if-map-i.false))
+      | then-map-i+else-loop-j-test b ↦
+          let e : 8 * i + b.loop-j.j ≡ 8 * i + 8 = omega (arith, b.loop-j.invariant.0, b.loop-j-test.false) in
+          sym c.loop-i.invariant.1 ∙ b.loop-j.invariant.1 ∙ ap (free_from map) e
+      | else-map-i b ↦ free-byte map i (omega arith) (omega (arith, b.if-map-i.false))
     ] in
     let e : 8 * i + 8 ≡ 8 * (i + 1) = omega arith in
     (omega arith, c.loop-i.invariant.1 ∙ passed ∙ ap (free_from map) e)

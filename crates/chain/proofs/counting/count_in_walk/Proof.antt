@@ -53,21 +53,19 @@ loop-less : tie.Need-loop-i-smaller invariant-loop decreases-loop
 loop-less c = omega arith
 
 loop-again : tie.Need-loop-i-preserved invariant-loop decreases-loop
-loop-again c =
-    (
-      omega (arith, c.loop-i-test.true),
-      bound c,
-      count_turn c.requires.0 (is_match c.args.hash c.args.fresh) c.loop-i.i c.loop-i.n c.loop-i.invariant.2
-          c.loop-i-test.true c.page_on.ensures c.count_in_page-n.result c.count_in_page-n.ensures,
-    )
+loop-again c = (
+  omega (arith, c.loop-i-test.true),
+  bound c,
+  count_turn c.requires.0 (is_match c.args.hash c.args.fresh) c.loop-i.i c.loop-i.n c.loop-i.invariant.2
+      c.loop-i-test.true c.page_on.ensures c.count_in_page-n.result c.count_in_page-n.ensures,
+)
 
 returns : tie.Need-returns invariant-loop decreases-loop
-returns c =
-    (
-      sym (count-end c.requires.0 (is_match c.args.hash c.args.fresh) c.loop-i.i c.loop-i.n c.loop-i.invariant.2
-          c.loop-i-test.false),
-      omega (arith, c.loop-i.invariant.0, c.loop-i.invariant.1),
-    )
+returns c = (
+  sym (count-end c.requires.0 (is_match c.args.hash c.args.fresh) c.loop-i.i c.loop-i.n c.loop-i.invariant.2
+      c.loop-i-test.false),
+  omega (arith, c.loop-i.invariant.0, c.loop-i.invariant.1),
+)
 
 pub count_in_walk_spec : {M : Type 1} → statement M
 count_in_walk_spec =

@@ -63,11 +63,10 @@ block-at-requires-2 : tie.Need-block_at-requires-in-loop-i invariant-loop decrea
 block-at-requires-2 c κs = image-inside c.before
 
 same-bytes-requires : tie.Need-same_bytes-requires invariant-loop decreases-loop
-same-bytes-requires c κs =
-    (
-      ap length c.block_at.ensures ∙ length-block c.args.store.now _ (inside c.before.before),
-      ap length c.block_at-in-loop-i.ensures ∙ length-block c.loop-i.images c.loop-i.i (image-inside c.before.before),
-    )
+same-bytes-requires c κs = (
+  ap length c.block_at.ensures ∙ length-block c.args.store.now _ (inside c.before.before),
+  ap length c.block_at-in-loop-i.ensures ∙ length-block c.loop-i.images c.loop-i.i (image-inside c.before.before),
+)
 
 tested : (c : tie.After-same_bytes invariant-loop decreases-loop) → c.same_bytes.result
     ≡ stands c.args.store.now
@@ -98,18 +97,18 @@ loop-again c =
     let a = c.args in
     let small : l.i < a.change.count = c.loop-i-test.true in
     elim c.if-not-same_bytes.branch [
-      then-not-same_bytes w ↦ (
-      omega arith,
-      rw (w.images-is, w.kept-is)
-          (sort-keep a.images.now c.requires.0 small l.invariant.1 w.keep_image-kept.new.images
-          (sym (tested c.before) ∙ not_yes c.same_bytes.result w.if-not-same_bytes.true-raw) w.keep_image-kept.ensures.0 w.keep_image-kept.ensures.1),
-    )
-    | else-not-same_bytes w ↦ (
-      omega arith,
-      rw (w.images-is, w.kept-is)
-          (sort-drop a.images.now c.requires.0 small l.invariant.1
-          (sym (tested c.before) ∙ not-false c.same_bytes.result w.if-not-same_bytes.false-raw)),
-    )
+      | then-not-same_bytes w ↦ (
+        omega arith,
+        rw (w.images-is, w.kept-is)
+            (sort-keep a.images.now c.requires.0 small l.invariant.1 w.keep_image-kept.new.images
+            (sym (tested c.before) ∙ not_yes c.same_bytes.result w.if-not-same_bytes.true-raw) w.keep_image-kept.ensures.0 w.keep_image-kept.ensures.1),
+      )
+      | else-not-same_bytes w ↦ (
+        omega arith,
+        rw (w.images-is, w.kept-is)
+            (sort-drop a.images.now c.requires.0 small l.invariant.1
+            (sym (tested c.before) ∙ not-false c.same_bytes.result w.if-not-same_bytes.false-raw)),
+      )
     ]
 
 same_length : tie.Need-shape_of-images invariant-loop decreases-loop

@@ -56,16 +56,16 @@ loop-again c =
     let left = alike (drop (l.i + 1) (covered a)) (drop (l.i + 1) (covered b)) in (
       omega arith,
       elim c.if-a-i.branch [
-      then-a-i w ↦ l.invariant.1
-          ∙ ap (λ (t : Bool). l.same && t)
-          (alike-stop (covered a) (covered b) l.i (omega arith) (omega arith) (λ e. w.if-a-i.true (sym ga ∙ e ∙ gb)))
-          ∙ and-false l.same
-          ∙ sym (ap (λ (t : Bool). t && left) w.same-is)
-    | else-a-i w ↦ l.invariant.1
-          ∙ ap (λ (t : Bool). l.same && t)
-          (alike-more (covered a) (covered b) l.i (omega arith) (omega arith) (ga ∙ w.if-a-i.false ∙ sym gb))
-          ∙ sym (ap (λ (t : Bool). t && left) w.same-is)
-    ],
+        | then-a-i w ↦ l.invariant.1
+            ∙ ap (λ (t : Bool). l.same && t)
+            (alike-stop (covered a) (covered b) l.i (omega arith) (omega arith) (λ e. w.if-a-i.true (sym ga ∙ e ∙ gb)))
+            ∙ and-false l.same
+            ∙ sym (ap (λ (t : Bool). t && left) w.same-is)
+        | else-a-i w ↦ l.invariant.1
+            ∙ ap (λ (t : Bool). l.same && t)
+            (alike-more (covered a) (covered b) l.i (omega arith) (omega arith) (ga ∙ w.if-a-i.false ∙ sym gb))
+            ∙ sym (ap (λ (t : Bool). t && left) w.same-is)
+      ],
     )
 
 returns : tie.Need-returns invariant-loop decreases-loop

@@ -36,15 +36,15 @@ loop-again c =
       omega arith,
       omega arith,
       elim c.if-p-i-ne0.branch [
-        then-p-i-ne0 w ↦
-          l.invariant.2
-          ∙ ap (λ (t : Bool). l.zero && t) (other-here p l.i a.to (omega arith) (omega arith) w.if-p-i-ne0.true)
-          ∙ and-false l.zero
-          ∙ sym (ap (λ (t : Bool). t && left) w.zero-is)
-      | else-p-i-ne0 w ↦
-          l.invariant.2
-          ∙ ap (λ (t : Bool). l.zero && t) (zero-here p l.i a.to (omega arith) (omega arith) w.if-p-i-ne0.false)
-          ∙ sym (ap (λ (t : Bool). t && left) w.zero-is)
+        | then-p-i-ne0 w ↦
+            l.invariant.2
+            ∙ ap (λ (t : Bool). l.zero && t) (other-here p l.i a.to (omega arith) (omega arith) w.if-p-i-ne0.true)
+            ∙ and-false l.zero
+            ∙ sym (ap (λ (t : Bool). t && left) w.zero-is)
+        | else-p-i-ne0 w ↦
+            l.invariant.2
+            ∙ ap (λ (t : Bool). l.zero && t) (zero-here p l.i a.to (omega arith) (omega arith) w.if-p-i-ne0.false)
+            ∙ sym (ap (λ (t : Bool). t && left) w.zero-is)
       ],
     )
 

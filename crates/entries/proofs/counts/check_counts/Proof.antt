@@ -3,7 +3,6 @@ use mathlib.Core.Bool.{true, false}
 use borrow.Author.Tests.{not-true, not-false}
 use lib.Dec.{eqb}
 use Rattle.lists.specs.Lists.{all}
-use Rattle.model.specs.Held.{count}
 use Rattle.image.specs.declared.Meta.{Meta}
 use Rattle.image.specs.Rules.{buckets, rule8}
 use Rattle.entries.specs.Counts.{prev_ok}

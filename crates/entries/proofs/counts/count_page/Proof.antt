@@ -53,8 +53,8 @@ loop-again c =
     let turn = ap (tally t) (rest-turn a.page.now c.loop-i.i more) in
     let found : t (entry_at a.page.now c.loop-i.i) ≡ c.is_live.result = sym (c.is_live.ensures ∙ ap t c.get_entry.ensures) in
     elim c.if-is_live.branch [
-      then-is_live w ↦ (omega arith, omega arith, omega (arith, c.loop-i.invariant.2, turn, ap b2n (found ∙ w.if-is_live.true)))
-    | else-is_live w ↦ (omega arith, omega arith, omega (arith, c.loop-i.invariant.2, turn, ap b2n (found ∙ w.if-is_live.false)))
+      | then-is_live w ↦ (omega arith, omega arith, omega (arith, c.loop-i.invariant.2, turn, ap b2n (found ∙ w.if-is_live.true)))
+      | else-is_live w ↦ (omega arith, omega arith, omega (arith, c.loop-i.invariant.2, turn, ap b2n (found ∙ w.if-is_live.false)))
     ]
 
 returns : tie.Need-returns invariant-loop decreases-loop

@@ -44,11 +44,10 @@ zero-tree-requires : tie.Need-zero_tree-new_tree-requires invariant-loop decreas
 zero-tree-requires c κs = tt
 
 start-all-requires : tie.Need-start_all-requires invariant-loop decreases-loop
-start-all-requires c κs =
-    (
-      c.requires.0.0,
-      zero-lent c.zero_keys-new_keys.ensures c.zero_tails-new_tails.ensures c.zero_tree-new_tree.ensures,
-    )
+start-all-requires c κs = (
+  c.requires.0.0,
+  zero-lent c.zero_keys-new_keys.ensures c.zero_tails-new_tails.ensures c.zero_tree-new_tree.ensures,
+)
 
 zero-keys-requires-2 : tie.Need-zero_keys-keys-requires invariant-loop decreases-loop
 zero-keys-requires-2 c κs = tt
@@ -60,11 +59,10 @@ zero-tree-requires-2 : tie.Need-zero_tree-tree-requires invariant-loop decreases
 zero-tree-requires-2 c κs = tt
 
 start-all-requires-2 : tie.Need-start_all-requires-2 invariant-loop decreases-loop
-start-all-requires-2 c κs =
-    (
-      c.requires.1.0,
-      zero-lent c.zero_keys-keys.ensures c.zero_tails-tails.ensures c.zero_tree-tree.ensures,
-    )
+start-all-requires-2 c κs = (
+  c.requires.1.0,
+  zero-lent c.zero_keys-keys.ensures c.zero_tails-tails.ensures c.zero_tree-tree.ensures,
+)
 
 abbrev entry : (c : tie.After-start_all-2 invariant-loop decreases-loop) → tie.Start invariant-loop decreases-loop
 entry c = c.before.before.before.before.before.before.before.before.before.before.before.before.before.before.before

@@ -95,11 +95,10 @@ turn c =
     (sym c.is_next.ensures)
 
 returns-2 : tie.Need-returns-then-is_next invariant-loop decreases-loop
-returns-2 c =
-    (
-      sym (failed _ _ _ (turn c.before) (ap not c.if-is_next.true)),
-      merging-lent c.take_first.ensures.merging,
-    )
+returns-2 c = (
+  sym (failed _ _ _ (turn c.before) (ap not c.if-is_next.true)),
+  merging-lent c.take_first.ensures.merging,
+)
 
 loop-less : tie.Need-loop-n-smaller invariant-loop decreases-loop
 loop-less c =

@@ -47,13 +47,12 @@ zero-tree-requires : tie.Need-zero_tree-tree-requires invariant-loop decreases-l
 zero-tree-requires c κs = tt
 
 loop-holds : tie.Need-loop-b-init invariant-loop decreases-loop
-loop-holds c =
-    (
-      omega arith,
-      paging-start c.args.store.now,
-      zero_room c.zero_walk-blocks.ensures,
-      zero-lent c.zero_keys-keys.ensures c.zero_tails-tails.ensures c.zero_tree-tree.ensures,
-    )
+loop-holds c = (
+  omega arith,
+  paging-start c.args.store.now,
+  zero_room c.zero_walk-blocks.ensures,
+  zero-lent c.zero_keys-keys.ensures c.zero_tails-tails.ensures c.zero_tree-tree.ensures,
+)
 
 walk-bucket-requires : tie.Need-walk_bucket-count-requires invariant-loop decreases-loop
 walk-bucket-requires c κs =
@@ -79,12 +78,11 @@ pages : (c : tie.Else-not-check_blocks invariant-loop decreases-loop)
 pages c = let h = c.check_blocks in sym h.ensures ∙ not-false h.result c.if-not-check_blocks.false-raw
 
 check-distinct-requires : tie.Need-check_distinct-requires invariant-loop decreases-loop
-check-distinct-requires c κs =
-    (
-      walk-within c.loop-b.b (made c.before.before.before.before.before.before.before.before.before) c.walk_bucket-count.ensures (entry c.before.before.before.before.before.before.before.before.before.before).requires,
-      pages c.before.before.before.before,
-      c.loop-b.invariant.3,
-    )
+check-distinct-requires c κs = (
+  walk-within c.loop-b.b (made c.before.before.before.before.before.before.before.before.before) c.walk_bucket-count.ensures (entry c.before.before.before.before.before.before.before.before.before.before).requires,
+  pages c.before.before.before.before,
+  c.loop-b.invariant.3,
+)
 
 returns-2 : tie.Need-returns-then-not-check_distinct invariant-loop decreases-loop
 returns-2 c =

@@ -1,4 +1,3 @@
-use mathlib.Core.Path.{◌≡◌, refl}
 use borrow.Author.Tests.{eq-eqb, ne_eqb}
 use Rattle.index.proofs.change.check_pair.Statement.{statement}
 use Rattle.index.proofs.change.check_pair.Tie as tie

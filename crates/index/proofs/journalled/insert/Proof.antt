@@ -5,7 +5,6 @@ use Rattle.journal.specs.Journal.{Disk, disk}
 use Rattle.index.specs.ReadyLaws.{ready-pair, insert-refused, insert-made}
 use Rattle.index.proofs.journalled.insert.Statement.{statement}
 use Rattle.index.proofs.journalled.insert.Tie as tie
-use Rattle.index.proofs.journalled.insert.Reads as reads
 
 -- store and journal, and the pair
 abbrev given : tie.After-test_pair_ready-test → Disk

@@ -5,7 +5,6 @@ use Rattle.journal.specs.Journal.{Disk, disk}
 use Rattle.index.specs.ReadyLaws.{ready-pair, remove-refused, remove-made}
 use Rattle.index.proofs.journalled.remove.Statement.{statement}
 use Rattle.index.proofs.journalled.remove.Tie as tie
-use Rattle.index.proofs.journalled.remove.Reads as reads
 
 -- store and journal, and the pair
 abbrev given : tie.After-test_pair_ready-test → Disk

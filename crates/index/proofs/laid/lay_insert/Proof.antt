@@ -27,11 +27,10 @@ plan-insert-requires : tie.Need-plan_insert-plan-requires
 plan-insert-requires c κs = search rules
 
 lay-change-requires : tie.Need-lay_change-stores-requires
-lay-change-requires c κs =
-    (
-      (c.requires.0.0, settles-alters (settled c.before.before.before.before)),
-      (c.requires.1.0, c.plan_insert-plan.auto.images ∙ c.requires.1.1),
-    )
+lay-change-requires c κs = (
+  (c.requires.0.0, settles-alters (settled c.before.before.before.before)),
+  (c.requires.1.0, c.plan_insert-plan.auto.images ∙ c.requires.1.1),
+)
 
 enum-known-answer : tie.Need-enum_known-answer
 enum-known-answer c = search rules

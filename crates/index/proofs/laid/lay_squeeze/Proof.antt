@@ -36,11 +36,10 @@ plan-squeeze-requires : tie.Need-plan_squeeze-plan-requires
 plan-squeeze-requires c κs = search rules
 
 lay-change-requires : tie.Need-lay_change-stores-requires
-lay-change-requires c κs =
-    (
-      (c.requires.0.0, advances-alters (advance c.before.before.before.before.before)),
-      (c.requires.1.0, c.plan_squeeze-plan.auto.images ∙ c.requires.1.1),
-    )
+lay-change-requires c κs = (
+  (c.requires.0.0, advances-alters (advance c.before.before.before.before.before)),
+  (c.requires.1.0, c.plan_squeeze-plan.auto.images ∙ c.requires.1.1),
+)
 
 enum-known-advance : tie.Need-enum_known-advance
 enum-known-advance c = search rules

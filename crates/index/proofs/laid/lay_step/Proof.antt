@@ -30,21 +30,19 @@ start-requires : tie.Need-start-requires
 start-requires c κs = search rules
 
 plan-step-requires : tie.Need-plan_step-plan-requires
-plan-step-requires c κs =
-    (
-      (
-        subst (Reads c.args.store.now) (sym c.read_fields-m.ensures) c.requires.0,
-        c.requires.1.1,
-      ),
-      from_start _ _ c.start.ensures,
-    )
+plan-step-requires c κs = (
+  (
+    subst (Reads c.args.store.now) (sym c.read_fields-m.ensures) c.requires.0,
+    c.requires.1.1,
+  ),
+  from_start _ _ c.start.ensures,
+)
 
 lay-change-requires : tie.Need-lay_change-stores-requires
-lay-change-requires c κs =
-    (
-      (c.requires.0, advances-alters (advance c.before.before.before.before.before)),
-      (c.requires.1.0, c.plan_step-plan.auto.images ∙ c.requires.1.1),
-    )
+lay-change-requires c κs = (
+  (c.requires.0, advances-alters (advance c.before.before.before.before.before)),
+  (c.requires.1.0, c.plan_step-plan.auto.images ∙ c.requires.1.1),
+)
 
 enum-known-advance : tie.Need-enum_known-advance
 enum-known-advance c = search rules

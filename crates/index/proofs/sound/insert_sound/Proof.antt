@@ -19,11 +19,10 @@ slice-aggregate-finish : tie.Need-slice_bounds-finish-end
 slice-aggregate-finish c = search rules
 
 finish-requires : tie.Need-finish-requires
-finish-requires c κs =
-    (
-      settles-fits c.plan_insert-plan.ensures,
-      (sound-first c.requires.0, c.plan_insert-plan.auto.images),
-    )
+finish-requires c κs = (
+  settles-fits c.plan_insert-plan.ensures,
+  (sound-first c.requires.0, c.plan_insert-plan.auto.images),
+)
 
 same_length : tie.Need-shape_of-store
 same_length c = search rules

@@ -5,7 +5,6 @@ use Rattle.index.specs.SoundLaws.{advances-alters, advances-stepped}
 use Rattle.index.specs.SqueezeLaws.{advances-spans}
 use Rattle.index.proofs.sound.squeeze_written.Statement.{statement}
 use Rattle.index.proofs.sound.squeeze_written.Tie as tie
-use Rattle.index.proofs.sound.squeeze_written.Reads as reads
 
 read-fields-requires : tie.Need-read_fields-m-requires
 read-fields-requires c κs = search rules

@@ -4,7 +4,6 @@ use Rattle.model.specs.Machine.{of_splits}
 use Rattle.index.specs.SoundLaws.{advances-alters, advances-stepped, advances-from}
 use Rattle.index.proofs.sound.step_written.Statement.{statement}
 use Rattle.index.proofs.sound.step_written.Tie as tie
-use Rattle.index.proofs.sound.step_written.Reads as reads
 
 read-fields-requires : tie.Need-read_fields-m-requires
 read-fields-requires c κs = search rules
@@ -13,11 +12,10 @@ plan-step-requires : tie.Need-plan_step-plan-requires
 plan-step-requires c κs = search rules
 
 write-change-requires : tie.Need-write_change-requires
-write-change-requires c κs =
-    (
-      (c.requires.0.0, advances-alters c.plan_step-plan.ensures.0),
-      (c.requires.1.0, c.plan_step-plan.auto.images ∙ c.requires.1.1),
-    )
+write-change-requires c κs = (
+  (c.requires.0.0, advances-alters c.plan_step-plan.ensures.0),
+  (c.requires.1.0, c.plan_step-plan.auto.images ∙ c.requires.1.1),
+)
 
 same_length : tie.Need-shape_of-store
 same_length c = search rules

@@ -12,7 +12,6 @@ use Rattle.index.specs.ReadyLaws.{passing}
 use Rattle.index.specs.SqueezeLaws.{all-early, squeeze-sound, squeeze-range, squeeze-fails, squeeze-passes}
 use Rattle.index.proofs.squeezing.squeeze.Statement.{statement}
 use Rattle.index.proofs.squeezing.squeeze.Tie as tie
-use Rattle.index.proofs.squeezing.squeeze.Reads as reads
 
 -- store and journal
 abbrev given : tie.After-test_squeeze-test → Disk
@@ -36,12 +35,11 @@ enum_told : tie.Need-enum_told-1
 enum_told c = search rules
 
 squeeze-sound-requires : tie.Need-squeeze_sound-requires
-squeeze-sound-requires c κs =
-    (
-      squeeze-sound _ _ _ (bytes c.before.before.before) (good c.before.before),
-      squeeze-range _ _ _ (bytes c.before.before.before) (good c.before.before),
-      (passing _ _ (all-early _ _ _ (bytes c.before.before.before) (good c.before.before))).journal,
-    )
+squeeze-sound-requires c κs = (
+  squeeze-sound _ _ _ (bytes c.before.before.before) (good c.before.before),
+  squeeze-range _ _ _ (bytes c.before.before.before) (good c.before.before),
+  (passing _ _ (all-early _ _ _ (bytes c.before.before.before) (good c.before.before))).journal,
+)
 
 same_length : tie.Need-shape_of-store-in-Failed
 same_length c = search rules

@@ -12,7 +12,6 @@ use Rattle.squeeze.specs.Span.{Spans}
 use Rattle.index.specs.SoundLaws.{Working, working-next, working-stop, working-spent, working-none}
 use Rattle.index.proofs.squeezing.squeeze_sound.Statement.{statement}
 use Rattle.index.proofs.squeezing.squeeze_sound.Tie as tie
-use Rattle.index.proofs.squeezing.squeeze_sound.Reads as reads
 
 abbrev invariant-loop : tie.invariant-loop-steps
 invariant-loop store₀ journal₀ bucket budget span₀ images₀ steps₀ store journal span images steps =

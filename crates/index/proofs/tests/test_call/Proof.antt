@@ -9,8 +9,6 @@ use Rattle.image.specs.Rules.{length_ok}
 use Rattle.index.specs.Tested.{test_of}
 use Rattle.index.proofs.tests.test_call.Statement.{statement}
 use Rattle.index.proofs.tests.test_call.Tie as tie
-use Rattle.index.proofs.tests.test_call.Reads as reads
-use Rattle.index.proofs.tests.test_call.Lts as lts
 
 -- bad numbers, by whether the length is legal
 bad : (n l : Bool) (s : List ℕ) → n ≡ false → length_ok s ≡ l

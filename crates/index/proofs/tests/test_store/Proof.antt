@@ -1,4 +1,4 @@
-use mathlib.Core.Path.{◌≡◌, sym, ap, ◌∙◌}
+use mathlib.Core.Path.{sym, ap, ◌∙◌}
 use borrow.Author.Rules.{rules}
 use Rattle.index.specs.TestedLaws.{test_from, test-verdict}
 use Rattle.index.proofs.tests.test_store.Statement.{statement}

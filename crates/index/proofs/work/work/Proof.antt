@@ -10,7 +10,6 @@ use Rattle.index.specs.Tested.{test_of}
 use Rattle.index.specs.ReadyLaws.{passing, ready-sound, work-refused, work-made}
 use Rattle.index.proofs.work.work.Statement.{statement}
 use Rattle.index.proofs.work.work.Tie as tie
-use Rattle.index.proofs.work.work.Reads as reads
 
 -- store and journal
 abbrev given : tie.After-test_ready-test → Disk

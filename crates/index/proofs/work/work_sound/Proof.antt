@@ -11,7 +11,6 @@ use Rattle.split.specs.FromLaws.{from_start}
 use Rattle.index.specs.SoundLaws.{Working, working-next, working-stop, working-spent, working-none}
 use Rattle.index.proofs.work.work_sound.Statement.{statement}
 use Rattle.index.proofs.work.work_sound.Tie as tie
-use Rattle.index.proofs.work.work_sound.Reads as reads
 
 abbrev invariant-loop : tie.invariant-loop-steps
 invariant-loop store₀ journal₀ budget images₀ steps₀ from₀ store journal images steps from =
@@ -25,12 +24,11 @@ start-requires : tie.Need-start-from-requires invariant-loop decreases-loop
 start-requires c κs = search rules
 
 loop-holds : tie.Need-loop-steps-init invariant-loop decreases-loop
-loop-holds c =
-    (
-      working-none of_splits _ _ c.requires.0 c.requires.1,
-      from_start (decode c.args.store.now) c.start-from.result c.start-from.ensures,
-      refl,
-    )
+loop-holds c = (
+  working-none of_splits _ _ c.requires.0 c.requires.1,
+  from_start (decode c.args.store.now) c.start-from.result c.start-from.ensures,
+  refl,
+)
 
 slice-aggregate-step-written : tie.Need-slice_bounds-step_written-end invariant-loop decreases-loop
 slice-aggregate-step-written c = search rules

@@ -1,4 +1,4 @@
-use Rattle.std.proofs.Common.{◌≡◌, sym, ap, ◌∙◌, subst, rules}
+use Rattle.std.proofs.Common.{sym, ap, ◌∙◌, subst, rules}
 use Rattle.text.specs.Text.{refused_text}
 use Rattle.text.specs.TextLaws.{wrote_as}
 use Rattle.model.specs.declared.LookupAnswer.{LookupAnswer}

@@ -1,4 +1,4 @@
-use Rattle.std.proofs.Common.{◌≡◌, sym, ap, ◌∙◌, rules}
+use Rattle.std.proofs.Common.{sym, ap, ◌∙◌, rules}
 use Rattle.text.specs.Text.{refused_text, steps_text}
 use Rattle.text.specs.TextLaws.{wrote_as}
 use Rattle.interpreter.specs.Script.{work_text}

@@ -1,4 +1,4 @@
-use Rattle.std.proofs.Common.{◌≡◌, ℕ, ◌*◌, length, take, replicate, sym, refl, ap, rules}
+use Rattle.std.proofs.Common.{◌*◌, take, replicate, sym, refl, ap, rules}
 use Rattle.text.specs.TextLaws.{wrote_as}
 use Rattle.model.specs.Calls.{Looked}
 use Rattle.interpreter.specs.Script.{lookup_text, run_command}

@@ -1,4 +1,4 @@
-use Rattle.std.proofs.Common.{◌≡◌, sym, ap, ◌∙◌, rules}
+use Rattle.std.proofs.Common.{sym, ap, ◌∙◌, rules}
 use Rattle.text.specs.TextLaws.{wrote_as}
 use Rattle.interpreter.specs.Script.{work_text, run_command}
 use Rattle.interpreter.specs.RunsLaws.{part-size, stands-made}

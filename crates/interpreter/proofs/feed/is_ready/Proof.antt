@@ -1,4 +1,4 @@
-use Rattle.std.proofs.Common.{length, refl, le-leb}
+use Rattle.std.proofs.Common.{length, le-leb}
 use borrow.Author.Tests.{lt-leb}
 use Rattle.interpreter.specs.Feed.{too_many, store_bytes}
 use Rattle.interpreter.specs.Script.{script_blocks}

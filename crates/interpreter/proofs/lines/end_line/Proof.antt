@@ -1,4 +1,4 @@
-use Rattle.std.proofs.Common.{◌≡◌, ℕ, ◌*◌, take, ap, ◌∙◌, rules}
+use Rattle.std.proofs.Common.{ℕ, ◌*◌, take, ap, ◌∙◌, rules}
 use Rattle.line.specs.declared.Command.{Command}
 use Rattle.interpreter.specs.Script.{run_command}
 use Rattle.interpreter.specs.Feed.{pending_command}

@@ -1,4 +1,4 @@
-use Rattle.std.proofs.Common.{◌≡◌, length, take, sym, refl, arith, length-take-le, rules, le-leb}
+use Rattle.std.proofs.Common.{◌≡◌, length, sym, arith, length-take-le, rules, le-leb}
 use borrow.Author.Tests.{lt-leb}
 use Rattle.line.specs.Command.{max_line}
 use Rattle.interpreter.proofs.lines.pending_command.Statement.{statement}

@@ -44,8 +44,7 @@ loop-less c = search rules
 loop-again : tie.Need-loop-i-preserved invariant-loop decreases-loop
 loop-again c =
     let a = c.args in
-    let l = c.loop-i in
- (
+    let l = c.loop-i in (
       omega arith,
       passed-more (test a.journal.now a.size) l.i l.invariant.1
           (lt-ltb (name_in a.journal.now l.i) a.size (omega (arith, c.if-name-size.false))),

@@ -85,8 +85,7 @@ block-at-requires-4 c κs = search rules
 put-block-requires-4 : tie.Need-put_block-requires-then-i-count
 put-block-requires-4 c κs =
     let few = c.requires.1.0.0 in
-    let n = c.plan_count-count in
- (
+    let n = c.plan_count-count in (
       omega (arith, c.requires.1.1 (c.args.n - n.result - 2) (omega arith) (omega arith)),
       length-of-block _ c.args.plan.now _ c.block_at-then-i-count.ensures (omega arith),
     )

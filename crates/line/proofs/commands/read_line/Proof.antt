@@ -8,7 +8,6 @@ use Rattle.line.specs.declared.Fields.{Fields}
 use Rattle.line.specs.Words.{words}
 use Rattle.line.specs.Command.{fields_from, command_of}
 use Rattle.line.specs.CommandLaws.{line-short, line-long, line-no-space, line-call}
-use borrow.Author.Rules.{rules}
 use Rattle.line.proofs.commands.read_line.Statement.{statement}
 use Rattle.line.proofs.commands.read_line.Tie as tie
 

@@ -1,7 +1,6 @@
 use mathlib.Core.Path.{sym, ◌∙◌}
 use native.Mathlib.Omega.{arith}
 use Rattle.line.specs.WordsLaws.{number-empty, number-one, number-zero, number_more}
-use borrow.Author.Rules.{rules}
 use Rattle.line.proofs.words.read_number.Statement.{statement}
 use Rattle.line.proofs.words.read_number.Tie as tie
 

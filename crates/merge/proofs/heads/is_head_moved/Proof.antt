@@ -20,11 +20,10 @@ cast-get-entry c = search rules
 
 get-entry-requires : tie.Need-get_entry-requires
 unfolding blocks
-get-entry-requires c κs =
-    (
-      c.requires.1,
-      ap length c.block_at.ensures ∙ length-block c.args.store.now c.args.k (omega (arith, c.requires.0)),
-    )
+get-entry-requires c κs = (
+  c.requires.1,
+  ap length c.block_at.ensures ∙ length-block c.args.store.now c.args.k (omega (arith, c.requires.0)),
+)
 
 returns : tie.Need-returns
 returns c =

@@ -20,11 +20,10 @@ unfolding blocks
 block-at-requires c κs = omega (arith, c.requires.0.inside c.args.i c.requires.1)
 
 returns : tie.Need-returns
-returns c =
-    (
-      c.block_at.ensures,
-      subst Sorted (sym c.block_at.ensures) (c.requires.0.sorted c.args.i c.requires.1),
-    )
+returns c = (
+  c.block_at.ensures,
+  subst Sorted (sym c.block_at.ensures) (c.requires.0.sorted c.args.i c.requires.1),
+)
 
 pub page_at_spec : {M : Type 1} → statement M
 page_at_spec =

@@ -19,12 +19,11 @@ abbrev decreases-loop : tie.decreases-loop-i
 decreases-loop store pages keys₀ tails₀ n from i₀ keys tails i = n - i
 
 loop-holds : tie.Need-loop-i-init invariant-loop decreases-loop
-loop-holds c =
-    (
-      record { keys-size = c.requires.1.0; tails-size = c.requires.1.1; each = λ i h. absurd (omega (arith, h)) },
-      λ i h. absurd (omega (arith, h)),
-      omega arith,
-    )
+loop-holds c = (
+  record { keys-size = c.requires.1.0; tails-size = c.requires.1.1; each = λ i h. absurd (omega (arith, h)) },
+  λ i h. absurd (omega (arith, h)),
+  omega arith,
+)
 
 page-at-requires : tie.Need-page_at-requires invariant-loop decreases-loop
 page-at-requires c κs = (c.requires.0, c.loop-i-test.true)

@@ -60,13 +60,12 @@ loop-less : tie.Need-loop-i-smaller invariant-loop decreases-loop
 loop-less c = omega arith
 
 loop-again : tie.Need-loop-i-preserved invariant-loop decreases-loop
-loop-again c =
-    (
-      copied_next c.args.pages.now c.args.walk.now c.args.at c.loop-i.i c.loop-i.pages
-          c.loop-i.invariant.0
-          (omega (arith, c.loop-i.invariant.0.size, c.requires.0, c.loop-i-test.true)),
-      omega (arith, c.loop-i-test.true),
-    )
+loop-again c = (
+  copied_next c.args.pages.now c.args.walk.now c.args.at c.loop-i.i c.loop-i.pages
+      c.loop-i.invariant.0
+      (omega (arith, c.loop-i.invariant.0.size, c.requires.0, c.loop-i-test.true)),
+  omega (arith, c.loop-i-test.true),
+)
 
 returns : tie.Need-returns invariant-loop decreases-loop
 returns c =

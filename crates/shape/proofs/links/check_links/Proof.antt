@@ -65,13 +65,12 @@ loop-less : tie.Need-loop-b-smaller invariant-loop decreases-loop
 loop-less c = omega (arith, c.loop-b-test.true)
 
 loop-again : tie.Need-loop-b-preserved invariant-loop decreases-loop
-loop-again c =
-    (
-      linking-turn c.args.store.now c.loop-b.links c.loop-b.b c.loop-b.invariant.0 (made c.before.before.before.before.before)
-          c.walk_bucket-count.ensures (sized c.requires)
-          (sym c.check_chain.ensures ∙ not-false c.check_chain.result c.if-not-check_chain.false-raw),
-      c.walk_bucket-count.ensures.room,
-    )
+loop-again c = (
+  linking-turn c.args.store.now c.loop-b.links c.loop-b.b c.loop-b.invariant.0 (made c.before.before.before.before.before)
+      c.walk_bucket-count.ensures (sized c.requires)
+      (sym c.check_chain.ensures ∙ not-false c.check_chain.result c.if-not-check_chain.false-raw),
+  c.walk_bucket-count.ensures.room,
+)
 
 count-overflow-requires : tie.Need-count_overflow-requires invariant-loop decreases-loop
 count-overflow-requires c κs = c.requires

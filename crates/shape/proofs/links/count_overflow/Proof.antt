@@ -46,8 +46,8 @@ loop-again c =
     let turn = ap (tally (is_overflow c.args.store.now)) (run-turn c.loop-k.k (length c.args.store.now / 512) c.loop-k-test.true) in
     let found = sym c.is_overflow.ensures in
     elim c.if-is_overflow.branch [
-      then-is_overflow w ↦ (omega arith, omega arith, omega (arith, c.loop-k.invariant.2, turn, ap b2n (found ∙ w.if-is_overflow.true)))
-    | else-is_overflow w ↦ (omega arith, omega arith, omega (arith, c.loop-k.invariant.2, turn, ap b2n (found ∙ w.if-is_overflow.false)))
+      | then-is_overflow w ↦ (omega arith, omega arith, omega (arith, c.loop-k.invariant.2, turn, ap b2n (found ∙ w.if-is_overflow.true)))
+      | else-is_overflow w ↦ (omega arith, omega arith, omega (arith, c.loop-k.invariant.2, turn, ap b2n (found ∙ w.if-is_overflow.false)))
     ]
 
 returns : tie.Need-returns invariant-loop decreases-loop

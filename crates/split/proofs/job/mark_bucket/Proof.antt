@@ -25,12 +25,11 @@ block-is c =
     c.home_of.ensures ∙ bucket-is k c.args.b (omega (arith, max-is k, c.requires.0.1))
 
 put-flags-requires : tie.Need-put_flags-requires
-put-flags-requires c κs =
-    (
-      c.requires.1.0,
-      subst (λ (k : ℕ). Ready c.args.store.now c.args.change c.args.images.now c.requires.1.0 k)
-          (sym (block-is c)) c.requires.1.1,
-    )
+put-flags-requires c κs = (
+  c.requires.1.0,
+  subst (λ (k : ℕ). Ready c.args.store.now c.args.change c.args.images.now c.requires.1.0 k)
+      (sym (block-is c)) c.requires.1.1,
+)
 
 same_length : tie.Need-shape_of-images
 same_length c = search rules

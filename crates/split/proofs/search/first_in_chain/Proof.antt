@@ -201,12 +201,11 @@ later c j e =
     c.first_in_page-found.ensures.0 c.in-Nothing.is j e (omega (arith, few c.before.before.before))
 
 loop-again : tie.Need-loop-next-preserved invariant-loop decreases-loop
-loop-again c =
-    (
-      more c,
-      link-next c.args.first (page c.before.before.before.before.before.before) c.loop-next.invariant.0 c.next_at-next.ensures (more c),
-      later c.before.before.before c.count_entries-passed.result (number c),
-    )
+loop-again c = (
+  more c,
+  link-next c.args.first (page c.before.before.before.before.before.before) c.loop-next.invariant.0 c.next_at-next.ensures (more c),
+  later c.before.before.before c.count_entries-passed.result (number c),
+)
 
 returns-2 : tie.Need-returns invariant-loop decreases-loop
 returns-2 c =

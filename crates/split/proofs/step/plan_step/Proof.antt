@@ -46,11 +46,10 @@ same_length : tie.Need-shape_of-images-in-None
 same_length c = search rules
 
 returns : tie.Need-returns-in-None
-returns c =
-    (
-      c.step_idle.ensures,
-      begin-leads (decode c.args.store.now) c.requires.0.0.wf (rests c.before.before.before.before.before) _ c.no_spot.ensures,
-    )
+returns c = (
+  c.step_idle.ensures,
+  begin-leads (decode c.args.store.now) c.requires.0.0.wf (rests c.before.before.before.before.before) _ c.no_spot.ensures,
+)
 
 same-length-2 : tie.Need-shape_of-images-in-Copying
 same-length-2 c = search rules

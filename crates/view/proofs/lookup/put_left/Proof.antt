@@ -113,13 +113,12 @@ loop-less c =
     c.take_first.ensures
 
 loop-again : tie.Need-loop-n-preserved invariant-loop decreases-loop
-loop-again c =
-    (
-      c.take_first.ensures.merging,
-      list-turn c.loop-n.invariant.0 c.requires.0.1 c.loop-n.invariant.1 (more c.before.before.before.before.before.before.before.before.before.before.before.before.before.before) c.if-key-hash.false
-          c.take_first.ensures c.is_fresh-only.ensures _ _ c.put_match-at.ensures.0 c.put_match-at.ensures.1,
-      c.put_match-at.auto.output ∙ c.loop-n.invariant.2,
-    )
+loop-again c = (
+  c.take_first.ensures.merging,
+  list-turn c.loop-n.invariant.0 c.requires.0.1 c.loop-n.invariant.1 (more c.before.before.before.before.before.before.before.before.before.before.before.before.before.before) c.if-key-hash.false
+      c.take_first.ensures c.is_fresh-only.ensures _ _ c.put_match-at.ensures.0 c.put_match-at.ensures.1,
+  c.put_match-at.auto.output ∙ c.loop-n.invariant.2,
+)
 
 pub put_left_spec : {M : Type 1} → statement M
 put_left_spec =

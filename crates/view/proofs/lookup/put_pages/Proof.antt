@@ -1,6 +1,5 @@
 use mathlib.Core.Path.{◌≡◌, sym, ap, ◌∙◌, subst}
 use mathlib.Core.List.{List}
-use Prim.Native.Nat.{◌+◌}
 use native.Mathlib.Omega.{arith}
 use borrow.Author.Rules.{rules}
 use Rattle.page.specs.declared.Pair.{Pair}
@@ -26,11 +25,10 @@ add-start-merge : tie.Need-overflow_add-n
 add-start-merge c = search rules
 
 start-merge-requires : tie.Need-start_merge-requires
-start-merge-requires c κs =
-    (
-      c.requires.0,
-      zero-lent c.zero_keys-keys.ensures c.zero_tails-tails.ensures c.zero_tree-tree.ensures,
-    )
+start-merge-requires c κs = (
+  c.requires.0,
+  zero-lent c.zero_keys-keys.ensures c.zero_tails-tails.ensures c.zero_tree-tree.ensures,
+)
 
 -- the pairs that are left at the start are all pairs on the pages
 all : (c : tie.After-start_merge) → let a = c.args in
