@@ -49,12 +49,7 @@ pub fn amiqsovik_work(store: &mut [u8], journal: &mut [u8], budget: u32) -> u64
     work_word(work(store, journal, budget))
 }
 
-pub fn amiqsovik_squeeze(
-    store: &mut [u8],
-    journal: &mut [u8],
-    bucket: u32,
-    budget: u32,
-) -> u64
+pub fn amiqsovik_squeeze(store: &mut [u8], journal: &mut [u8], bucket: u32, budget: u32) -> u64
     ensures value { result ≡ work_word
         (squeeze_journalled (disk store.old journal.old) bucket budget).answer }
     ensures budget_value { (squeeze_journalled (disk store.old journal.old) bucket budget).disk

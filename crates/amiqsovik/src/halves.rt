@@ -50,12 +50,7 @@ pub fn amiqsovik_plan_work(store: &[u8], journal: &[u8], plan: &mut [u8]) -> u64
 }
 
 // One step.
-pub fn amiqsovik_plan_squeeze(
-    store: &[u8],
-    journal: &[u8],
-    bucket: u32,
-    plan: &mut [u8],
-) -> u64
+pub fn amiqsovik_plan_squeeze(store: &[u8], journal: &[u8], bucket: u32, plan: &mut [u8]) -> u64
     ensures value { result ≡ plan_word
         (plan_squeeze (disk store.now journal.now) bucket plan.old).answer }
     ensures plan_after { plan.new
@@ -65,12 +60,7 @@ pub fn amiqsovik_plan_squeeze(
 }
 
 // Does the `n`-th block store of a plan, and nothing else.
-pub fn amiqsovik_do_store(
-    store: &mut [u8],
-    journal: &mut [u8],
-    plan: &[u8],
-    n: u32,
-) -> u64
+pub fn amiqsovik_do_store(store: &mut [u8], journal: &mut [u8], plan: &[u8], n: u32) -> u64
     ensures value { result ≡ place_word
         (store_outcome (disk store.old journal.old) plan.now n).answer }
     ensures n_value { (store_outcome (disk store.old journal.old) plan.now n).disk
