@@ -1,5 +1,4 @@
-/* A store in an array: format it, put readings in, split buckets, look readings up, squeeze buckets after a storm, and
- * see on the gauge what that brought.
+/* A store in an array: format it, put readings in, split buckets, look readings up, squeeze buckets after a storm.
  *
  * Make the archive first, at the top of the repository:   tools/archive
  * Then, in this folder:
@@ -45,15 +44,6 @@ static void show_standing(void)
         return;
     now = amiqsovik_stands(result);
     printf("%" PRIu32 " pairs in %" PRIu32 " buckets, slack %" PRId64 "\n", now.count, now.buckets, now.slack);
-}
-
-static void show_gauge(void)
-{
-    struct amiqsovik_gauge_values full;
-
-    if (!done("gauge", amiqsovik_gauge(store, sizeof store, &full)))
-        return;
-    printf("%.2f pairs a bucket, %.1f %% of the pages' room\n", full.per_bucket, 100 * full.per_page);
 }
 
 static void show_readings(uint32_t cell)
@@ -137,12 +127,8 @@ int main(void)
     show_standing();
     show_readings(4);
 
-    if (!storm(20))
+    if (!storm(20) || !squeeze_all())
         return 1;
-    show_gauge();
-    if (!squeeze_all())
-        return 1;
-    show_gauge();
     show_readings(20);
     return done("verify", amiqsovik_verify(store, sizeof store)) ? 0 : 1;
 }

@@ -121,7 +121,7 @@ pub fn rows() -> Vec<Row> {
     [by_size(), journals(), verdicts(), lookups(), jobs(), splits(), squeezes()].concat()
 }
 
-/// Calls on even buckets: half as many as blocks, and as many as 1,024 blocks have room for.
+/// Calls on even buckets: half as many as blocks, and, but for the gauge, as many as 1,024 blocks have room for.
 fn by_size() -> Vec<Row> {
     let calls = [
         ("verdict", Call::Verdict, Split::Over),
@@ -133,7 +133,7 @@ fn by_size() -> Vec<Row> {
     let rows = |(name, call, split)| {
         let half = |blocks| Row::new(blocks, name, call, Kind::Even(blocks / 2, split));
         let most = Row::new(1024, format!("{name}, 896 buckets"), call, Kind::Even(896, split));
-        [4, 16, 64, 128, 1024].map(half).into_iter().chain([most])
+        [4, 16, 64, 128, 1024].map(half).into_iter().chain((name != "gauge").then_some(most))
     };
     calls.into_iter().flat_map(rows).collect()
 }

@@ -127,7 +127,7 @@ fn sound_stores() {
 #[test]
 fn refused() {
     let mut seen = BTreeSet::new();
-    for seed in 0..300 {
+    for seed in 0..1500 {
         let mut random = Random::new(26_100 + seed);
         let blocks = random.within(4, 24);
         let mut store = sound(&mut random, blocks, seed as u32 % 3, 40);
