@@ -1,4 +1,4 @@
-/* Amiqsovik's hash index: the calls for C, in target/staticlib/libamiqsovik.a (`rt staticlib amiqsovik`), for x86-64
+/* Amiqsovik's hash index: the calls for C, in target/staticlib/libamiqsovik.a (`tools/archive`), for x86-64
  * Linux.
  *
  * An index is a store: one byte array of N blocks of 512 bytes, N from 4 to 1,024, that the caller owns. It holds

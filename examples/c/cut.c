@@ -4,7 +4,7 @@
  * the wiped head. It counts from the end on. Here it counts from the head on: the insert before altered the same
  * blocks, and its end, which is still there, is the same.
  *
- * Make the archive first, at the top of the repository:   rt staticlib amiqsovik
+ * Make the archive first, at the top of the repository:   tools/archive
  * Then, in this folder:
  *
  *     gcc -std=c99 -Wall -Wextra -O2 cut.c ../../target/staticlib/libamiqsovik.a -o cut && ./cut

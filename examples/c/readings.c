@@ -1,7 +1,7 @@
 /* A store in an array: format it, put readings in, split buckets, look readings up, squeeze buckets after a storm, and
  * see on the gauge what that brought.
  *
- * Make the archive first, at the top of the repository:   rt staticlib amiqsovik
+ * Make the archive first, at the top of the repository:   tools/archive
  * Then, in this folder:
  *
  *     gcc -std=c99 -Wall -Wextra -O2 readings.c ../../target/staticlib/libamiqsovik.a -o readings && ./readings

@@ -3,7 +3,7 @@
 use std::path::{Path, PathBuf};
 use std::{env, process};
 
-/// Where `rt staticlib amiqsovik` writes the archive, seen from this package.
+/// Where `tools/archive` writes the archive, seen from this package.
 const DEFAULT: &str = "../../target/staticlib/libamiqsovik.a";
 
 fn main() {
@@ -34,7 +34,7 @@ fn library(archive: &Path) -> Option<&str> {
 
 fn stop(archive: &Path) -> ! {
     eprintln!("There is no archive of the proved index at {}.", archive.display());
-    eprintln!("Make it with `rt staticlib amiqsovik` at the top of the repository,");
+    eprintln!("Make it with `tools/archive` at the top of the repository,");
     eprintln!("or set AMIQSOVIK_ARCHIVE to the full path of a file libNAME.a that holds it.");
     process::exit(1);
 }

@@ -9,8 +9,7 @@ use index::journalled::{insert, remove};
 use index::squeezing::squeeze;
 use index::work::work;
 
-#[unsafe(no_mangle)]
-pub extern "C" fn amiqsovik_insert(
+pub fn amiqsovik_insert(
     store: &mut [u8],
     journal: &mut [u8],
     hash: u32,
@@ -26,8 +25,7 @@ pub extern "C" fn amiqsovik_insert(
     answer_word(insert(store, journal, hash, block, offset))
 }
 
-#[unsafe(no_mangle)]
-pub extern "C" fn amiqsovik_remove(
+pub fn amiqsovik_remove(
     store: &mut [u8],
     journal: &mut [u8],
     hash: u32,
@@ -43,8 +41,7 @@ pub extern "C" fn amiqsovik_remove(
     answer_word(remove(store, journal, hash, block, offset))
 }
 
-#[unsafe(no_mangle)]
-pub extern "C" fn amiqsovik_work(store: &mut [u8], journal: &mut [u8], budget: u32) -> u64
+pub fn amiqsovik_work(store: &mut [u8], journal: &mut [u8], budget: u32) -> u64
     ensures value { result ≡ work_word (work_journalled (disk store.old journal.old) budget).answer }
     ensures budget_value { (work_journalled (disk store.old journal.old) budget).disk
         ≡ disk store.new journal.new }
@@ -52,8 +49,7 @@ pub extern "C" fn amiqsovik_work(store: &mut [u8], journal: &mut [u8], budget: u
     work_word(work(store, journal, budget))
 }
 
-#[unsafe(no_mangle)]
-pub extern "C" fn amiqsovik_squeeze(
+pub fn amiqsovik_squeeze(
     store: &mut [u8],
     journal: &mut [u8],
     bucket: u32,

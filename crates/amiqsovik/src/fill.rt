@@ -16,8 +16,7 @@ fn put_gauge(numbers: &mut [f64; 2], gauge: Gauge)
 }
 
 // Writes the gauge to `numbers`; on a refusal, 0 twice.
-#[unsafe(no_mangle)]
-pub extern "C" fn amiqsovik_gauge(store: &[u8], numbers: &mut [f64; 2]) -> u64
+pub fn amiqsovik_gauge(store: &[u8], numbers: &mut [f64; 2]) -> u64
     ensures value { result ≡ answer_word (gauge_outcome store.now).answer }
     ensures numbers_after { numbers.new ≡ gauge_numbers (gauge_outcome store.now).gauge }
 {

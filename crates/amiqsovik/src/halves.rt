@@ -7,8 +7,7 @@ ghost use Rattle.amiqsovik.specs.Words.{plan_word, place_word};
 use crate::words::{place_word, plan_word};
 use index::halves::{do_store, plan_insert, plan_remove, plan_squeeze, plan_work};
 
-#[unsafe(no_mangle)]
-pub extern "C" fn amiqsovik_plan_insert(
+pub fn amiqsovik_plan_insert(
     store: &[u8],
     journal: &[u8],
     hash: u32,
@@ -24,8 +23,7 @@ pub extern "C" fn amiqsovik_plan_insert(
     plan_word(plan_insert(store, journal, hash, block, offset, plan))
 }
 
-#[unsafe(no_mangle)]
-pub extern "C" fn amiqsovik_plan_remove(
+pub fn amiqsovik_plan_remove(
     store: &[u8],
     journal: &[u8],
     hash: u32,
@@ -42,8 +40,7 @@ pub extern "C" fn amiqsovik_plan_remove(
 }
 
 // One step.
-#[unsafe(no_mangle)]
-pub extern "C" fn amiqsovik_plan_work(store: &[u8], journal: &[u8], plan: &mut [u8]) -> u64
+pub fn amiqsovik_plan_work(store: &[u8], journal: &[u8], plan: &mut [u8]) -> u64
     ensures value { result ≡ plan_word
         (plan_work (disk store.now journal.now) plan.old).answer }
     ensures plan_after { plan.new
@@ -53,8 +50,7 @@ pub extern "C" fn amiqsovik_plan_work(store: &[u8], journal: &[u8], plan: &mut [
 }
 
 // One step.
-#[unsafe(no_mangle)]
-pub extern "C" fn amiqsovik_plan_squeeze(
+pub fn amiqsovik_plan_squeeze(
     store: &[u8],
     journal: &[u8],
     bucket: u32,
@@ -69,8 +65,7 @@ pub extern "C" fn amiqsovik_plan_squeeze(
 }
 
 // Does the `n`-th block store of a plan, and nothing else.
-#[unsafe(no_mangle)]
-pub extern "C" fn amiqsovik_do_store(
+pub fn amiqsovik_do_store(
     store: &mut [u8],
     journal: &mut [u8],
     plan: &[u8],

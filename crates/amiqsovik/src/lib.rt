@@ -1,4 +1,7 @@
-// The calls for C and Rust. Each answers one word (specs/Words.antt). include/amiqsovik.h declares them for C.
+// The calls for C and Rust. Each answers one word (specs/Words.antt). Crate `amiqsovik_c` exports them, and
+// include/amiqsovik.h declares them for C.
+#![tactic(auto)]
+
 mod words; // words.rt: the word of each answer
 mod result; // result.rt: what standing writes
 pub mod changes; // changes.rt: the calls that change a store, with its journal
@@ -21,8 +24,7 @@ use verify::verify;
 use words::{RESULT_SHORT, answer_word, lookup_word, pack, standing_word, verdict_word};
 
 // What a store is: 0 sound, 1, 3 with the block, 4 with the rule.
-#[unsafe(no_mangle)]
-pub extern "C" fn amiqsovik_verify(store: &[u8]) -> u64
+pub fn amiqsovik_verify(store: &[u8]) -> u64
     ensures { result ≡ verdict_word (verify_outcome store.now) }
 {
     verdict_word(verify(store))
@@ -30,15 +32,13 @@ pub extern "C" fn amiqsovik_verify(store: &[u8]) -> u64
 
 // Whether a store is in use: 1; 12 if it is sound and its count is not 0; else 0, also if it is not sound, whatever it
 // holds. It is what a format with good numbers answers that does not overwrite.
-#[unsafe(no_mangle)]
-pub extern "C" fn amiqsovik_in_use(store: &[u8]) -> u64
+pub fn amiqsovik_in_use(store: &[u8]) -> u64
     ensures { result ≡ answer_word (in_use_outcome store.now) }
 {
     answer_word(in_use(store))
 }
 
-#[unsafe(no_mangle)]
-pub extern "C" fn amiqsovik_format(store: &mut [u8], fill: u32, number: u32, overwrite: u32) -> u64
+pub fn amiqsovik_format(store: &mut [u8], fill: u32, number: u32, overwrite: u32) -> u64
     ensures value { result ≡ answer_word (format_outcome store.old (order_of fill number overwrite)).answer }
     ensures store_after { store.new ≡ (format_outcome store.old (order_of fill number overwrite)).store }
 {
@@ -52,8 +52,7 @@ pub extern "C" fn amiqsovik_format(store: &mut [u8], fill: u32, number: u32, ove
     ))
 }
 
-#[unsafe(no_mangle)]
-pub extern "C" fn amiqsovik_lookup(store: &[u8], hash: u32, output: &mut [u8]) -> u64
+pub fn amiqsovik_lookup(store: &[u8], hash: u32, output: &mut [u8]) -> u64
     ensures value { result ≡ lookup_word (lookup_outcome store.now hash output.old).answer }
     ensures output_after { output.new ≡ (lookup_outcome store.now hash output.old).output }
 {
@@ -61,8 +60,7 @@ pub extern "C" fn amiqsovik_lookup(store: &[u8], hash: u32, output: &mut [u8]) -
 }
 
 // Writes what stands, 28 bytes, to `result`; a shorter `result` is tested first. A refusal writes nothing.
-#[unsafe(no_mangle)]
-pub extern "C" fn amiqsovik_standing(store: &[u8], res: &mut [u8]) -> u64
+pub fn amiqsovik_standing(store: &[u8], res: &mut [u8]) -> u64
     ensures value { result ≡ (standing_told store.now res.old).word }
     ensures res_after { res.new ≡ (standing_told store.now res.old).result }
 {

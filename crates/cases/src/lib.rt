@@ -1,7 +1,34 @@
 // Cases that a program reads from its input, one on a line, with bytes in hexadecimal; every input is taken.
-ghost use Rattle.std.specs.Prelude.{◌+◌, ◌≤◌, ◌<◌, length};
-ghost use Rattle.io.specs.Counts.{IsPrefixLen};
+#![tactic(auto)]
+
+ghost use Rattle.std.specs.Prelude.{◌≡◌, ◌+◌, ◌≤◌, ◌<◌, IfOk, length};
+ghost use Rattle.cases.specs.Counts.{IsPrefixLen};
 ghost use Rattle.cases.specs.Within.{Within};
+
+use std::io;
+use std::io::Read;
+
+// Zeros to read into. The contract gives their number alone: a proof above that saw each of them would spell them out.
+pub fn zeros<const N: usize>() -> [u8; N]
+    ensures { N ≡ length result }
+{
+    [0; N]
+}
+
+// Reads until `out` is full or the input ends, and answers how many bytes it put at the start of `out`.
+pub fn read_full<R: Read>(input: &mut R, out: &mut [u8]) -> io::Result<usize>
+    ensures { IfOk result (λ n. IsPrefixLen n out.new) }
+{
+    let mut done = 0;
+    while done < out.len() {
+        let n = input.read(&mut out[done..])?;
+        if n == 0 {
+            break;
+        }
+        done += n;
+    }
+    Ok(done)
+}
 
 // Where the line that starts at `at` ends.
 pub fn line_end(text: &[u8], at: usize) -> usize

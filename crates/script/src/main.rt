@@ -1,5 +1,7 @@
 // Runs the script of standard input and writes its output to standard output, both through buffers. A run ends at once
 // where a read or a write fails: a line that a failed read cut is not run.
+#![tactic(auto)]
+
 ghost use Rattle.std.specs.Prelude.{◌≡◌, true, ◌+◌, ◌≤◌, length, take};
 ghost use Rattle.text.specs.Text.{line_output};
 ghost use Rattle.interpreter.specs.Machine.{on_bytes, state_of, ran_as};
@@ -7,6 +9,7 @@ ghost use Rattle.interpreter.specs.Stores.{Serves};
 
 use interpreter::feed::{feed, finish, start};
 use interpreter::{STORE_BYTES, ScriptState};
+use std::io::{Read, Write};
 use text::LINE_OUTPUT;
 
 // The output's buffer: 65,536 bytes, and room for one line more.
@@ -66,17 +69,28 @@ fn run_lines(state: ScriptState, store: &mut [u8], piece: &[u8], output: &mut [u
     }
 }
 
+// Says on standard error that something failed. Where that fails too, nobody is left to be told.
+fn complain(rt: &HostRuntime, text: &[u8]) {
+    let _ = rt.stderr().write_all(text);
+}
+
 // Writes to standard output, or says that it failed.
-fn put(text: &[u8]) -> bool {
-    if io::write_all(1, text) {
+fn put(rt: &HostRuntime, text: &[u8]) -> bool {
+    if rt.stdout().write_all(text).is_ok() {
         return true;
     }
-    io::write_all(2, b"script: writing failed\n");
+    complain(rt, b"script: writing failed\n");
     false
 }
 
 // Runs a piece of the script and writes what it writes.
-fn run_piece(state: ScriptState, store: &mut [u8], piece: &[u8], output: &mut [u8]) -> Piece
+fn run_piece(
+    rt: &HostRuntime,
+    state: ScriptState,
+    store: &mut [u8],
+    piece: &[u8],
+    output: &mut [u8],
+) -> Piece
     requires serves { Serves state store.old }
     requires line_output_in_bounds { line_output ≤ length output.old }
     ensures serves_2 { Serves result.state store.new }
@@ -90,7 +104,7 @@ fn run_piece(state: ScriptState, store: &mut [u8], piece: &[u8], output: &mut [u
         let written = ran.written;
         let next = ran.state;
         held = next;
-        if !put(&output[..written]) {
+        if !put(rt, &output[..written]) {
             return Piece {
                 state: held,
                 out: false,
@@ -105,33 +119,35 @@ fn run_piece(state: ScriptState, store: &mut [u8], piece: &[u8], output: &mut [u
 }
 
 // Runs what one read gives.
-fn run_read(state: ScriptState, store: &mut [u8], output: &mut [u8]) -> Run
+fn run_read(rt: &HostRuntime, state: ScriptState, store: &mut [u8], output: &mut [u8]) -> Run
     requires serves { Serves state store.old }
     requires line_output_in_bounds { line_output ≤ length output.old }
     ensures { Serves result.state store.new }
 {
-    let mut piece = io::large_buffer();
-    let got = libc::read(0, &mut piece);
-    if got < 0 {
-        io::write_all(2, b"script: reading failed\n");
-        return Run {
-            state,
-            more: false,
-            ended: false,
-        };
-    }
-    let n = io::count(got, &piece);
-    let ran = run_piece(state, store, &piece[..n], output);
-    let next = ran.state;
-    Run {
-        state: next,
-        more: ran.out && n > 0,
-        ended: ran.out && n == 0,
+    let mut piece = [0u8; 65536];
+    match rt.stdin().read(&mut piece) {
+        Err(_) => {
+            complain(rt, b"script: reading failed\n");
+            Run {
+                state,
+                more: false,
+                ended: false,
+            }
+        }
+        Ok(n) => {
+            let ran = run_piece(rt, state, store, &piece[..n], output);
+            let next = ran.state;
+            Run {
+                state: next,
+                more: ran.out && n > 0,
+                ended: ran.out && n == 0,
+            }
+        }
     }
 }
 
 // A proved loop ends: this one counts its reads down from a number that no run uses up.
-fn run_reads(state: ScriptState, store: &mut [u8], output: &mut [u8]) -> Run
+fn run_reads(rt: &HostRuntime, state: ScriptState, store: &mut [u8], output: &mut [u8]) -> Run
     requires serves { Serves state store.old }
     requires line_output_in_bounds { line_output ≤ length output.old }
     ensures { Serves result.state store.new }
@@ -139,7 +155,7 @@ fn run_reads(state: ScriptState, store: &mut [u8], output: &mut [u8]) -> Run
     let mut held = state;
     let mut left = u64::MAX;
     while left > 0 {
-        let run = run_read(held, store, output);
+        let run = run_read(rt, held, store, output);
         if !run.more {
             return run;
         }
@@ -154,14 +170,14 @@ fn run_reads(state: ScriptState, store: &mut [u8], output: &mut [u8]) -> Run
     }
 }
 
-fn main() {
+fn main(rt: HostRuntime) {
     let mut store = [0u8; STORE_BYTES];
     let mut output = [0u8; BUFFER];
-    let last = run_reads(start(), &mut store, &mut output);
+    let last = run_reads(&rt, start(), &mut store, &mut output);
     if last.ended {
         let state = last.state;
         let fed = finish(state, &mut store, &mut output);
         let written = fed.written;
-        put(&output[..written]);
+        put(&rt, &output[..written]);
     }
 }

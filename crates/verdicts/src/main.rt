@@ -1,44 +1,47 @@
 // Reads stores from standard input, one on a line in hexadecimal, and writes the verdict on each (README.md).
+#![tactic(auto)]
+
 use address::limits::MAX_BLOCKS;
-use cases::{line_end, read_bytes};
+use cases::{line_end, read_bytes, read_full, zeros};
 use image::Verdict;
+use std::io;
 use verify::verify;
 
-fn put_numbers(code: u64, besides: u64) {
-    io::print_decimal(1, code);
-    io::write_all(1, b" ");
-    io::print_decimal(1, besides);
-    io::write_all(1, b"\n");
+fn put_numbers(rt: &impl Print, code: u64, besides: u64) -> io::Result<()> {
+    println!(rt; "{code} {besides}")
 }
 
 // Document 01's number of a verdict, and what goes with it.
-fn show_verdict(verdict: Verdict) {
+fn show_verdict(rt: &impl Print, verdict: Verdict) -> io::Result<()> {
     match verdict {
-        Verdict::Sound => put_numbers(0, 0),
-        Verdict::BadLength => put_numbers(1, 0),
-        Verdict::Damaged { block } => put_numbers(3, block as u64),
-        Verdict::NotIndex { rule } => put_numbers(4, rule as u64),
+        Verdict::Sound => put_numbers(rt, 0, 0),
+        Verdict::BadLength => put_numbers(rt, 1, 0),
+        Verdict::Damaged { block } => put_numbers(rt, 3, block as u64),
+        Verdict::NotIndex { rule } => put_numbers(rt, 4, rule as u64),
     }
 }
 
 // A line is cut one block past the largest N, which is too many already.
-fn show_store(line: &[u8]) {
-    let mut store = [0u8; 512 * (MAX_BLOCKS + 1)];
+const STORE_MAX: usize = 512 * (MAX_BLOCKS + 1);
+
+fn show_store(rt: &impl Print, line: &[u8]) -> io::Result<()> {
+    let mut store = zeros::<STORE_MAX>();
     let n = read_bytes(line, 0, &mut store);
-    show_verdict(verify(&store[..n]));
+    show_verdict(rt, verify(&store[..n]))
 }
 
-fn run_lines(text: &[u8]) {
+fn run_lines(rt: &impl Print, text: &[u8]) -> io::Result<()> {
     let mut at = 0;
     while at < text.len() {
         let end = line_end(text, at);
-        show_store(&text[at..end]);
+        show_store(rt, &text[at..end])?;
         at = end + 1;
     }
+    Ok(())
 }
 
-fn main() {
-    let mut text = [0u8; 524288];
-    let n = io::read_full(0, &mut text);
-    run_lines(&text[..n]);
+fn main(rt: HostRuntime) -> io::Result<()> {
+    let mut text = zeros::<524288>();
+    let n = read_full(&mut rt.stdin(), &mut text)?;
+    run_lines(&rt, &text[..n])
 }

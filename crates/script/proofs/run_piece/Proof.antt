@@ -12,14 +12,14 @@ use Rattle.interpreter.specs.Stores.{Serves}
 use Rattle.script.proofs.run_piece.Statement.{statement}
 use Rattle.script.proofs.run_piece.Tie as tie
 
-abbrev invariant-loop : tie.invariant-loop
-invariant-loop store₀ piece output₀ held₀ at₀ store output held at =
+abbrev invariant-loop : tie.invariant-loop-at
+invariant-loop rt store₀ piece output₀ held₀ at₀ store output held at =
     (at ≤ length piece) × Serves held store
     × ((on_bytes (state_of held₀ store₀) piece).state ≡ (on_bytes (state_of held store) (drop at piece)).state)
     × (length store ≡ length store₀) × (length output ≡ length output₀)
 
-abbrev decreases-loop : tie.decreases-loop
-decreases-loop store₀ piece output₀ held₀ at₀ store output held at = length piece - at
+abbrev decreases-loop : tie.decreases-loop-at
+decreases-loop rt store₀ piece output₀ held₀ at₀ store output held at = length piece - at
 
 no : false ≡ true → ⊥
 no h = let z : ◌≡◌ {A = ℕ} 0 1 = cc in omega arith
@@ -41,134 +41,128 @@ rest-state s rest u q e =
     ∙ ap (λ (r : Reached). r.state) (on_bytes-append s (take u rest) (drop u rest))
     ∙ ap (λ (r : Reached). (on_bytes r.state (drop u rest)).state) (sym e)
 
-module _ (c : tie.After-run-lines invariant-loop decreases-loop) where
-  abbrev l : tie.At-loop invariant-loop decreases-loop
-  l = c.before.before.before.before.before
-
+module _ (c : tie.After-run_lines-ran invariant-loop decreases-loop) where
   abbrev piece : List ℕ
-  piece = l.before.before.before.before.args.piece.now
+  piece = c.args.piece.now
 
   abbrev rest : List ℕ
-  rest = drop l.loop.at piece
+  rest = drop c.loop-at.at piece
 
   abbrev out : List ℕ
-  out = c.run-lines.new.1.1.1.0
+  out = c.run_lines-ran.new.output
 
   -- what run_lines was lent is the rest of the piece
-  whole : take (length piece - l.loop.at) rest ≡ rest
-  whole = take_all (length piece - l.loop.at) rest (omega (arith, length-drop l.loop.at piece))
+  whole : take (length piece - c.loop-at.at) rest ≡ rest
+  whole = take_all (length piece - c.loop-at.at) rest (omega (arith, length-drop c.loop-at.at piece))
 
-  ran : ran_as c.run-lines.result.state c.run-lines.new.1.0 (take c.run-lines.result.written out)
-      ≡ on_bytes (state_of l.loop.held l.loop.store) (take c.run-lines.result.used rest)
+  ran : ran_as c.run_lines-ran.result.state c.run_lines-ran.new.store (take c.run_lines-ran.result.written out)
+      ≡ on_bytes (state_of c.loop-at.held c.loop-at.store) (take c.run_lines-ran.result.used rest)
   ran =
-      c.run-lines.ensures.1.0
+      c.run_lines-ran.ensures.1.0
       ∙ ap
-      (λ (x : List ℕ). on_bytes (state_of l.loop.held l.loop.store) (take c.run-lines.result.used x))
+      (λ (x : List ℕ). on_bytes (state_of c.loop-at.held c.loop-at.store) (take c.run_lines-ran.result.used x))
       whole
 
-  written : c.run-lines.result.written ≤ length out
-  written = c.run-lines.ensures.1.1.1.0
+  written : c.run_lines-ran.result.written ≤ length out
+  written = c.run_lines-ran.ensures.1.1.1.0
 
-  stop : (c.run-lines.result.written + line_output ≤ length out) → c.run-lines.result.used ≡ length rest
-  stop h = c.run-lines.ensures.1.1.1.1 h ∙ ap length whole
+  stop : (c.run_lines-ran.result.written + line_output ≤ length out) → c.run_lines-ran.result.used ≡ length rest
+  stop h = c.run_lines-ran.ensures.1.1.1.1 h ∙ ap length whole
 
   room : line_output ≤ length out
   room =
-      let asked = l.before.before.before.before.pre.1 in
-      omega (arith, asked, l.loop.inv.4, c.run-lines.auto.1.1.1.0)
+      let asked = c.requires.1 in
+      omega (arith, asked, c.loop-at.invariant.4, c.run_lines-ran.auto.output)
 
   -- a byte at least, and none past the end
-  moved : (1 ≤ c.run-lines.result.used) × (l.loop.at + c.run-lines.result.used ≤ length piece)
+  moved : (1 ≤ c.run_lines-ran.result.used) × (c.loop-at.at + c.run_lines-ran.result.used ≤ length piece)
   moved =
-      let long = length-drop l.loop.at piece in
-      let test = c.before.before.before.before.loop-test.true in
-      let few = c.run-lines.ensures.1.1.0 in
+      let long = length-drop c.loop-at.at piece in
+      let test = c.loop-at-test.true in
+      let few = c.run_lines-ran.ensures.1.1.0 in
       let all = ap length whole in (
-        progress c.run-lines.result.used c.run-lines.result.written rest out
-            (state_of l.loop.held l.loop.store) (ap (λ (r : Reached). r.text) ran) written stop room
+        progress c.run_lines-ran.result.used c.run_lines-ran.result.written rest out
+            (state_of c.loop-at.held c.loop-at.store) (ap (λ (r : Reached). r.text) ran) written stop room
             (omega (arith, long, test)),
-        omega (arith, long, few, all, l.loop.inv.0),
+        omega (arith, long, few, all, c.loop-at.invariant.0),
       )
 
-loop-holds : tie.Need-loop-init invariant-loop decreases-loop
-loop-holds c = (omega arith, c.before.before.before.requires.0, refl, refl, refl)
+loop-holds : tie.Need-loop-at-init invariant-loop decreases-loop
+loop-holds c = (omega arith, c.requires.0, refl, refl, refl)
 
-sub-run-lines : tie.Need-overflow-sub-run-lines invariant-loop decreases-loop
+sub-run-lines : tie.Need-slice_bounds-run_lines-count invariant-loop decreases-loop
 sub-run-lines c = omega arith
 
-part-run-lines-start : tie.Need-slice-bounds-run-lines-start invariant-loop decreases-loop
+part-run-lines-start : tie.Need-slice_bounds-run_lines-start invariant-loop decreases-loop
 part-run-lines-start c = omega arith
 
-part-run-lines-end : tie.Need-slice-bounds-run-lines-end invariant-loop decreases-loop
+part-run-lines-end : tie.Need-slice_bounds-run_lines-end invariant-loop decreases-loop
 part-run-lines-end c = omega arith
 
-run-lines-requires : tie.Need-run-lines-requires invariant-loop decreases-loop
-run-lines-requires c κs = c.before.before.before.before.loop.invariant.1
+run-lines-requires : tie.Need-run_lines-ran-requires invariant-loop decreases-loop
+run-lines-requires c κs = c.loop-at.invariant.1
 
-slice-reshare-prefix-put : tie.Need-slice-reshare-prefix-put invariant-loop decreases-loop
+slice-reshare-prefix-put : tie.Need-slice_bounds-put-end invariant-loop decreases-loop
 slice-reshare-prefix-put c = written c.before.before.before.before.before
 
-slice-aggregate-put : tie.Need-slice-aggregate-put invariant-loop decreases-loop
+slice-aggregate-put : tie.Need-slice_bounds-put-end-in-loop-at invariant-loop decreases-loop
 slice-aggregate-put c =
-    let p = c.before.before.before.before.before.before in
-    sym (length-take-le p.run-lines.result.written (out p) (written p))
+    let p = c.before.before.before.before.before in
+    sym (length-take-le p.run_lines-ran.result.written (out p) (written p))
 
 put-requires : tie.Need-put-requires invariant-loop decreases-loop
 put-requires c κs = tt
 
-same_length : tie.Need-same-length invariant-loop decreases-loop
+same_length : tie.Need-shape_of-store-then-not-put invariant-loop decreases-loop
 same_length c =
-    let p = c.before.before.before.before.before.before.before.before in
-    p.run-lines.auto.1.0 ∙ (l p).loop.invariant.3
+    c.run_lines-ran.auto.store ∙ c.loop-at.invariant.3
 
-same-length-2 : tie.Need-same-length-2 invariant-loop decreases-loop
+same-length-2 : tie.Need-shape_of-output-then-not-put invariant-loop decreases-loop
 same-length-2 c =
-    let p = c.before.before.before.before.before.before.before.before in
-    p.run-lines.auto.1.1.1.0 ∙ (l p).loop.invariant.4
+    c.run_lines-ran.auto.output ∙ c.loop-at.invariant.4
 
-returns : tie.Need-returns invariant-loop decreases-loop
+returns : tie.Need-returns-then-not-put invariant-loop decreases-loop
 returns c =
-    let p = c.before.before.before.before.before.before.before.before in
-    (p.run-lines.ensures.0, λ h. absurd (no h))
+    (c.run_lines-ran.ensures.0, λ h. absurd (no h))
 
-add_at : tie.Need-overflow-add-at invariant-loop decreases-loop
+add_at : tie.Need-overflow_add-at invariant-loop decreases-loop
 add_at c =
-    let p = c.before.before.before.before.before.before.before.before.before in
-    omega (arith, (moved p).1, (l p).before.before.before.before.well-formed)
+    let p = c.before.before.before.before.before.before.before.before in
+    omega (arith, (moved p).1, c.well_formed)
 
-loop-less : tie.Need-loop-smaller invariant-loop decreases-loop
+loop-less : tie.Need-loop-at-smaller invariant-loop decreases-loop
 loop-less c =
-    let p = c.before.before.before.before.before.before.before.before.before in
+    let p = c.before.before.before.before.before.before.before.before in
     omega (arith, (moved p).0, (moved p).1)
 
-loop-again : tie.Need-loop-preserved invariant-loop decreases-loop
+loop-again : tie.Need-loop-at-preserved invariant-loop decreases-loop
 loop-again c =
-    let p = c.before.before.before.before.before.before.before.before.before in
-    let r = p.run-lines in
-    let s = state_of (l p).loop.held (l p).loop.store in (
+    let p = c.before.before.before.before.before.before.before.before in
+    let r = c.run_lines-ran in
+    let s = state_of c.loop-at.held c.loop-at.store in (
       (moved p).1,
       r.ensures.0,
-      (l p).loop.invariant.2 ∙ rest-state s (rest p) r.result.used _ (ran p)
-          ∙ ap (λ (x : List ℕ). (on_bytes (state_of r.result.state r.new.1.0) x).state)
-          (drop-drop r.result.used (l p).loop.at (piece p)),
-      r.auto.1.0 ∙ (l p).loop.invariant.3,
-      r.auto.1.1.1.0 ∙ (l p).loop.invariant.4,
+      c.loop-at.invariant.2 ∙ rest-state s (rest p) r.result.used _ (ran p)
+          ∙ ap (λ (x : List ℕ). (on_bytes (state_of r.result.state r.new.store) x).state)
+          (drop-drop r.result.used c.loop-at.at (piece p)),
+      r.auto.store ∙ c.loop-at.invariant.3,
+      r.auto.output ∙ c.loop-at.invariant.4,
     )
 
-same-length-3 : tie.Need-same-length-3 invariant-loop decreases-loop
-same-length-3 c = c.before.loop.invariant.3
+same-length-3 : tie.Need-shape_of-store invariant-loop decreases-loop
+same-length-3 c = c.loop-at.invariant.3
 
-same-length-4 : tie.Need-same-length-4 invariant-loop decreases-loop
-same-length-4 c = c.before.loop.invariant.4
+same-length-4 : tie.Need-shape_of-output invariant-loop decreases-loop
+same-length-4 c = c.loop-at.invariant.4
 
-returns-2 : tie.Need-returns-2 invariant-loop decreases-loop
+returns-2 : tie.Need-returns invariant-loop decreases-loop
 returns-2 c =
-    let l = c.before.loop in
-    let none = drop_of_length-le c.before.before.before.before.before.args.piece.now c.loop-test.false in
+    let l = c.loop-at in
+    let none = drop_of_length-le c.args.piece.now c.loop-at-test.false in
     (l.invariant.1, λ h. sym (l.invariant.2 ∙ ap (λ (x : List ℕ). (on_bytes (state_of l.held l.store) x).state) none))
 
-pub run-piece-spec : {M : Type 1} → statement M
-run-piece-spec =
+pub run_piece_spec : {M : Type 1} → statement M
+run_piece_spec =
     tie.close
     (tie.spec
     invariant-loop
