@@ -14,10 +14,10 @@ pub fn file(name: &str) -> String {
     std::fs::read_to_string(format!("{folder}/{name}")).unwrap_or_else(|error| panic!("{name}: {error}"))
 }
 
-/// How many calls were replayed, and how many of them were refused with 12, and with 14; how many were squeezes, and
-/// how many of those were refused with 11 and how many made a step; how many were recoveries, and how many of those
-/// changed the store; how many were looks, and how many of those found a block in the journal; how many were gauges, and
-/// how many of those showed other numbers than 0.
+/// How many calls were replayed, gauges aside, and how many of them were refused with 12, and with 14; how many were
+/// squeezes, and how many of those were refused with 11 and how many made a step; how many were recoveries, and how many
+/// of those changed the store; how many were looks, and how many of those found a block in the journal; how many gauges
+/// there were besides, and how many of those showed other numbers than 0.
 #[derive(Debug, Default, PartialEq, Eq)]
 pub struct Replayed {
     pub calls: u32,
@@ -60,6 +60,7 @@ impl Replayed {
                 self.in_journal += u32::from(said[1].starts_with('j'));
             }
             "g" => {
+                self.calls -= 1; // counted apart
                 self.gauges += 1;
                 self.shown += u32::from(said[2] != "0000000000000000");
             }

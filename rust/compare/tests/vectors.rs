@@ -14,7 +14,7 @@ fn stores_01<S: Side>() {
 }
 
 fn stores_02<S: Side>() {
-    let calls = Replayed { calls: 7_116, in_use: 37, pending: 492, gauges: 130, shown: 37, ..Replayed::default() };
+    let calls = Replayed { calls: 6_986, in_use: 37, pending: 492, gauges: 130, shown: 37, ..Replayed::default() };
     let squeezes = Replayed { squeezes: 1_512, busy: 64, moved: 12, ..calls };
     let wanted = Replayed { recoveries: 130, mended: 4, looks: 1_024, in_journal: 4, ..squeezes };
     assert_eq!(replay_02::<S>(&file("02/stores.txt")), wanted);
