@@ -20,7 +20,7 @@
  *   shows 0 twice.
  *
  * Each call's answer and the bytes afterwards are proved equal to what a definition gives, for all inputs:
- * crates/amiqsovik/src. That this header fits those functions is not proved.
+ * crates/amiqsovik_c/src. That this header fits those functions is not proved.
  */
 #ifndef AMIQSOVIK_H
 #define AMIQSOVIK_H

@@ -59,7 +59,7 @@ pub fn amiqsovik_lookup(store: &[u8], hash: u32, output: &mut [u8]) -> u64
     lookup_word(lookup(store, hash, output))
 }
 
-// Writes what stands, 28 bytes, to `result`; a shorter `result` is tested first. A refusal writes nothing.
+// Writes what stands, 28 bytes, to `res`; a shorter `res` is tested first. A refusal writes nothing.
 pub fn amiqsovik_standing(store: &[u8], res: &mut [u8]) -> u64
     ensures value { result ≡ (standing_told store.now res.old).word }
     ensures res_after { res.new ≡ (standing_told store.now res.old).result }

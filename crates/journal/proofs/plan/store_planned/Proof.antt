@@ -68,7 +68,7 @@ returns-3 c =
     c.block_at-then-past-eq1.ensures c.put_block-then-past-eq1.ensures
 
 sub-i : tie.Need-overflow_sub-i
-sub-i c = search rules
+sub-i c = omega arith
 
 plan-name-requires : tie.Need-plan_name-name-requires
 plan-name-requires c κs = search rules
