@@ -72,7 +72,7 @@ loop2-again c =
     let bit = bit_of-byte map i j c.loop-j-test.true in (
       omega arith,
       c.loop-j.invariant.1
-          ∙ free-later map (8 * i + j) (omega arith) (λ q. c.if-map-i-eq0.false (sym bit ∙ q))
+          ∙ free-later map (8 * i + j) (omega arith) (λ q. omega (arith, bit))
           ∙ ap (free_from map) (add_assoc (8 * i) j 1),
     )
 
@@ -102,7 +102,7 @@ returns c =
     let i = c.loop-i.i in
     let j = c.loop-j.j in
     let bit = bit_of-byte map i j c.loop-j-test.true in
-    sym (c.loop-j.invariant.1 ∙ free-here map (8 * i + j) (omega arith) (bit ∙ c.if-map-i-eq0.true))
+    sym (c.loop-j.invariant.1 ∙ free-here map (8 * i + j) (omega arith) (omega (arith, bit)))
 
 returns-2 : tie.Need-returns-after-loop-i invariant-loop2 decreases-loop2 invariant-loop decreases-loop invariant-search decreases-search
 returns-2 c =

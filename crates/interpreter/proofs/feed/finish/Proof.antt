@@ -1,4 +1,4 @@
-use Rattle.std.proofs.Common.{◌≡◌, true, sym, ◌∙◌, rules}
+use Rattle.std.proofs.Common.{◌≡◌, true, sym, ◌∙◌, arith, rules}
 use borrow.Author.Tests.{not-true, not-false}
 use Rattle.interpreter.specs.Feed.{ready}
 use Rattle.interpreter.specs.FeedLaws.{ready-room, ready-next, finish-unready, finish-still, finish-ended}
@@ -34,7 +34,7 @@ same-length-4 c = search rules
 returns-2 : tie.Need-returns-then-state-eq0
 returns-2 c =
     let a = c.args in
-    (finish-still a.state a.store.now a.output.now (fit c.before.before) c.if-state-eq0.true, sym (fit c.before.before))
+    (finish-still a.state a.store.now a.output.now (fit c.before.before) (omega arith), sym (fit c.before.before))
 
 end-line-requires : tie.Need-end_line-requires
 end-line-requires c κs =
@@ -51,7 +51,7 @@ returns-3 : tie.Need-returns
 returns-3 c =
     let a = c.args in
     let n = c.end_line in (
-      finish-ended a.state a.store.now a.output.now (fit c.before.before.before.before.before.before.before.before.before) c.if-state-eq0.false ∙ n.ensures.0,
+      finish-ended a.state a.store.now a.output.now (fit c.before.before.before.before.before.before.before.before.before) (omega arith) ∙ n.ensures.0,
       ready-next 0 a.state a.store.now a.output.now n.result n.new.store n.new.output
           (fit c.before.before.before.before.before.before.before.before.before) n.ensures.0 n.ensures.1 n.auto.store n.auto.output,
     )

@@ -15,14 +15,14 @@ returns : tie.Need-returns-then-line-lt2
 returns c = sym (line-short c.args.line.now c.if-line-lt2.true)
 
 returns-2 : tie.Need-returns-then-line-gt80
-returns-2 c = sym (line-long c.args.line.now c.if-line-gt80.true)
+returns-2 c = sym (line-long c.args.line.now (omega arith))
 
 shared-slice-read-if3 : tie.Need-bounds-line-1
 shared-slice-read-if3 c = omega arith
 
 returns-3 : tie.Need-returns-then-line-ne32
 returns-3 c =
-    sym (line-no-space c.args.line.now c.if-line-lt2.false c.if-line-gt80.false
+    sym (line-no-space c.args.line.now c.if-line-lt2.false (omega arith)
     c.if-line-ne32.true)
 
 shared-slice-read-command-of : tie.Need-bounds-line-0
@@ -51,7 +51,7 @@ returns-4 c =
     c.command_of.ensures
     ∙ ap (command_of (get_or line 0 0))
     (c.read_fields.ensures ∙ ap (λ (l : List ℕ). fields_from Fields.None (words l)) whole)
-    ∙ sym (line-call line c.if-line-lt2.false c.if-line-gt80.false c.if-line-ne32.false)
+    ∙ sym (line-call line c.if-line-lt2.false (omega arith) c.if-line-ne32.false)
 
 pub read_line_spec : {M : Type 1} → statement M
 read_line_spec =

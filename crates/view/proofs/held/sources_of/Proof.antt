@@ -21,7 +21,7 @@ bucket-flags-requires c κs =
 returns-2 : tie.Need-returns-then-bucket_flags-ne-POPULATED
 returns-2 c =
     source-settled c.requires c.args.hash c.bucket_of-home.result c.bucket_of-home.ensures c.if-home-m.false
-    c.bucket_flags.result c.bucket_flags.ensures c.if-bucket_flags-ne-POPULATED.true
+    c.bucket_flags.result c.bucket_flags.ensures (omega arith)
 
 parent-of-requires : tie.Need-parent_of-old-requires
 parent-of-requires c κs = search rules
@@ -30,7 +30,7 @@ returns-3 : tie.Need-returns
 returns-3 c =
     ap (Sources.Both c.bucket_of-home.result) c.parent_of-old.ensures
     ∙ source-populated c.requires c.args.hash c.bucket_of-home.result c.bucket_of-home.ensures c.if-home-m.false
-    c.bucket_flags.result c.bucket_flags.ensures c.if-bucket_flags-ne-POPULATED.false
+    c.bucket_flags.result c.bucket_flags.ensures (omega arith)
 
 pub sources_of_spec : {M : Type 1} → statement M
 sources_of_spec =
