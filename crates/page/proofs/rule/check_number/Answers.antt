@@ -1,0 +1,10 @@
+use Rattle.std.proofs.Common.{ap, arith, leb, ℕ}
+use Rattle.page.specs.Rule.{number_ok}
+use Rattle.page.proofs.rule.check_number.Goals as goal
+
+pub count_entries-requires : goal.count_entries-requires
+count_entries-requires c = omega arith
+
+pub returns : goal.returns
+unfolding number_ok
+returns c = ap (λ (n : ℕ). leb n 40) c.count_entries.ensures

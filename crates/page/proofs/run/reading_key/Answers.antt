@@ -1,0 +1,7 @@
+use Rattle.std.proofs.Common.{arith, rules}
+use Rattle.page.specs.Entries.{read_entry}
+use Rattle.page.proofs.run.reading_key.Goals as goal
+
+pub returns : goal.returns
+unfolding read_entry
+returns c = (omega (arith, c.get_u32.ensures, c.get_u16.ensures), omega arith)

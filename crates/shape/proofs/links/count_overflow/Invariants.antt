@@ -1,0 +1,15 @@
+use Rattle.std.proofs.Common.{ap, arith, length, sym, ℕ, ◌+◌, ◌-◌, ◌/◌, ◌∙◌, ◌≡◌, ◌≤◌}
+use Rattle.lists.specs.Lists.{b2n, tally, up_from}
+use Rattle.lists.specs.Block.{blocks}
+use Rattle.image.specs.Rules.{is_overflow}
+use Rattle.reader.specs.KnownLaws.{sized}
+use Rattle.shape.specs.LoopLaws.{run-turn, run-done}
+use Rattle.shape.proofs.links.count_overflow.Given as goal
+
+abbrev pub invariant-loop-k : goal.invariant-loop-k
+invariant-loop-k l =
+    (l.k ≤ l.size) × (l.n ≤ l.k)
+    × (l.n + tally (is_overflow l.store) (up_from l.k (l.size - l.k)) ≡ tally (is_overflow l.store) (up_from 0 l.size))
+
+abbrev pub decreases-loop-k : goal.decreases-loop-k
+decreases-loop-k l = l.size - l.k
