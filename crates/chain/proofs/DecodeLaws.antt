@@ -1,5 +1,5 @@
 -- The walk from a bucket's block reads what `decode` gives as the bucket's chain, of any bytes.
-use Rattle.std.specs.Prelude.{◌≡◌, refl, Bool, ◌||◌, ℕ, suc, ◌≤◌}
+use Rattle.std.specs.Prelude.{◌≡◌, refl, Bool, ◌||◌, ℕ, suc, ◌≤◌, is_some}
 use Rattle.std.proofs.Common.{sym, ◌∙◌, arith}
 use Rattle.std.proofs.Math.Path.{ap}
 use mathlib.Core.List.{List, [], ◌∷◌, ◌++◌, map}
@@ -12,7 +12,7 @@ use Rattle.model.specs.Index.{no_chain, on_pages, entries_in, chain, entries_at}
 use Rattle.model.specs.Pages.{page_room, chain_room}
 use Rattle.image.specs.Decode.{max_at, block_of, trail, read_page, read_chain, decode}
 use Rattle.chain.specs.Walk.{walk}
-use Rattle.chain.specs.Search.{room_on, find_in, room_in, is_found, is_page}
+use Rattle.chain.specs.Search.{room_on, find_in, room_in, is_page}
 use Rattle.chain.specs.Within.{entries_on}
 use Rattle.chain.proofs.SearchLaws.{find_in-any, room_in-any}
 
@@ -43,7 +43,7 @@ module _ (s : List ℕ) where
         ∙ ap chain_room (sym chain-decode)
 
     -- a pair is found if the bucket's chain has it
-    pub find_in-decode : (p : Pair) → is_found (find_in s (walk s (block_of s b)) p) ≡ any (is p) (entries_at (decode s) b)
+    pub find_in-decode : (p : Pair) → is_some (find_in s (walk s (block_of s b)) p) ≡ any (is p) (entries_at (decode s) b)
     find_in-decode p = find_in-any s (walk s (block_of s b)) p ∙ ap (any (is p)) entries-walk
 
     -- a page is found if the bucket's chain has room

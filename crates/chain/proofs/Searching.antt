@@ -7,6 +7,7 @@ use Prim.Native.Nat.{ℕ, ◌+◌, ◌≤◌, ◌<◌}
 use native.Mathlib.Omega.{arith}
 use borrow.Author.Tests.{lt-ltb, le-ltb}
 use lib.ListN.{length, get_or, take, drop}
+use Rattle.std.specs.Prelude.{Option, Some, None}
 use Rattle.lists.specs.Lists.{find}
 use Rattle.lists.specs.Block.{blocks, block}
 use Rattle.endian.specs.Endian.{u16_at}
@@ -17,12 +18,10 @@ use Rattle.store.specs.Store.{next_at}
 use Rattle.store.specs.Flags.{no_link}
 use Rattle.image.specs.Decode.{follow}
 use Rattle.frame.specs.ListsLaws.{find-hit, find-pass}
-use Rattle.chain.specs.declared.Slot.{Slot}
-use Rattle.chain.specs.declared.Found.{Found}
 use Rattle.chain.specs.declared.Room.{Room}
 use Rattle.chain.specs.Walk.{walk, last_of, Bounded}
 use Rattle.chain.specs.WalkLaws.{walk_end, walk_more, bounded-next}
-use Rattle.chain.specs.Search.{slot_in, pair_on, room_on, found_as, find_in, room_as, room_in}
+use Rattle.chain.specs.Search.{slot_in, pair_on, room_on, at_slot, found_as, find_in, room_as, room_in}
 use Rattle.chain.specs.Within.{entries_on, Within, PageOn}
 use Rattle.chain.proofs.SearchLaws.{slot_at, slot-none}
 use Rattle.chain.specs.WithinLaws.{search-here, search-later, search-end}
@@ -37,21 +36,21 @@ module _ {s bs : List ℕ} {n : ℕ} (ok : Within s bs n) (i : ℕ) where
 
   module _ (more : i < n) {x : List ℕ} (on : PageOn s bs n i x) where
     -- the answer r of the search for the pair in the page
-    module _ (p : Pair) (r : Slot) (asked : r ≡ slot_in (entries_of x) p) where
+    module _ (p : Pair) (r : Option ℕ) (asked : r ≡ slot_in (entries_of x) p) where
       answer : r ≡ slot_in (entries_on s at) p
       answer = asked ∙ ap (λ (y : List ℕ). slot_in (entries_of y) p) on.page
 
-      pub pair-here : (k : ℕ) → r ≡ Slot.At k → PairLeft p → find_in s (take n bs) p ≡ Found.At (get_or bs i 0) k
+      pub pair-here : (k : ℕ) → r ≡ Some k → PairLeft p → find_in s (take n bs) p ≡ at_slot (get_or bs i 0) k
       unfolding find_in
       pair-here k e left =
           let o = slot_at (entries_on s at) p k (sym answer ∙ e) in
-          ap (found_as s p) (left ∙ search-here ok i more (pair_on s p) o.stands) ∙ ap (Found.At at) (sym o.place)
+          ap (found_as s p) (left ∙ search-here ok i more (pair_on s p) o.stands) ∙ ap (at_slot at) (sym o.place)
 
-      pub pair-later : r ≡ Slot.Nothing
+      pub pair-later : r ≡ None
           → find (pair_on s p) (drop i (take n bs)) ≡ find (pair_on s p) (drop (i + 1) (take n bs))
       pair-later e = search-later ok i more (pair_on s p) (slot-none (entries_on s at) p (sym answer ∙ e))
 
-  pub pair-nowhere : n ≤ i → (p : Pair) → PairLeft p → find_in s (take n bs) p ≡ Found.Nothing
+  pub pair-nowhere : n ≤ i → (p : Pair) → PairLeft p → find_in s (take n bs) p ≡ None
   unfolding find_in
   pair-nowhere past p left = ap (found_as s p) (left ∙ search-end ok i (pair_on s p) past)
 

@@ -7,6 +7,7 @@ use native.Mathlib.Omega.{arith}
 use borrow.Author.Tests.{lt-ltb, le-ltb}
 use lib.Dec.{ltb}
 use lib.ListN.{length, get_or}
+use Rattle.std.specs.Prelude.{Some, None}
 use Rattle.lists.specs.Lists.{any, keep}
 use Rattle.page.specs.declared.Pair.{Pair}
 use Rattle.page.specs.declared.Entry.{Entry}
@@ -19,7 +20,6 @@ use Rattle.page.proofs.RunLaws.{place-run, any-run}
 use Rattle.page.proofs.RunPartLaws.{get_or-run_entries, run-entries, run-one}
 use Rattle.page.specs.Rule.{order_ok}
 use Rattle.page.specs.Allowed.{Sorted}
-use Rattle.chain.specs.declared.Slot.{Slot}
 use Rattle.chain.specs.Search.{slot_in}
 use Rattle.chain.proofs.SearchLaws.{slot-here, slot-nowhere}
 
@@ -43,17 +43,17 @@ module _ {l : List ℕ} (sorted : Sorted l) (p : Pair) {r : List ℕ} (run : r �
 
       -- the slot is counted from the page's first
       pub slot_same : (start : ℕ) → start ≡ run_start p.hash (entries_of l)
-          → same p (read_entry r (12 * k)).pair ≡ true → slot_in (entries_of l) p ≡ Slot.At (start + k)
+          → same p (read_entry r (12 * k)).pair ≡ true → slot_in (entries_of l) p ≡ Some (start + k)
       unfolding order_ok
       slot_same start before h =
           let whole = place-run p (entries_of l) sorted.order in
           let at : place_of p (entries_of l) ≡ start + k =
           omega (arith, whole, before, place, ap (place_of p) entries) in
-          slot-here (entries_of l) p (tested ∙ h) ∙ ap Slot.At at
+          slot-here (entries_of l) p (tested ∙ h) ∙ ap Some at
 
-      pub slot-other : same p (read_entry r (12 * k)).pair ≡ false → slot_in (entries_of l) p ≡ Slot.Nothing
+      pub slot-other : same p (read_entry r (12 * k)).pair ≡ false → slot_in (entries_of l) p ≡ None
       slot-other h = slot-nowhere (entries_of l) p (tested ∙ h)
 
-    pub slot-past : length (run_entries r) ≤ k → slot_in (entries_of l) p ≡ Slot.Nothing
+    pub slot-past : length (run_entries r) ≤ k → slot_in (entries_of l) p ≡ None
     slot-past h =
         slot-nowhere (entries_of l) p (stands (read_entry r (12 * k)) ∙ rw (le-ltb k (length (run_entries r)) h))

@@ -1,10 +1,10 @@
 -- The search for the lowest free bit and the test for ones, a bit or a byte at a time, and what is found.
 use Rattle.std.proofs.Math.Path.{◌≡◌, refl, ap}
 use Rattle.std.proofs.Common.{sym, ◌∙◌, add-one, arith}
-use Rattle.std.specs.Prelude.{◌≢◌, Bool, true, false, ◌&&◌, ℕ, zero, suc, ◌+◌, ◌*◌, ◌-◌, ◌/◌, ◌%◌, ◌^◌, ◌≤◌, ◌<◌, get_or}
+use Rattle.std.specs.Prelude.{◌≢◌, Bool, true, false, ◌&&◌, ℕ, zero, suc, ◌+◌, ◌*◌, ◌-◌, ◌/◌, ◌%◌, ◌^◌, ◌≤◌, ◌<◌, get_or, Option, Some, None}
 use mathlib.Core.List.{List, ◌∷◌}
-use Rattle.std.proofs.Math.Option
-use Rattle.std.proofs.Math.Option.{Option, none, some}
+use Rattle.std.proofs.Math.Option as maybe
+use Rattle.std.proofs.Math.Option.{Option as Maybe, none, some}
 use borrow.Author.Tests.{eq-eqb, ne_eqb, eqb-true, eqb-false}
 use Rattle.std.proofs.Math.Dec.{eqb}
 use Rattle.lists.specs.Lists.{all, find, up_from}
@@ -12,7 +12,6 @@ use Rattle.lists.specs.RunLaws.{all-get, find-run}
 use Rattle.image.specs.Decode.{bit_of}
 use Rattle.frame.specs.ListsLaws.{find-hit, find-pass}
 use Rattle.image.specs.Rules.{map_at, bit_at}
-use Rattle.chain.specs.declared.Free.{Free}
 use Rattle.chain.specs.Bitmap.{free_as, lowest_free, ones_from, Full, free_or}
 use Rattle.chain.specs.FindLaws.{run-lower, run_none}
 
@@ -44,7 +43,7 @@ module _ (l : List ℕ) where
   is_free n = eqb (bit_of l n) 0
 
   -- the lowest bit from k on that is 0
-  unfoldable pub free_from : ℕ → Free
+  unfoldable pub free_from : ℕ → Option ℕ
   free_from k = free_as (find is_free (up_from k (2048 - k)))
 
   pub free-start : lowest_free l ≡ free_from 0
@@ -57,7 +56,7 @@ module _ (l : List ℕ) where
         let e : 2048 - k ≡ suc (2048 - (k + 1)) = omega arith in
         ap (up_from k) e ∙ ap (λ (j : ℕ). k ∷ up_from j (2048 - (k + 1))) (sym (add-one k))
 
-    pub free-here : bit_of l k ≡ 0 → free_from k ≡ Free.Bit k
+    pub free-here : bit_of l k ≡ 0 → free_from k ≡ Some k
     unfolding free_from
     free-here e =
         ap (λ (ns : List ℕ). free_as (find is_free ns)) left
@@ -72,7 +71,7 @@ module _ (l : List ℕ) where
   pub free-byte : (i : ℕ) → i < 256 → get_or l i 0 ≡ 255 → free_from (8 * i) ≡ free_from (8 * i + 8)
   free-byte i more full = byte-passed l free_from free-later i more full 8 (8 * i) (omega arith) (omega arith)
 
-  pub free-none : free_from 2048 ≡ Free.Nothing
+  pub free-none : free_from 2048 ≡ None
   unfolding free_from
   free-none = refl
 
@@ -115,7 +114,7 @@ module _ (l : List ℕ) where
   pub ones-full : (at : ℕ) → at ≤ 256 → Full l at → ones_from l (8 * at) ≡ true
   ones-full at h full = passed-full (ones_from l) ones-later (256 - at) at (omega arith) full ∙ ones-end
 
-  pub free-full : Full l 0 → lowest_free l ≡ Free.Nothing
+  pub free-full : Full l 0 → lowest_free l ≡ None
   free-full full = free-start ∙ passed-full free_from free-later 256 0 refl full ∙ free-none
 
   -- ---- what is found
@@ -126,11 +125,11 @@ module _ (l : List ℕ) where
     pub inside : n < 2048
     pub lowest : (m : ℕ) → m < n → bit_of l m ≢ 0
 
-  pub lowest_free-bit : (n : ℕ) → lowest_free l ≡ Free.Bit n → LowestBit n
+  pub lowest_free-bit : (n : ℕ) → lowest_free l ≡ Some n → LowestBit n
   unfolding lowest_free
   lowest_free-bit n h = go (find is_free (up_from 0 2048)) refl h
     where
-      go : (o : Option ℕ) → find is_free (up_from 0 2048) ≡ o → free_as o ≡ Free.Bit n → LowestBit n
+      go : (o : Maybe ℕ) → find is_free (up_from 0 2048) ≡ o → free_as o ≡ Some n → LowestBit n
       go none e q = let z : ◌≡◌ {A = ℕ} 0 1 = cc in absurd (omega arith)
       go (some y) e q =
           let same : y ≡ n = cc in
@@ -142,11 +141,11 @@ module _ (l : List ℕ) where
             lowest = λ m lt. eqb-false (bit_of l m) 0 (run-lower is_free 0 2048 n found m (omega arith) lt);
           }
 
-  pub lowest_free-none : lowest_free l ≡ Free.Nothing → (m : ℕ) → m < 2048 → bit_of l m ≢ 0
+  pub lowest_free-none : lowest_free l ≡ None → (m : ℕ) → m < 2048 → bit_of l m ≢ 0
   unfolding lowest_free
   lowest_free-none h m lt = go (find is_free (up_from 0 2048)) refl h
     where
-      go : (o : Option ℕ) → find is_free (up_from 0 2048) ≡ o → free_as o ≡ Free.Nothing → bit_of l m ≢ 0
+      go : (o : Maybe ℕ) → find is_free (up_from 0 2048) ≡ o → free_as o ≡ None → bit_of l m ≢ 0
       go none e q = eqb-false (bit_of l m) 0 (run_none is_free 0 2048 e m (omega arith) lt)
       go (some y) e q = let z : ◌≡◌ {A = ℕ} 0 1 = cc in absurd (omega arith)
 
@@ -157,9 +156,9 @@ unfolding lowest_free
 lowest_free-rule s = refl
 
 pub free_or-rule : (s : List ℕ) (top : ℕ)
-    → Option.get_or (find (λ n. eqb (bit_at s n) 0) (up_from 0 2048)) top ≡ free_or top (lowest_free (map_at s))
+    → maybe.get_or (find (λ n. eqb (bit_at s n) 0) (up_from 0 2048)) top ≡ free_or top (lowest_free (map_at s))
 free_or-rule s top = sym (go (find (λ n. eqb (bit_at s n) 0) (up_from 0 2048)) (lowest_free-rule s))
   where
-    go : (o : Option ℕ) → lowest_free (map_at s) ≡ free_as o → free_or top (lowest_free (map_at s)) ≡ Option.get_or o top
+    go : (o : Maybe ℕ) → lowest_free (map_at s) ≡ free_as o → free_or top (lowest_free (map_at s)) ≡ maybe.get_or o top
     go none e = ap (free_or top) e
     go (some n) e = ap (free_or top) e

@@ -1,9 +1,9 @@
 -- On a sound store: the searches may go along a bucket's walk, and the lowest 0 bit is the index's free bit.
-use Rattle.std.specs.Prelude.{◌≡◌, Bool, not, List, ℕ, ◌≤◌, ◌<◌, ltb, take}
+use Rattle.std.specs.Prelude.{◌≡◌, Bool, not, List, ℕ, ◌≤◌, ◌<◌, ltb, take, Option, Some, None}
 use Rattle.std.proofs.Math.Path.{refl, sym, ap}
 use Rattle.std.proofs.Common.{◌∙◌, arith}
 use Rattle.std.proofs.Math.Bool.{true, false}
-use Rattle.std.proofs.Math.Option.{Option, none, some, get_or}
+use Rattle.std.proofs.Math.Option.{Option as Maybe, none, some, get_or}
 use borrow.Author.Tests.{eqb-true, ltb-true}
 use Rattle.lists.specs.Lists.{b2n, all, Each, up_from}
 use Rattle.lists.specs.ListsLaws.{and_left, and_right}
@@ -20,7 +20,6 @@ use Rattle.image.specs.Rules.{map_at, bit_at, top_at, free_at, bit_ok, rule6}
 use Rattle.image.proofs.SoundFieldsLaws.{SoundBytes}
 use Rattle.image.proofs.SoundChainsLaws.{PageRead, chain-read}
 use Rattle.image.proofs.SoundBitsLaws.{free-read}
-use Rattle.chain.specs.declared.Free.{Free}
 use Rattle.chain.specs.Walk.{walk, Sized, Walked}
 use Rattle.chain.specs.Within.{PagesOk, Within}
 use Rattle.chain.specs.WithinLaws.{walked-within}
@@ -77,23 +76,23 @@ module _ (s : List ℕ) (g : SoundBytes s) where
       let first = eqb-true (meta_at s).free _ (and_right (all_zero (part 256 492 (map_at s))) _ rest) in
       sym (free_or-rule s (top_at s)) ∙ sym first ∙ free-read s g
 
-  as_read : (f : Free) (o : Option ℕ) → lowest_free (map_at s) ≡ f → free_bit (decode s) ≡ o
+  as_read : (f : Option ℕ) (o : Maybe ℕ) → lowest_free (map_at s) ≡ f → free_bit (decode s) ≡ o
       → free_or (top_at s) f ≡ get_or o (top_bit (decode s))
   unfolding first_free
   as_read f o e q =
-      ap (free_or (top_at s)) (sym e) ∙ first-same ∙ ap (λ (r : Option ℕ). get_or r (top_bit (decode s))) q
+      ap (free_or (top_at s)) (sym e) ∙ first-same ∙ ap (λ (r : Maybe ℕ). get_or r (top_bit (decode s))) q
 
   pub sound-free : lowest_free (map_at s) ≡ free_as (free_bit (decode s))
   unfolding decode
   sound-free = go (lowest_free (map_at s)) (free_bit (decode s)) refl refl
     where
-      go : (f : Free) (o : Option ℕ) → lowest_free (map_at s) ≡ f → free_bit (decode s) ≡ o → f ≡ free_as o
-      go (Free.Bit n) (some m) e q = ap Free.Bit (as_read (Free.Bit n) (some m) e q)
-      go (Free.Bit n) none e q =
-          let h : n ≡ top_at s = as_read (Free.Bit n) none e q in
+      go : (f : Option ℕ) (o : Maybe ℕ) → lowest_free (map_at s) ≡ f → free_bit (decode s) ≡ o → f ≡ free_as o
+      go (Some n) (some m) e q = ap Some (as_read (Some n) (some m) e q)
+      go (Some n) none e q =
+          let h : n ≡ top_at s = as_read (Some n) none e q in
           let b = lowest_free-bit (map_at s) n e in
           absurd (omega (arith, zero-made n b.inside b.free))
-      go Free.Nothing (some m) e q =
-          let h : top_at s ≡ m = as_read Free.Nothing (some m) e q in
+      go None (some m) e q =
+          let h : top_at s ≡ m = as_read None (some m) e q in
           absurd (omega (arith, (free-bit (decode s) m q).2))
-      go Free.Nothing none e q = refl
+      go None none e q = refl

@@ -38,15 +38,14 @@ pub fn find_along(
     old: &[u32; MAX_BLOCKS + 1],
     k: usize,
     pair: Pair,
-) -> Found
+) -> Option<Found>
     requires within { (Within store.now own.now n) × (PagesOk store.now (take n own.now)) }
     requires within_2 { (Within store.now old.now k) × (PagesOk store.now (take k old.now)) }
     ensures { result ≡ find_along store.now (take n own.now)
         (take k old.now) pair }
 {
-    let found = find_pair(store, old, k, pair);
-    if let Found::At { block: _, slot: _ } = found {
-        return found;
+    match find_pair(store, old, k, pair) {
+        Some(found) => Some(found),
+        None => find_pair(store, own, n, pair),
     }
-    find_pair(store, own, n, pair)
 }

@@ -3,8 +3,6 @@ ghost use Rattle.std.specs.Prelude.{◌≡◌, true, ◌%◌, ◌≤◌, ◌<◌
 ghost use Rattle.image.specs.Decode.{bit_of};
 ghost use Rattle.chain.specs.Bitmap.{lowest_free, ones_from, Full};
 
-use crate::Free;
-
 // Bit `n`.
 pub fn bit_of(map: &[u8], n: u32) -> u8
     requires { (length map.now ≡ 512) × (n < 2048) }
@@ -20,12 +18,10 @@ fn is_full(map: &[u8], at: usize) -> bool
     ensures { result ≡ true → Full map.now at }
 {
     let mut full = true;
-    let mut i = at;
-    while i < 256 {
-        if map[i] != 255 {
+    for byte in &map[at..256] {
+        if *byte != 255 {
             full = false;
         }
-        i += 1;
     }
     full
 }
@@ -63,32 +59,29 @@ pub fn all_ones(map: &[u8], from: u32) -> bool
 }
 
 // The lowest bit that is 0, looked for bit by bit. A byte of ones is passed by whole.
-fn search_free(map: &[u8]) -> Free
+fn search_free(map: &[u8]) -> Option<u32>
     requires { length map.now ≡ 512 }
     ensures { result ≡ lowest_free map.now }
 {
-    let found = 'search: loop {
-        for i in 0..256usize {
-            if map[i] != 255 {
-                for j in 0..8usize {
-                    if (map[i] >> j) % 2 == 0 {
-                        break 'search Free::Bit((8 * i + j) as u32);
-                    }
+    for i in 0..256usize {
+        if map[i] != 255 {
+            for j in 0..8usize {
+                if (map[i] >> j) % 2 == 0 {
+                    return Some((8 * i + j) as u32);
                 }
             }
         }
-        break 'search Free::Nothing;
-    };
-    found
+    }
+    None
 }
 
 // The lowest bit that is 0.
-pub fn lowest_free(map: &[u8]) -> Free
+pub fn lowest_free(map: &[u8]) -> Option<u32>
     requires { length map.now ≡ 512 }
     ensures { result ≡ lowest_free map.now }
 {
     if is_full(map, 0) {
-        return Free::Nothing;
+        return None;
     }
     search_free(map)
 }

@@ -8,18 +8,11 @@ pub mod counting; // counting.rt: the number of pairs of a hash code
 pub mod along; // along.rt: the same over the walks of a hash code's own and old chain
 pub mod bitmap; // bitmap.rt: the lowest free bit; whether all bits from one on are 1
 
-// The slot of a pair in a page.
+// Where a pair stands in a chain: its block, and the slot in that.
 #[derive(Clone, Copy)]
-pub enum Slot {
-    At(u32),
-    Nothing,
-}
-
-// The block and slot of a pair in a chain.
-#[derive(Clone, Copy)]
-pub enum Found {
-    At { block: u32, slot: u32 },
-    Nothing,
+pub struct Found {
+    pub block: u32,
+    pub slot: u32,
 }
 
 // The first page of a chain with room for an entry; the chain's last block if none has.
@@ -27,11 +20,4 @@ pub enum Found {
 pub enum Room {
     Page { block: u32 },
     Full { last: u32 },
-}
-
-// The lowest free bit of a bitmap.
-#[derive(Clone, Copy)]
-pub enum Free {
-    Bit(u32),
-    Nothing,
 }

@@ -7,7 +7,7 @@ ghost use Rattle.chain.specs.Search.{slot_in, find_in, room_in};
 ghost use Rattle.chain.specs.Within.{PagesOk, Within};
 
 use crate::links::page_on;
-use crate::{Found, Room, Slot};
+use crate::{Found, Room};
 use address::limits::MAX_BLOCKS;
 use page::Pair;
 use page::order::is_same;
@@ -18,37 +18,37 @@ use store::flags::NO_LINK;
 use store::{block_at, next_at};
 
 // The slot of the pair in a page whose entries ascend: it is looked for in the run of its hash code.
-fn find_slot(page: &[u8], pair: Pair) -> Slot
+fn find_slot(page: &[u8], pair: Pair) -> Option<u32>
     requires { Sorted page.now }
     ensures { result ≡ slot_in (entries_of page.now) pair }
 {
     let run = find_run(page, pair.hash);
     let k = place_in_run(run, pair);
-    if k < count_run(run) {
-        if is_same(pair, run_entry(run, k).pair) {
-            return Slot::At((entries_before(page, pair.hash) + k) as u32);
-        }
+    if k < count_run(run) && is_same(pair, run_entry(run, k).pair) {
+        return Some((entries_before(page, pair.hash) + k) as u32);
     }
-    Slot::Nothing
+    None
 }
 
 // The first page of the walk that has the pair, and the pair's slot in it.
-pub fn find_pair(store: &[u8], blocks: &[u32; MAX_BLOCKS + 1], count: usize, pair: Pair) -> Found
+pub fn find_pair(
+    store: &[u8],
+    blocks: &[u32; MAX_BLOCKS + 1],
+    count: usize,
+    pair: Pair,
+) -> Option<Found>
     requires { (Within store.now blocks.now count) × (PagesOk store.now (take count blocks.now)) }
     ensures { result ≡ find_in store.now (take count blocks.now) pair }
 {
-    let mut i = 0;
-    while i < count {
-        let found = find_slot(page_on(store, blocks, count, i), pair);
-        if let Slot::At(slot) = found {
-            return Found::At {
+    for i in 0..count {
+        if let Some(slot) = find_slot(page_on(store, blocks, count, i), pair) {
+            return Some(Found {
                 block: blocks[i],
                 slot,
-            };
+            });
         }
-        i += 1;
     }
-    Found::Nothing
+    None
 }
 
 // The first page with fewer than 40 entries in the chain from `first` on, else the chain's last block.

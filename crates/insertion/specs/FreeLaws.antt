@@ -1,5 +1,5 @@
 -- The lowest free bit of a store's bitmap: the page that is taken, and first free afterwards.
-use Rattle.std.specs.Prelude.{◌≡◌, Bool, true, false, cond, not, List, ℕ, ◌*◌, ◌/◌, ◌%◌, ◌^◌, ◌<◌, length, get_or, set}
+use Rattle.std.specs.Prelude.{◌≡◌, Bool, true, false, cond, not, List, ℕ, ◌*◌, ◌/◌, ◌%◌, ◌^◌, ◌<◌, length, get_or, set, Some, None}
 use Rattle.std.proofs.Math.Path.{refl, ap}
 use Rattle.std.proofs.Common.{sym, ◌∙◌, arith}
 use Rattle.std.proofs.Math.Option
@@ -20,7 +20,6 @@ use Rattle.image.proofs.BoundLaws.{top_small}
 use Rattle.image.proofs.EncodeLaws.{map_bit-lt}
 use Rattle.image.specs.FreeLaws.{first-zero}
 use Rattle.frame.specs.ChainLaws.{Free, free-yes}
-use Rattle.chain.specs.declared.Free as chain
 use Rattle.chain.specs.Bitmap.{free_as, lowest_free, free_or}
 use Rattle.chain.specs.BitmapLaws.{lowest_free-bit}
 use Rattle.draft.specs.Bits.{put_bit}
@@ -66,7 +65,7 @@ module _ (x : Index) (laid : Laid x) (l : List ℕ) (same : (n : ℕ) → n < 20
   zero-free false e = absurd (omega arith)
 
   -- the lowest 0 bit is the page to take
-  pub free-read : (n : ℕ) → lowest_free l ≡ chain.Free.Bit n → (free_bit x ≡ some n) × Free x n
+  pub free-read : (n : ℕ) → lowest_free l ≡ Some n → (free_bit x ≡ some n) × Free x n
   unfolding first_free
   free-read n e =
       let b = lowest_free-bit l n e in
@@ -77,7 +76,7 @@ module _ (x : Index) (laid : Laid x) (l : List ℕ) (same : (n : ℕ) → n < 20
       go none q h = absurd (omega arith)
       go (some k) q h = ap some q
 
-  pub none_read : lowest_free l ≡ chain.Free.Nothing → free_bit x ≡ none
+  pub none_read : lowest_free l ≡ None → free_bit x ≡ none
   unfolding first_free
   none_read e = go (free_bit x) refl (sym first_read ∙ ap (free_or (top_bit x)) e)
     where

@@ -1,5 +1,5 @@
 -- An entry put into the next block past the made ones, at a chain's end: the plan.
-use Rattle.std.specs.Prelude.{◌≡◌, refl, ◌≢◌, List, [], ◌∷◌, ◌++◌, ℕ, suc, ◌<◌, drop, set}
+use Rattle.std.specs.Prelude.{◌≡◌, refl, ◌≢◌, List, [], ◌∷◌, ◌++◌, ℕ, suc, ◌<◌, drop, set, None}
 use Rattle.std.proofs.Common.{sym, ap, ◌∙◌, arith, get_or-set_same}
 use Rattle.lists.specs.Block.{block}
 use Rattle.address.specs.Address.{point, made}
@@ -20,7 +20,6 @@ use Rattle.frame.specs.Frame.{Apart, block_of_bit, map_block, last_place}
 use Rattle.frame.specs.ApartLaws.{page-map}
 use Rattle.frame.specs.FreshLaws.{more_spares, next-block, frame_fresh, fresh-blocks}
 use Rattle.frame.specs.ImagesLaws.{top_one, map-image}
-use Rattle.chain.specs.declared.Free as chain
 use Rattle.chain.specs.Bitmap.{free_or, lowest_free}
 use Rattle.view.specs.Reads.{Reads}
 use Rattle.view.specs.ReadsLaws.{reads-laid, reads-max}
@@ -104,7 +103,7 @@ module _ {s : List ℕ} {m : Meta} {b last : ℕ} {e : Entry} {held : ℕ}
   top-more =
       get_or-set_same x.spares (point x.max_bucket) (suc (top_bit x)) 0 (omega (arith, laid.spares.points))
 
-  pub fresh-first : lowest_free (block s (map_block (decode s))) ≡ chain.Free.Nothing
+  pub fresh-first : lowest_free (block s (map_block (decode s))) ≡ None
       → suc (top_bit (decode s)) ≡ first_free (extended (decode s) (more_spares (decode s)) b (top_bit (decode s)) e)
   fresh-first none =
       let w : Laid y = h.leaves.wf.laid in

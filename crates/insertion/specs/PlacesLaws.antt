@@ -1,7 +1,7 @@
 -- What a put comes to, by the page that it finds: the plan of the index that is left, or no room.
 use Rattle.std.proofs.Math.Path.{◌≡◌, refl}
 use Rattle.std.proofs.Common.{sym, subst, arith}
-use Rattle.std.specs.Prelude.{Bool, cond, List, ℕ, ◌≤◌, ◌<◌}
+use Rattle.std.specs.Prelude.{Bool, cond, List, ℕ, ◌≤◌, ◌<◌, Some, None}
 use Rattle.std.proofs.Math.Bool.{true, false}
 use Rattle.std.proofs.Math.Option.{Option, none, some}
 use Rattle.lists.specs.Block.{block}
@@ -18,7 +18,6 @@ use Rattle.image.specs.Decode.{bit_of, decode}
 use Rattle.frame.specs.Frame.{map_block}
 use Rattle.frame.specs.ChainLaws.{Free as IsFree}
 use Rattle.frame.specs.FreshLaws.{more_spares}
-use Rattle.chain.specs.declared.Free.{Free}
 use Rattle.chain.specs.declared.Room.{Room}
 use Rattle.chain.specs.Bitmap.{lowest_free}
 use Rattle.view.specs.Reads.{Reads}
@@ -93,7 +92,7 @@ module _ {s : List ℕ} {m : Meta} (r : Reads s m) (b : ℕ) (under : b ≤ m.ma
     bits : (n : ℕ) → n < 2048 → bit_of map n ≡ map_bit x n
     bits = bits-shaped x (map-shape r)
 
-    module _ (n : ℕ) (free : lowest_free (block s (map_block (decode s))) ≡ Free.Bit n) where
+    module _ (n : ℕ) (free : lowest_free (block s (map_block (decode s))) ≡ Some n) where
       pub bit-free : IsFree (decode s) n
       bit-free = (free-read x laid map bits n free).1
 
@@ -103,7 +102,7 @@ module _ {s : List ℕ} {m : Meta} (r : Reads s m) (b : ℕ) (under : b ≤ m.ma
       pub end-again : AtEnd s m b last e held (decode s).spares n
       end-again = record { leaves = leaves_of put-again; page = f.page }
 
-    module _ (nothing : lowest_free (block s (map_block (decode s))) ≡ Free.Nothing) where
+    module _ (nothing : lowest_free (block s (map_block (decode s))) ≡ None) where
       no-bit : free_bit x ≡ none
       no-bit = none_read x laid map bits nothing
 

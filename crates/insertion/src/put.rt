@@ -1,5 +1,5 @@
 // An entry put into a bucket's chain: into the first page with room, else into a page at the chain's end.
-ghost use Rattle.std.specs.Prelude.{◌≡◌, true, false, ℕ, ◌*◌, ◌≤◌, ◌<◌, length};
+ghost use Rattle.std.specs.Prelude.{◌≡◌, true, false, ℕ, ◌*◌, ◌≤◌, ◌<◌, length, None};
 ghost use Rattle.std.proofs.Math.Option.{some};
 ghost use Rattle.lists.specs.Lists.{any};
 ghost use Rattle.lists.specs.Block.{blocks, block};
@@ -13,7 +13,6 @@ ghost use Rattle.image.specs.Decode.{decode};
 ghost use Rattle.frame.specs.Frame.{map_block};
 ghost use Rattle.frame.specs.ChainLaws.{Free as IsFree};
 ghost use Rattle.frame.specs.FreshLaws.{more_spares};
-ghost use Rattle.chain.specs.declared.Free.{Free};
 ghost use Rattle.chain.specs.Bitmap.{free_or, lowest_free};
 ghost use Rattle.draft.specs.Bits.{put_bit};
 ghost use Rattle.view.specs.Reads.{Reads};
@@ -21,8 +20,8 @@ ghost use Rattle.plan.specs.Plan.{Plans, Places};
 ghost use Rattle.insertion.specs.Put.{last_block, entered, extended, InRoom, AtEnd, Linked};
 
 use address::{bit_block, made_blocks};
+use chain::Room;
 use chain::bitmap::lowest_free;
-use chain::{Free, Room};
 use draft::edit::{put_bit, put_fields, put_next};
 use draft::new_draft;
 use draft::pages::{insert_at, write_page};
@@ -69,11 +68,7 @@ fn next_free(map: &[u8], n: u32, top: u32) -> u32
     copy_over(&mut part, map);
     let at = (n / 8) as usize;
     part[at] = part[at] | (1u8 << (n % 8));
-    let free = lowest_free(&part);
-    match free {
-        Free::Bit(bit) => bit,
-        Free::Nothing => top,
-    }
+    lowest_free(&part).unwrap_or(top)
 }
 
 // Puts the entry into the free page of overflow bit `n`, after the page in block `last`.
@@ -116,7 +111,7 @@ fn put_in_fresh(
 ) -> Change
     requires at_end { AtEnd store.now m b last e held (more_spares (decode store.now)) (top_bit (decode store.now)) }
     requires store_bound { (made (decode store.now).spares (point (decode store.now).max_bucket) < (decode store.now).size)
-        × (lowest_free (block store.now (map_block (decode store.now))) ≡ Free.Nothing) }
+        × (lowest_free (block store.now (map_block (decode store.now))) ≡ None) }
     requires images_len { length images.old ≡ 4096 }
     ensures { Plans store.now result images.new
         (extended (decode store.now) (more_spares (decode store.now)) b
@@ -151,8 +146,7 @@ fn put_at_end(
 {
     let spares = m.spares;
     let map = bit_block(spares, m.point, 0);
-    let free = lowest_free(block_at(store, map as usize));
-    if let Free::Bit(n) = free {
+    if let Some(n) = lowest_free(block_at(store, map as usize)) {
         return PutPlan {
             room: true,
             change: put_in_free(store, m, b, last, n, e, held, images),

@@ -14,7 +14,7 @@ use Rattle.image.specs.declared.Meta.{Meta}
 use Rattle.image.specs.Layout.{flags_of, encode_block}
 use Rattle.image.specs.Decode.{decode}
 use Rattle.frame.specs.Frame.{map_block, chain_blocks, page_block, page_entries, prev_in, flags_for}
-use Rattle.chain.specs.declared.Found.{Found}
+use Rattle.chain.specs.Search.{at_slot}
 use Rattle.view.specs.Reads.{Reads}
 use Rattle.view.specs.Places.{find_at}
 use Rattle.plan.specs.Shape.{Shaped}
@@ -62,4 +62,4 @@ pub record Findable (s : List ℕ) (m : Meta) (c : Change) (images : List ℕ) (
 pub record Cuttable (s : List ℕ) (m : Meta) (c : Change) (images : List ℕ) (k slot n b : ℕ) (p : Pair) (x : Index)
     : Type 0 where
   pub findable : Findable s m c images n b p x
-  pub found : find_at x b p ≡ Found.At k slot
+  pub found : find_at x b p ≡ at_slot k slot

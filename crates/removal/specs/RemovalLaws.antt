@@ -1,5 +1,5 @@
 -- What a removal comes to, by where the pair is held.
-use Rattle.std.specs.Prelude.{◌≡◌, ◌≢◌, Bool, List, ℕ, ◌-◌, ◌≤◌}
+use Rattle.std.specs.Prelude.{◌≡◌, ◌≢◌, Bool, List, ℕ, ◌-◌, ◌≤◌, Some, None}
 use Rattle.std.proofs.Math.Path.{refl, sym, ap, ap₂, subst₂}
 use Rattle.std.proofs.Common.{◌∙◌, subst, arith}
 use Rattle.std.proofs.Math.Bool.{true, false}
@@ -68,7 +68,7 @@ module _ {s : List ℕ} {m : Meta} (r : Reads s m) (p : Pair) (ok : pair_ok p �
   unfolding remove
   removed h = ap₂ (λ (a b : Bool). remove_in a b x p) ok h
 
-  pub refused_none : {c : Change} {images : List ℕ} {a : Answer} → held_at (decode s) p ≡ Found.Nothing
+  pub refused_none : {c : Change} {images : List ℕ} {a : Answer} → held_at (decode s) p ≡ None
       → a ≡ Answer.Refused Refusal.NotHeld → c.count ≡ 0 → Settles s c images (remove (decode s) p) a
   unfolding remove
   refused_none {c} {images} h e z =
@@ -91,10 +91,10 @@ module _ {s : List ℕ} {m : Meta} (r : Reads s m) (p : Pair) (ok : pair_ok p �
         → Settles s c images (remove (decode s) p) Answer.Done
     settled {c} {images} g = subst (λ (t : Result). Settles s c images t Answer.Done) (sym e) (accepted g)
 
-  module _ (k n : ℕ) (found : held_at (decode s) p ≡ Found.At k n) where
+  module _ (f : Found) (found : held_at (decode s) p ≡ Some f) where
     pub done-any : remove (decode s) p
         ≡ done (cut_held (decode s).job (decode s) p (eqb (bucket (decode s) p) (new_bucket (decode s))))
-    done-any = removed (held_at-some x r.wf p k n found)
+    done-any = removed (held_at-some x r.wf p f found)
 
     pub done-home : (b : ℕ) → sources_of (decode s) p.hash ≡ Sources.Home b
         → remove (decode s) p ≡ done (cut p b (decode s))

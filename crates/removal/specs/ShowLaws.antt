@@ -1,5 +1,5 @@
 -- The pages of a chain as a draft shows them and as the store has them.
-use Rattle.std.specs.Prelude.{◌≡◌, ◌≢◌, Bool, true, false, List, [], ◌∷◌, ◌++◌, ℕ, suc, ◌^◌, ◌≤◌, ◌<◌, length}
+use Rattle.std.specs.Prelude.{◌≡◌, ◌≢◌, Bool, true, false, List, [], ◌∷◌, ◌++◌, ℕ, suc, ◌^◌, ◌≤◌, ◌<◌, length, None}
 use Rattle.std.proofs.Math.Path.{sym, ap}
 use Rattle.std.proofs.Common.{◌∙◌, subst, arith}
 use Rattle.std.proofs.Math.Logic.{⊎_elim}
@@ -31,7 +31,7 @@ use Rattle.frame.specs.ImagesLaws.{top_one, page-inside, page-image}
 use Rattle.frame.specs.CommitLaws.{in-or-apart}
 use Rattle.frame.specs.RemoveLaws.{frame-cut}
 use Rattle.frame.specs.ApartLaws.{page-same, page-meta, page-map}
-use Rattle.chain.specs.declared.Found.{Found}
+use Rattle.chain.specs.Search.{at_slot}
 use Rattle.view.specs.Places.{find_at}
 use Rattle.view.specs.ReadsLaws.{reads-laid, reads-size, reads_sized, reads-max}
 use Rattle.plan.specs.Sketch.{Sketch}
@@ -75,7 +75,7 @@ module _ {w x : Index} {b : ℕ} (l : Like w b x) where
   pub like-found : (p : Pair) → find_at w b p ≡ find_at x b p
   unfolding find_at
   like-found p =
-      sym (λ t. let c : Chain = l.chain t in cond (any (is p) (entries_in c)) (Found.At (place_block (record {
+      sym (λ t. let c : Chain = l.chain t in cond (any (is p) (entries_in c)) (at_slot (place_block (record {
         size = 0;
         fill = 0;
         number = 0;
@@ -83,7 +83,7 @@ module _ {w x : Index} {b : ℕ} (l : Like w b x) where
         spares = l.spares t;
         job = idle;
         chains = [];
-      }) b c (pair_place p c)) (place_of p (place_entries c (pair_place p c)))) Found.Nothing)
+      }) b c (pair_place p c)) (place_of p (place_entries c (pair_place p c)))) None)
 
 -- ---- the pages of bucket b's chain
 

@@ -10,14 +10,13 @@ ghost use Rattle.model.specs.Held.{count};
 ghost use Rattle.model.specs.WellFormed.{WF};
 ghost use Rattle.model.specs.Calls.{pair_ok, remove};
 ghost use Rattle.image.specs.Decode.{decode};
-ghost use Rattle.chain.specs.declared.Found.{Found};
+ghost use Rattle.chain.specs.Search.{at_slot};
 ghost use Rattle.view.specs.Reads.{Reads};
 ghost use Rattle.view.specs.Places.{find_at};
 ghost use Rattle.plan.specs.Plan.{Plans, Settles};
 
 use crate::ending::end_cut;
 use crate::pages::{cut_entry, cut_in};
-use chain::Found;
 use draft::new_draft;
 use image::Meta;
 use model::{Answer, Refusal};
@@ -54,7 +53,7 @@ pub fn plan_cut(
     images: &mut [u8],
 ) -> Change
     requires reads { (Reads store.now m) × (b ≤ m.max) × (length images.old ≡ 4096) }
-    requires pair_value { find_at (decode store.now) b pair ≡ Found.At block slot }
+    requires pair_value { find_at (decode store.now) b pair ≡ at_slot block slot }
     requires wf { (WF (cut pair b (decode store.now))) × (count (cut pair b (decode store.now)) ≡ held) }
     ensures { Plans store.now result images.new
         (cut pair b (decode store.now)) }
@@ -93,14 +92,22 @@ pub fn plan_remove(store: &[u8], m: Meta, pair: Pair, images: &mut [u8]) -> Plan
     ensures { Settles store.now result.change images.new
         (remove (decode store.now) pair) result.answer }
 {
-    let found = find_held(store, m, pair);
-    let Found::At { block, slot } = found else {
+    let Some(found) = find_held(store, m, pair) else {
         return refuse(Refusal::NotHeld);
     };
     let held = m.count - 1;
     let sources = sources_of(store, m, pair.hash);
     let change = match sources {
-        Sources::Home { home } => plan_cut(store, m, home, pair, block, slot, held, images),
+        Sources::Home { home } => plan_cut(
+            store,
+            m,
+            home,
+            pair,
+            found.block,
+            found.slot,
+            held,
+            images,
+        ),
         Sources::Both { new, old } => plan_cuts(store, m, new, old, pair, held, images),
     };
     Plan {

@@ -12,7 +12,6 @@ ghost use Rattle.removal.specs.Cutting.{Cuttable, Findable, Sketches};
 
 use crate::{Cut, Freed};
 use address::{BlockRole, role_of};
-use chain::Found;
 use draft::edit::{put_next, put_prev};
 use draft::pages::{clear_block, remove_at};
 use image::Meta;
@@ -92,12 +91,11 @@ pub fn cut_in(store: &[u8], m: Meta, change: Change, images: &mut [u8], b: u32, 
         → (result.freed ≡ freed_at x b pair)
         × Sketches store.now result.change images.new (n + 3) (cut pair b x) }
 {
-    let found = find_in(store, m, b, pair);
-    let Found::At { block, slot } = found else {
+    let Some(found) = find_in(store, m, b, pair) else {
         return Cut {
             change,
             freed: Freed::Nothing,
         };
     };
-    cut_entry(store, m, change, images, block, slot)
+    cut_entry(store, m, change, images, found.block, found.slot)
 }

@@ -4,7 +4,6 @@ ghost use Rattle.lists.specs.Lists.{all, up_from};
 ghost use Rattle.image.specs.Rules.{map_at, top_at, free_at, bit_ok, first_free_ok, rule6};
 ghost use Rattle.reader.specs.Known.{Known2};
 
-use chain::Free;
 use chain::bitmap::{all_ones, bit_of, lowest_free};
 use endian::raw::is_zero;
 use image::Meta;
@@ -66,8 +65,8 @@ fn check_first(store: &[u8], m: Meta) -> bool
     ensures { result ≡ first_free_ok store.now }
 {
     match lowest_free(map_of(store, m)) {
-        Free::Bit(n) => m.free == n,
-        Free::Nothing => m.free == top_of(m),
+        Some(n) => m.free == n,
+        None => m.free == top_of(m),
     }
 }
 

@@ -1,5 +1,5 @@
 -- Whether an entry is left to move, as code tests it, and the search for one among a page's slots.
-use Rattle.std.specs.Prelude.{◌≡◌, ◌≢◌, Bool, true, false, not, ◌&&◌, List, ℕ, ◌+◌, ◌≤◌, ◌<◌, eqb, length, take}
+use Rattle.std.specs.Prelude.{◌≡◌, ◌≢◌, Bool, true, false, not, ◌&&◌, List, ℕ, ◌+◌, ◌≤◌, ◌<◌, eqb, length, take, Option, is_some}
 use Rattle.std.proofs.Common.{sym, ◌∙◌, subst, arith, eq-eqb, ne_eqb}
 use Rattle.std.proofs.Math.Path.{ap}
 use Rattle.std.proofs.Math.Option.{some}
@@ -23,14 +23,14 @@ use Rattle.image.specs.Decode.{block_of, decode}
 use Rattle.frame.specs.Frame.{chain_blocks}
 use Rattle.chain.specs.declared.Found.{Found}
 use Rattle.chain.specs.Walk.{Walked}
-use Rattle.chain.specs.Search.{is_found, find_in}
+use Rattle.chain.specs.Search.{at_slot, find_in}
 use Rattle.chain.specs.Within.{PagesOk, Within}
 use Rattle.chain.specs.FindLaws.{find-here}
 use Rattle.view.specs.Reads.{Reads}
 use Rattle.view.specs.ReadsLaws.{reads-max}
 use Rattle.view.specs.PlacesLaws.{find-read}
 use Rattle.view.specs.ChainLaws.{blocks-within, blocks-pages, walks-blocks, walks-count}
-use Rattle.view.specs.HeldLaws.{is_found-find_at}
+use Rattle.view.specs.HeldLaws.{is_some-find_at}
 use Rattle.split.specs.declared.Mover.{Mover}
 use Rattle.split.specs.Mover.{movable, copied, NewChain}
 use Rattle.split.specs.Seek.{Before, After, Seeks, sought, nothing, found_on}
@@ -91,13 +91,13 @@ module _ {s : List ℕ} {m : Meta} (r : Reads s m) (e : Entry) where
 
     -- f is what the search for a copy found in the new chain
     pub movable-copy : {c : Bool} {bs : List ℕ} {n : ℕ} → c ≡ true → NewChain (decode s) bs n → b ≡ m.max
-        → (f : Found) → f ≡ find_in s (take n bs) e.pair → not (is_found f) ≡ movable c (decode s) e
+        → (f : Option Found) → f ≡ find_in s (take n bs) e.pair → not (is_some f) ≡ movable c (decode s) e
     movable-copy k h q f g =
         sym
         (ap (λ (d : Bool). movable d x e) k
         ∙ ap (λ (t : Bool). t && not (any (is e.pair) (entries_at x (new_bucket x)))) (moves-home q)
-        ∙ ap not (sym (is_found-find_at x (new_bucket x) e.pair)
-        ∙ ap is_found (sym (g ∙ ap (λ (ks : List ℕ). find_in s ks e.pair) h.blocks
+        ∙ ap not (sym (is_some-find_at x (new_bucket x) e.pair)
+        ∙ ap is_some (sym (g ∙ ap (λ (ks : List ℕ). find_in s ks e.pair) h.blocks
         ∙ find-read r (new_bucket x) (new-made r) e.pair))))
 
 -- another entry of its pair is as much to move
@@ -131,10 +131,10 @@ module _ (t : Entry → Bool) (l : List ℕ) (i : ℕ) where
         ∙ after-at t (entries_of l) k i (entry_at l i) z h in_list
 
     -- a search of the sorted page for its pair finds it there
-    pub slot-found : Sorted l → (b : ℕ) → found_on b (entries_of l) (entry_at l i).pair ≡ Found.At b i
+    pub slot-found : Sorted l → (b : ℕ) → found_on b (entries_of l) (entry_at l i).pair ≡ at_slot b i
     unfolding order_ok
     slot-found sorted b =
-        ap (Found.At b)
+        ap (at_slot b)
         (ap (λ (e : Entry). place_of e.pair (entries_of l)) (sym (get_or-entries_of l i (entry_at l i) more))
         ∙ place_at (entries_of l) i (entry_at l i) sorted.order in_list)
 

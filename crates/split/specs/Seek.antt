@@ -1,6 +1,6 @@
 -- A search along entries from a place on, before which none passes the test; the positions from which a step may
 -- search.
-use Rattle.std.specs.Prelude.{◌≡◌, Bool, true, false, List, ℕ, ◌+◌, ◌≤◌, ◌<◌, length, get_or, take, drop}
+use Rattle.std.specs.Prelude.{◌≡◌, Bool, true, false, List, ℕ, ◌+◌, ◌≤◌, ◌<◌, length, get_or, take, drop, Option}
 use Rattle.std.proofs.Math.Option.{none, some}
 use Rattle.lists.specs.Lists.{tally, find}
 use Rattle.page.specs.declared.Pair.{Pair}
@@ -9,6 +9,7 @@ use Rattle.page.specs.Places.{place_of}
 use Rattle.model.specs.Index.{Job, copying, clearing, Index, entries_at, old_bucket}
 use Rattle.model.specs.Steps.{next, step}
 use Rattle.chain.specs.declared.Found.{Found}
+use Rattle.chain.specs.Search.{at_slot}
 use Rattle.split.specs.declared.Mover.{Mover}
 use Rattle.split.specs.declared.Position.{Position}
 use Rattle.split.specs.Mover.{movable, copied}
@@ -48,13 +49,13 @@ shifted k (Mover.At e j b n) = Mover.At e (k + j) b n
 shifted k Mover.Nothing = Mover.Nothing
 
 -- its block and slot are where f finds its pair
-pub data Located (f : Pair → Found) : Mover → Type 0 where
-  located : {e : Entry} {k b n : ℕ} → f e.pair ≡ Found.At b n → Located f (Mover.At e k b n)
+pub data Located (f : Pair → Option Found) : Mover → Type 0 where
+  located : {e : Entry} {k b n : ℕ} → f e.pair ≡ at_slot b n → Located f (Mover.At e k b n)
   nowhere : Located f Mover.Nothing
 
 -- where a pair is found that stands among the entries of block b
-abbrev pub found_on : (b : ℕ) → List Entry → Pair → Found
-found_on b es p = Found.At b (place_of p es)
+abbrev pub found_on : (b : ℕ) → List Entry → Pair → Option Found
+found_on b es p = at_slot b (place_of p es)
 
 -- the job whose steps copy; clear
 abbrev pub job_of : (copying : Bool) → Job

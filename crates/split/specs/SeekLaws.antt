@@ -1,5 +1,5 @@
 -- Searches from a place on, along one list of entries after another.
-use Rattle.std.specs.Prelude.{◌≡◌, refl, Bool, true, false, List, [], ◌∷◌, ◌++◌, ℕ, zero, suc, ◌+◌, ◌-◌, ◌≤◌, ◌<◌, length, get_or, take, drop}
+use Rattle.std.specs.Prelude.{◌≡◌, refl, Bool, true, false, List, [], ◌∷◌, ◌++◌, ℕ, zero, suc, ◌+◌, ◌-◌, ◌≤◌, ◌<◌, length, get_or, take, drop, Option}
 use Rattle.std.proofs.Common.{sym, ap, ◌∙◌, subst, add-one, arith, take-append-drop, length-append, take_all, take-suc, get_or-append-add}
 use Rattle.std.proofs.Math.Option.{none, some}
 use Rattle.std.proofs.Math.ListN.{get_or-append}
@@ -11,6 +11,7 @@ use Rattle.page.specs.declared.Pair.{Pair}
 use Rattle.page.specs.declared.Entry.{Entry}
 use Rattle.frame.specs.ListsLaws.{find-zero, find-left, find-right}
 use Rattle.chain.specs.declared.Found.{Found}
+use Rattle.chain.specs.Search.{at_slot}
 use Rattle.split.specs.declared.Mover.{Mover}
 use Rattle.split.specs.Seek.{Before, After, Stands, Seeks, sought, nothing, Located, located, nowhere}
 
@@ -137,15 +138,15 @@ module _ {t : Entry → Bool} {es : List Entry} {r : Mover} (found : Seeks t es 
       go : Seeks t es Mover.Nothing → find t es ≡ none
       go (nothing f) = f
 
-module _ {f : Pair → Found} {r : Mover} (found : Located f r) where
-  pub located-at : {e : Entry} {k b n : ℕ} → r ≡ Mover.At e k b n → f e.pair ≡ Found.At b n
+module _ {f : Pair → Option Found} {r : Mover} (found : Located f r) where
+  pub located-at : {e : Entry} {k b n : ℕ} → r ≡ Mover.At e k b n → f e.pair ≡ at_slot b n
   located-at {e} {k} {b} {n} h = go (subst (Located f) h found)
     where
-      go : Located f (Mover.At e k b n) → f e.pair ≡ Found.At b n
+      go : Located f (Mover.At e k b n) → f e.pair ≡ at_slot b n
       go (located q) = q
 
   -- where another search finds the same
-  pub located-as : (g : Pair → Found) → ((p : Pair) → f p ≡ g p) → Located g r
+  pub located-as : (g : Pair → Option Found) → ((p : Pair) → f p ≡ g p) → Located g r
   located-as g same = go found
     where
       go : {q : Mover} → Located f q → Located g q

@@ -20,7 +20,6 @@ use crate::cursor::old_home;
 use crate::{Mover, Spot};
 use address::bucket_of;
 use address::limits::MAX_BLOCKS;
-use chain::Found;
 use chain::links::zero_walk;
 use chain::search::find_pair;
 use image::Meta;
@@ -76,12 +75,7 @@ fn is_movable(
     if fresh {
         return true;
     }
-    let found = find_pair(store, copies, walked, pair);
-    if let Found::At { block: _, slot: _ } = found {
-        false
-    } else {
-        true
-    }
+    find_pair(store, copies, walked, pair).is_none()
 }
 
 // The first entry of the page in a block that a step moves; before slot `from` there is none.

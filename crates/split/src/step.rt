@@ -7,7 +7,7 @@ ghost use Rattle.model.specs.Steps.{step};
 ghost use Rattle.model.specs.WellFormed.{Laid, WF};
 ghost use Rattle.image.specs.Layout.{meta_of};
 ghost use Rattle.image.specs.Decode.{decode};
-ghost use Rattle.chain.specs.declared.Found.{Found};
+ghost use Rattle.chain.specs.Search.{at_slot};
 ghost use Rattle.view.specs.Reads.{Reads};
 ghost use Rattle.view.specs.Places.{find_at};
 ghost use Rattle.plan.specs.declared.Advance.{Advance};
@@ -140,7 +140,7 @@ fn step_copying(store: &[u8], m: Meta, from: Position, images: &mut [u8]) -> Spl
 // Takes the pair out of the old chain, where it stands at `block` and `slot`.
 fn clear_pair(store: &[u8], m: Meta, pair: Pair, block: u32, slot: u32, images: &mut [u8]) -> Change
     requires reads { (Reads store.now m) × (length images.old ≡ 4096) }
-    requires pair_value { find_at (decode store.now) (old_bucket (decode store.now)) pair ≡ Found.At block slot }
+    requires pair_value { find_at (decode store.now) (old_bucket (decode store.now)) pair ≡ at_slot block slot }
     requires wf { (WF (cut pair (old_bucket (decode store.now)) (decode store.now)))
         × (count (cut pair (old_bucket (decode store.now)) (decode store.now)) ≡ m.count) }
     ensures { Plans store.now result images.new

@@ -1,6 +1,6 @@
 -- A chain's last page: what a step moves out of it, by the places of the last page and of the first one with room; and
 -- where an entry is found that stands in a chain once.
-use Rattle.std.specs.Prelude.{◌≡◌, refl, Bool, true, false, cond, not, ◌&&◌, ◌||◌, List, [], ◌∷◌, ℕ, zero, suc, ◌≤◌, ◌<◌, eqb, ltb, length, get_or}
+use Rattle.std.specs.Prelude.{◌≡◌, refl, Bool, true, false, cond, not, ◌&&◌, ◌||◌, List, [], ◌∷◌, ℕ, zero, suc, ◌≤◌, ◌<◌, eqb, ltb, length, get_or, None}
 use Rattle.std.proofs.Common.{sym, ap, ap₂, ◌∙◌, arith, lt-ltb}
 use Rattle.std.proofs.Math.Option.{Option, none, some}
 use Rattle.std.proofs.Math.Dec.{eqb-zero-suc, eqb-suc-suc}
@@ -24,7 +24,7 @@ use Rattle.frame.specs.Frame.{more_place, pair_place}
 use Rattle.frame.specs.BehindLaws.{place_inside}
 use Rattle.frame.specs.ImagesLaws.{no_page}
 use Rattle.frame.specs.ListsLaws.{get_d_map}
-use Rattle.chain.specs.declared.Found.{Found}
+use Rattle.chain.specs.Search.{at_slot}
 use Rattle.view.specs.Places.{find_at}
 use Rattle.removal.specs.PairLaws.{page-ok}
 use Rattle.squeeze.specs.Spot.{room_before}
@@ -154,7 +154,7 @@ module _ (p : Pair) where
 pub found_at : (x : Index) (b i n : ℕ) (d : Entry) → ChainOk (chain x b) → i ≤ length (chain x b).more
     → n < length (page_entries x b i)
     → tally (is (get_or (page_entries x b i) n d).pair) (entries_at x b) ≤ 1
-    → find_at x b (get_or (page_entries x b i) n d).pair ≡ Found.At (page_block x b i) n
+    → find_at x b (get_or (page_entries x b i) n d).pair ≡ at_slot (page_block x b i) n
 unfolding find_at
 found_at x b i n d ok inside l once =
     let es : List Entry = page_entries x b i in
@@ -165,5 +165,5 @@ found_at x b i n d ok inside l once =
     place-any p es d order ∙ (λ t. ltb (at t) (length es) && is p (get_or es (at t) d))
     ∙ ap₂ ◌&&◌ (lt-ltb n (length es) l) (same_refl p) in
     let q = once-at p (chain x b) i has once in
-    (λ t. cond (q.0 t) (Found.At (page_block x b (q.1 t)) (place_of p (page_entries x b (q.1 t)))) Found.Nothing)
-    ∙ ap (Found.At (page_block x b i)) at
+    (λ t. cond (q.0 t) (at_slot (page_block x b (q.1 t)) (place_of p (page_entries x b (q.1 t)))) None)
+    ∙ ap (at_slot (page_block x b i)) at

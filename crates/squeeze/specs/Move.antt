@@ -6,7 +6,7 @@ use Rattle.model.specs.Index.{chain}
 use Rattle.model.specs.Squeeze.{mover}
 use Rattle.image.specs.declared.Meta.{Meta}
 use Rattle.image.specs.Decode.{decode}
-use Rattle.chain.specs.declared.Found.{Found}
+use Rattle.chain.specs.Search.{at_slot}
 use Rattle.view.specs.Reads.{Reads}
 use Rattle.view.specs.Places.{find_at}
 use Rattle.insertion.specs.Put.{RoomIn}
@@ -16,5 +16,5 @@ pub record Movable (s : List ℕ) (m : Meta) (b : ℕ) (e : Entry) (last slot ta
   pub reads : Reads s m
   pub made : b ≤ m.max
   pub moves : mover (chain (decode s) b) ≡ some e
-  pub found : find_at (decode s) b e.pair ≡ Found.At last slot
+  pub found : find_at (decode s) b e.pair ≡ at_slot last slot
   pub room : RoomIn (decode s) b target

@@ -26,7 +26,7 @@ use Rattle.image.specs.Decode.{block_of, decode}
 use Rattle.frame.specs.Frame.{room_place, last_place, block_of_bit, chain_blocks, page_block, place_entries, page_entries}
 use Rattle.frame.specs.ApartLaws.{page-same}
 use Rattle.frame.specs.RemoveLaws.{stands-once}
-use Rattle.chain.specs.declared.Found.{Found}
+use Rattle.chain.specs.Search.{at_slot}
 use Rattle.chain.specs.declared.Room.{Room}
 use Rattle.chain.specs.Walk.{walk, last_of, Bounded}
 use Rattle.chain.specs.WalkLaws.{Onward, walk-onward}
@@ -223,7 +223,7 @@ module _ {s : List ℕ} {m : Meta} (r : Reads s m) (b : ℕ) (made : b ≤ m.max
               ap (λ (d : Entry). find_at x b d.pair) entry
               ∙ found_at x b (last_place c) slot e ((reads-laid r).pages b) (omega arith) (omega (arith, n, last-number))
               (stands-once x r.wf (get_or es slot e).pair b)
-              ∙ ap (λ (k : ℕ). Found.At k slot) (sym two.last-is);
+              ∙ ap (λ (k : ℕ). at_slot k slot) (sym two.last-is);
           room = record { room = and_left (chain_room c) _ two.room; page = two.target_is };
         }
       where

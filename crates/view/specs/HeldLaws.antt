@@ -1,7 +1,8 @@
 -- Where a pair is found, and that it is held exactly if its held entry is found.
 use Rattle.std.proofs.Math.Path.{◌≡◌, refl, sym, ap, ap₂}
 use Rattle.std.proofs.Common.{◌∙◌, arith}
-use Rattle.std.specs.Prelude.{Bool, ◌||◌, ℕ, ◌+◌, ◌≤◌}
+use Rattle.std.specs.Prelude.{Bool, ◌||◌, ℕ, ◌+◌, ◌≤◌, Option, Some, None, is_some}
+use Rattle.std.specs.Option.{option_or}
 use Rattle.std.proofs.Math.Bool.{true, false, cond}
 use Rattle.lists.specs.Lists.{b2n, any}
 use Rattle.lists.specs.ListsLaws.{eqb_yes, any-yes}
@@ -15,8 +16,8 @@ use Rattle.model.specs.HeldIn.{held_no, held_in}
 use Rattle.model.proofs.HeldLaws.{is-parts, stands-none, held-is}
 use Rattle.frame.specs.Frame.{page_block, page_entries, pair_place}
 use Rattle.chain.specs.declared.Found.{Found}
-use Rattle.chain.specs.Search.{is_found}
-use Rattle.chain.specs.Along.{or_else}
+use Rattle.chain.specs.Search.{at_slot}
+use Rattle.chain.proofs.SearchLaws.{same_slot}
 use Rattle.view.specs.declared.Sources.{Sources}
 use Rattle.view.specs.Places.{find_at, sources_of, held_by, held_at}
 use Rattle.view.specs.SourcesLaws.{entries_by, sources-by, sources-both}
@@ -24,12 +25,12 @@ use Rattle.view.specs.SourcesLaws.{entries_by, sources-by, sources-both}
 -- ---- in a chain
 
 module _ (x : Index) (b : ℕ) (p : Pair) where
-  pub is_found-find_at : is_found (find_at x b p) ≡ any (is p) (entries_at x b)
+  pub is_some-find_at : is_some (find_at x b p) ≡ any (is p) (entries_at x b)
   unfolding find_at
-  is_found-find_at = go (any (is p) (entries_at x b))
+  is_some-find_at = go (any (is p) (entries_at x b))
     where
-      go : (t : Bool) → is_found (cond t (Found.At (page_block x b (pair_place p (chain x b)))
-          (place_of p (page_entries x b (pair_place p (chain x b))))) Found.Nothing) ≡ t
+      go : (t : Bool) → is_some (cond t (at_slot (page_block x b (pair_place p (chain x b)))
+          (place_of p (page_entries x b (pair_place p (chain x b))))) None) ≡ t
       go true = refl
       go false = refl
 
@@ -39,25 +40,28 @@ module _ (x : Index) (b : ℕ) (p : Pair) where
     pub block : k ≡ page_block x b (pair_place p (chain x b))
     pub slot : n ≡ place_of p (page_entries x b (pair_place p (chain x b)))
 
-  pub find_at-at : (k n : ℕ) → find_at x b p ≡ Found.At k n → FoundAt k n
+  pub find_at-at : (k n : ℕ) → find_at x b p ≡ at_slot k n → FoundAt k n
   unfolding find_at
   find_at-at k n h = go (any (is p) (entries_at x b)) refl h
     where
       go : (t : Bool) → any (is p) (entries_at x b) ≡ t
-          → cond t (Found.At (page_block x b (pair_place p (chain x b)))
-          (place_of p (page_entries x b (pair_place p (chain x b))))) Found.Nothing ≡ Found.At k n
+          → cond t (at_slot (page_block x b (pair_place p (chain x b)))
+          (place_of p (page_entries x b (pair_place p (chain x b))))) None ≡ at_slot k n
           → FoundAt k n
-      go true e h = record { stands = e; block = cc; slot = cc }
+      go true e h =
+          let i = pair_place p (chain x b) in
+          let same = same_slot (page_block x b i) (place_of p (page_entries x b i)) k n h in
+          record { stands = e; block = sym same.0; slot = sym same.1 }
       go false e h = let z : ◌≡◌ {A = ℕ} 0 1 = cc in absurd (omega arith)
 
-  pub find_at-none : find_at x b p ≡ Found.Nothing → any (is p) (entries_at x b) ≡ false
-  find_at-none h = sym is_found-find_at ∙ ap is_found h
+  pub find_at-none : find_at x b p ≡ None → any (is p) (entries_at x b) ≡ false
+  find_at-none h = sym is_some-find_at ∙ ap is_some h
 
 -- ---- held
 
-is_found-or_else : (f g : Found) → is_found (or_else f g) ≡ is_found f || is_found g
-is_found-or_else (Found.At k n) g = refl
-is_found-or_else Found.Nothing g = refl
+is_some-or : (f g : Option Found) → is_some (option_or f g) ≡ is_some f || is_some g
+is_some-or (Some f) g = refl
+is_some-or None g = refl
 
 module _ (x : Index) (w : WF x) (p : Pair) where
   stands-some : (b : ℕ) → any (is p) (entries_at x b) ≡ true → 1 ≤ unmoved_at x p b + moved_at x p b
@@ -95,27 +99,27 @@ module _ (x : Index) (w : WF x) (p : Pair) where
         sym (held-is x w p _ (either (any (is p) (entries_at x o)) (any (is p) (entries_at x n)) refl refl))
 
   -- the held entry is found exactly if the pair is held
-  pub is_found-held_at : is_found (held_at x p) ≡ held x p
+  pub is_some-held_at : is_some (held_at x p) ≡ held x p
   unfolding held_at held
-  is_found-held_at = go (sources_of x p.hash) refl
+  is_some-held_at = go (sources_of x p.hash) refl
     where
-      go : (f : Sources) → sources_of x p.hash ≡ f → is_found (held_by x p f) ≡ any (is p) (sources x p.hash)
+      go : (f : Sources) → sources_of x p.hash ≡ f → is_some (held_by x p f) ≡ any (is p) (sources x p.hash)
       go (Sources.Home b) e =
-          is_found-find_at x b p
+          is_some-find_at x b p
           ∙ ap (any (is p)) (ap (entries_by x) (sym e) ∙ sym (sources-by x p.hash))
       go (Sources.Both new old) e =
           let i = sources-both x p.hash new old e in
-          is_found-or_else (find_at x old p) (find_at x new p)
+          is_some-or (find_at x old p) (find_at x new p)
           ∙ ap₂ (λ (a c : Bool). a || c)
-          (is_found-find_at x old p ∙ ap (λ (d : ℕ). any (is p) (entries_at x d)) i.old)
-          (is_found-find_at x new p ∙ ap (λ (d : ℕ). any (is p) (entries_at x d)) i.new)
+          (is_some-find_at x old p ∙ ap (λ (d : ℕ). any (is p) (entries_at x d)) i.old)
+          (is_some-find_at x new p ∙ ap (λ (d : ℕ). any (is p) (entries_at x d)) i.new)
           ∙ copying-held i.job i.home
 
-  pub held_at-none : held_at x p ≡ Found.Nothing → held x p ≡ false
-  held_at-none h = sym is_found-held_at ∙ ap is_found h
+  pub held_at-none : held_at x p ≡ None → held x p ≡ false
+  held_at-none h = sym is_some-held_at ∙ ap is_some h
 
-  pub held_at-some : (k n : ℕ) → held_at x p ≡ Found.At k n → held x p ≡ true
-  held_at-some k n h = sym is_found-held_at ∙ ap is_found h
+  pub held_at-some : (f : Found) → held_at x p ≡ Some f → held x p ≡ true
+  held_at-some f h = sym is_some-held_at ∙ ap is_some h
 
 -- ---- how code finds it
 

@@ -1,5 +1,6 @@
 -- Where code finds things in an index: a pair, the page that an insert takes, the sources of a hash code, a held pair.
-use Rattle.std.specs.Prelude.{◌≡◌, Bool, true, false, cond, List, [], ℕ, eqb, length, take}
+use Rattle.std.specs.Prelude.{◌≡◌, Bool, true, false, cond, List, [], ℕ, eqb, length, take, Option, None}
+use Rattle.std.specs.Option.{option_or}
 use Rattle.lists.specs.Lists.{any}
 use Rattle.address.specs.Address.{bucket_of}
 use Rattle.page.specs.declared.Pair.{Pair}
@@ -10,14 +11,14 @@ use Rattle.model.specs.Pages.{chain_room}
 use Rattle.frame.specs.Frame.{chain_blocks, page_block, page_entries, pair_place, room_place, last_place}
 use Rattle.chain.specs.declared.Found.{Found}
 use Rattle.chain.specs.declared.Room.{Room}
-use Rattle.chain.specs.Along.{or_else}
+use Rattle.chain.specs.Search.{at_slot}
 use Rattle.view.specs.declared.Sources.{Sources}
 
 -- the block and slot of a pair in the chain of bucket b
-unfoldable pub find_at : Index → (b : ℕ) → Pair → Found
+unfoldable pub find_at : Index → (b : ℕ) → Pair → Option Found
 find_at x b p =
     let i = pair_place p (chain x b) in
-    cond (any (is p) (entries_at x b)) (Found.At (page_block x b i) (place_of p (page_entries x b i))) Found.Nothing
+    cond (any (is p) (entries_at x b)) (at_slot (page_block x b i) (place_of p (page_entries x b i))) None
 
 -- the first page with room in the chain of bucket b, else its last page
 unfoldable pub room_at : Index → (b : ℕ) → Room
@@ -57,10 +58,10 @@ pub record Sourced (x : Index) (hash : ℕ) (own : List ℕ) (n : ℕ) (old : Li
   pub both : fresh ≡ is_both (sources_of x hash)
 
 -- what stands in the new chain and not in the old one is unmoved
-abbrev pub held_by : Index → Pair → Sources → Found
+abbrev pub held_by : Index → Pair → Sources → Option Found
 held_by x p (Sources.Home b) = find_at x b p
-held_by x p (Sources.Both new old) = or_else (find_at x old p) (find_at x new p)
+held_by x p (Sources.Both new old) = option_or (find_at x old p) (find_at x new p)
 
 -- the block and slot of the held entry of a pair
-unfoldable pub held_at : Index → Pair → Found
+unfoldable pub held_at : Index → Pair → Option Found
 held_at x p = held_by x p (sources_of x p.hash)

@@ -1,5 +1,5 @@
 -- What the searches along a bucket's chain find: the places of the index.
-use Rattle.std.specs.Prelude.{◌≡◌, Bool, List, length, get_or}
+use Rattle.std.specs.Prelude.{◌≡◌, Bool, List, length, get_or, Option, None}
 use Rattle.std.proofs.Math.Path.{refl, ap}
 use Rattle.std.proofs.Common.{sym, ◌∙◌, arith}
 use Rattle.std.proofs.Math.Bool.{true, false, cond}
@@ -22,7 +22,7 @@ use Rattle.chain.specs.declared.Found.{Found}
 use Rattle.chain.specs.declared.Room.{Room}
 use Rattle.chain.specs.Walk.{last_of}
 use Rattle.chain.specs.WalkLaws.{walk-trail}
-use Rattle.chain.specs.Search.{pair_on, room_on, found_as, find_in, room_as, room_in}
+use Rattle.chain.specs.Search.{at_slot, pair_on, room_on, found_as, find_in, room_as, room_in}
 use Rattle.chain.specs.Within.{entries_on}
 use Rattle.chain.specs.FindLaws.{any-bind}
 use Rattle.chain.proofs.DecodeLaws.{chain-decode, room-walk}
@@ -56,19 +56,19 @@ module _ {s : List ℕ} {m : Meta} (r : Reads s m) (b : ℕ) (made : b ≤ m.max
   unfolding find_in find_at
   find-read p =
       ap (found_as s p) (find-place (pair_on s p) ks no_link) ∙ go (any (pair_on s p) ks) refl
-      ∙ ap (λ (t : Bool). cond t (there (pair_place p (chain x b))) Found.Nothing) (any-read p)
+      ∙ ap (λ (t : Bool). cond t (there (pair_place p (chain x b))) None) (any-read p)
     where
-      there : ℕ → Found
-      there i = Found.At (page_block x b i) (place_of p (page_entries x b i))
+      there : ℕ → Option Found
+      there i = at_slot (page_block x b i) (place_of p (page_entries x b i))
 
       go : (t : Bool) → any (pair_on s p) ks ≡ t
           → found_as s p (cond t (some (get_or ks (first_place (pair_on s p) ks) no_link)) none)
-          ≡ cond t (there (pair_place p (chain x b))) Found.Nothing
+          ≡ cond t (there (pair_place p (chain x b))) None
       go false e = refl
       go true e =
           let i = first_place (pair_on s p) ks in
           let inside : i ≤ length (chain x b).more = omega (arith, place_inside (pair_on s p) ks e, length-blocks) in
-          ap (λ (es : List Entry). Found.At (page_block x b i) (place_of p es)) (page-read r b made i inside)
+          ap (λ (es : List Entry). at_slot (page_block x b i) (place_of p es)) (page-read r b made i inside)
           ∙ ap there (place_read p)
 
   -- ---- room

@@ -1,5 +1,6 @@
 -- Walks of the sources of a hash code: what searches along them ask, the matches, and a pair's held entry.
 use Rattle.std.specs.Prelude.{◌≡◌, Bool, ℕ, suc, ◌+◌, ◌≤◌, ◌<◌, length, take}
+use Rattle.std.specs.Option.{option_or}
 use Rattle.std.proofs.Math.Path.{refl, ap, ap₂}
 use Rattle.std.proofs.Common.{sym, ◌∙◌, subst, arith}
 use Rattle.std.proofs.Math.Bool.{true, false}
@@ -24,7 +25,7 @@ use Rattle.chain.specs.Within.{entries_on, PagesOk, Within}
 use Rattle.chain.specs.WithinLaws.{within_none}
 use Rattle.chain.specs.Search.{find_in}
 use Rattle.chain.specs.Pairs.{pairs_in}
-use Rattle.chain.specs.Along.{or_else, pairs_along, find_along}
+use Rattle.chain.specs.Along.{pairs_along, find_along}
 use Rattle.view.specs.declared.Sources.{Sources}
 use Rattle.view.specs.Reads.{Reads}
 use Rattle.view.specs.ReadsLaws.{reads-laid}
@@ -73,7 +74,7 @@ module _ {s : List ℕ} {m : Meta} (r : Reads s m) (h : ℕ) where
   find-by p (Sources.Home b) e = find-read r b (home-made r h b e) p
   find-by p (Sources.Both new old) e =
       let made = both-made r h new old e in
-      ap₂ or_else (find-read r old made.1 p) (find-read r new made.0 p)
+      ap₂ option_or (find-read r old made.1 p) (find-read r new made.0 p)
 
   module _ {own : List ℕ} {n : ℕ} {old : List ℕ} {k : ℕ} {fresh : Bool}
       (w : Sourced (decode s) h own n old k fresh) where

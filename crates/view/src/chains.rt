@@ -13,7 +13,7 @@ use reader::buckets::walk_bucket;
 use reader::roles::home_of;
 
 // The block and slot of a pair in bucket `b`'s chain.
-pub fn find_in(store: &[u8], m: Meta, b: u32, pair: Pair) -> Found
+pub fn find_in(store: &[u8], m: Meta, b: u32, pair: Pair) -> Option<Found>
     requires { (Reads store.now m) × (b ≤ m.max) }
     ensures { result ≡ find_at (decode store.now) b pair }
 {

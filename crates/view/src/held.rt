@@ -61,7 +61,7 @@ pub fn walk_sources(
 }
 
 // The block and slot of the pair's held entry.
-pub fn find_held(store: &[u8], m: Meta, pair: Pair) -> Found
+pub fn find_held(store: &[u8], m: Meta, pair: Pair) -> Option<Found>
     requires { Reads store.now m }
     ensures { result ≡ held_at (decode store.now) pair }
 {
@@ -75,10 +75,5 @@ pub fn is_held(store: &[u8], m: Meta, pair: Pair) -> bool
     requires { Reads store.now m }
     ensures { result ≡ held (decode store.now) pair }
 {
-    let found = find_held(store, m, pair);
-    if let Found::At { block: _, slot: _ } = found {
-        true
-    } else {
-        false
-    }
+    find_held(store, m, pair).is_some()
 }

@@ -1,4 +1,4 @@
-use Rattle.std.proofs.Common.{ap, arith, refl, sym, ◌-◌, ◌∙◌, ◌≡◌, ◌≤◌}
+use Rattle.std.proofs.Common.{ap, arith, refl, sym, ◌∙◌, ◌≡◌}
 use Rattle.chain.specs.Bitmap.{ones_from}
 use Rattle.chain.specs.BitmapLaws.{ones-broken, ones-later, ones-byte}
 use Rattle.chain.proofs.bitmap.all_ones.Goals as goal

@@ -1,6 +1,5 @@
-use Rattle.std.proofs.Common.{ap, arith, refl, sym, ◌-◌, ◌∙◌, ◌≡◌, ◌≤◌}
+use Rattle.std.proofs.Common.{◌-◌, ◌≡◌, ◌≤◌}
 use Rattle.chain.specs.Bitmap.{ones_from}
-use Rattle.chain.specs.BitmapLaws.{ones-broken, ones-later, ones-byte}
 use Rattle.chain.proofs.bitmap.all_ones.Given as goal
 
 abbrev pub invariant-loop-n : goal.invariant-loop-n

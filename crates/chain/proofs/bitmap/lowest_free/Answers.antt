@@ -1,4 +1,4 @@
-use Rattle.std.proofs.Common.{rules, sym}
+use Rattle.std.proofs.Common.{sym}
 use Rattle.chain.specs.BitmapLaws.{free-full}
 use Rattle.chain.proofs.bitmap.lowest_free.Goals as goal
 

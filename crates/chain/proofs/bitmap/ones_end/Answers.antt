@@ -1,4 +1,4 @@
-use Rattle.std.proofs.Common.{arith, rules, ◌+◌, ◌/◌}
+use Rattle.std.proofs.Common.{arith, ◌+◌, ◌/◌}
 use Rattle.chain.specs.BitmapLaws.{ones-full, ones-end}
 use Rattle.chain.proofs.bitmap.ones_end.Goals as goal
 

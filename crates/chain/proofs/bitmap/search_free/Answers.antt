@@ -1,58 +1,25 @@
-use Rattle.std.proofs.Common.{add_assoc, ap, arith, sym, ◌*◌, ◌+◌, ◌-◌, ◌∙◌, ◌≡◌, ◌≤◌}
-use Rattle.chain.specs.Bitmap.{lowest_free}
+use Rattle.std.proofs.Common.{add_assoc, ap, arith, sym, ◌*◌, ◌+◌, ◌∙◌, ◌≡◌}
 use Rattle.chain.specs.BitmapLaws.{bit_of-byte, free_from, free-start, free-here, free-later, free-byte, free-none}
 use Rattle.chain.proofs.bitmap.search_free.Goals as goal
 use Rattle.chain.proofs.bitmap.search_free.Goals.{else-map-i, then-map-i+else-loop-j-test}
 
-pub search-init : goal.search-init
-search-init c = tt
-
 pub loop-i-init : goal.loop-i-init
-loop-i-init c = (omega arith, free-start c.args.map.now)
-
-pub bounds-map-i : goal.bounds-map-i
-bounds-map-i c = omega arith
+loop-i-init c = free-start c.args.map.now
 
 pub loop-j-init : goal.loop-j-init
 loop-j-init c =
     let e : 8 * c.loop-i.i ≡ 8 * c.loop-i.i + 0 = omega arith in
-    (omega arith, c.loop-i.invariant.1 ∙ ap (free_from c.args.map.now) e)
-
-pub bounds-map-i-in-loop-j : goal.bounds-map-i-in-loop-j
-bounds-map-i-in-loop-j c = omega arith
-
-pub overflow_cast-j : goal.overflow_cast-j
-overflow_cast-j c = omega arith
-
-pub overflow_shr-map : goal.overflow_shr-map
-overflow_shr-map c = omega arith
-
-pub overflow_mul-found : goal.overflow_mul-found
-overflow_mul-found c = omega arith
-
-pub overflow_add-found : goal.overflow_add-found
-overflow_add-found c = omega arith
-
-pub overflow_cast-found : goal.overflow_cast-found
-overflow_cast-found c = omega arith
-
-pub loop-j-smaller : goal.loop-j-smaller
-loop-j-smaller c = omega arith
+    c.loop-i.invariant ∙ ap (free_from c.args.map.now) e
 
 pub loop-j-preserved : goal.loop-j-preserved
 loop-j-preserved c =
     let map = c.args.map.now in
     let i = c.loop-i.i in
     let j = c.loop-j.j in
-    let bit = bit_of-byte map i j c.loop-j-test.true in (
-      omega arith,
-      c.loop-j.invariant.1
-          ∙ free-later map (8 * i + j) (omega arith) (λ q. omega (arith, bit))
-          ∙ ap (free_from map) (add_assoc (8 * i) j 1),
-    )
-
-pub loop-i-smaller : goal.loop-i-smaller
-loop-i-smaller c = omega arith
+    let bit = bit_of-byte map i j c.loop-j-test.true in
+    c.loop-j.invariant
+    ∙ free-later map (8 * i + j) (omega arith) (λ q. omega (arith, bit))
+    ∙ ap (free_from map) (add_assoc (8 * i) j 1)
 
 pub loop-i-preserved : goal.loop-i-preserved
 loop-i-preserved c =
@@ -61,12 +28,12 @@ loop-i-preserved c =
     let passed : free_from map (8 * i) ≡ free_from map (8 * i + 8) =
     elim c.if-map-i.branch [
       | then-map-i+else-loop-j-test b ↦
-          let e : 8 * i + b.loop-j.j ≡ 8 * i + 8 = omega (arith, b.loop-j.invariant.0, b.loop-j-test.false) in
-          sym c.loop-i.invariant.1 ∙ b.loop-j.invariant.1 ∙ ap (free_from map) e
+          let e : 8 * i + b.loop-j.j ≡ 8 * i + 8 = omega (arith, b.loop-j.auto.j-end, b.loop-j-test.false) in
+          sym c.loop-i.invariant ∙ b.loop-j.invariant ∙ ap (free_from map) e
       | else-map-i b ↦ free-byte map i (omega arith) (omega (arith, b.if-map-i.false))
     ] in
     let e : 8 * i + 8 ≡ 8 * (i + 1) = omega arith in
-    (omega arith, c.loop-i.invariant.1 ∙ passed ∙ ap (free_from map) e)
+    c.loop-i.invariant ∙ passed ∙ ap (free_from map) e
 
 pub returns-then-map-i-eq0 : goal.returns-then-map-i-eq0
 returns-then-map-i-eq0 c =
@@ -74,10 +41,10 @@ returns-then-map-i-eq0 c =
     let i = c.loop-i.i in
     let j = c.loop-j.j in
     let bit = bit_of-byte map i j c.loop-j-test.true in
-    sym (c.loop-j.invariant.1 ∙ free-here map (8 * i + j) (omega arith) (omega (arith, bit)))
+    sym (c.loop-j.invariant ∙ free-here map (8 * i + j) (omega arith) (omega (arith, bit)))
 
-pub returns-after-loop-i : goal.returns-after-loop-i
-returns-after-loop-i c =
+pub returns : goal.returns
+returns c =
     let map = c.args.map.now in
     let e : 8 * c.loop-i.i ≡ 2048 = omega arith in
-    sym (c.loop-i.invariant.1 ∙ ap (free_from map) e ∙ free-none map)
+    sym (c.loop-i.invariant ∙ ap (free_from map) e ∙ free-none map)

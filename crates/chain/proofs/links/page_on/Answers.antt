@@ -1,6 +1,4 @@
-use Rattle.std.proofs.Common.{arith, rules}
-use Rattle.lists.specs.Block.{blocks}
-use Rattle.chain.specs.WithinLaws.{block_inside, block-whole, block-page}
+use Rattle.chain.specs.WithinLaws.{block-whole, block-page}
 use Rattle.chain.proofs.links.page_on.Goals as goal
 
 pub block_at-requires : goal.block_at-requires

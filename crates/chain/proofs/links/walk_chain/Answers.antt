@@ -1,8 +1,6 @@
-use Rattle.std.proofs.Common.{arith, length, length-set, suc, take, ◌++◌, ◌+◌, ◌-◌, ◌<◌, ◌∙◌, ◌≡◌, ◌≤◌}
+use Rattle.std.proofs.Common.{arith, length-set, suc, ◌<◌, ◌∙◌}
 use Rattle.lists.specs.Block.{blocks}
 use Rattle.address.specs.Limits.{max_blocks}
-use Rattle.image.specs.Decode.{follow}
-use Rattle.chain.specs.Walk.{walk}
 use Rattle.chain.proofs.Walking.{begin, turn, ended, spent}
 use Rattle.chain.proofs.links.walk_chain.Goals as goal
 

@@ -1,9 +1,7 @@
-use Rattle.std.proofs.Common.{arith, length, length-set, suc, take, ◌++◌, ◌+◌, ◌-◌, ◌<◌, ◌∙◌, ◌≡◌, ◌≤◌}
-use Rattle.lists.specs.Block.{blocks}
+use Rattle.std.proofs.Common.{length, suc, take, ◌++◌, ◌+◌, ◌-◌, ◌≡◌, ◌≤◌}
 use Rattle.address.specs.Limits.{max_blocks}
 use Rattle.image.specs.Decode.{follow}
 use Rattle.chain.specs.Walk.{walk}
-use Rattle.chain.proofs.Walking.{begin, turn, ended, spent}
 use Rattle.chain.proofs.links.walk_chain.Given as goal
 
 abbrev pub invariant-loop-count : goal.invariant-loop-count

@@ -1,4 +1,3 @@
-use Rattle.std.proofs.Common.{rules}
 use Rattle.removal.proofs.Unlinking.{link-ready, linked-none, linked-some}
 use Rattle.removal.proofs.pages.link_back.Goals as goal
 

@@ -1,4 +1,4 @@
-use Rattle.std.proofs.Common.{ap, arith, length, sym, ℕ, ◌+◌, ◌-◌, ◌/◌, ◌∙◌, ◌≡◌, ◌≤◌}
+use Rattle.std.proofs.Common.{ap, arith, length, sym, ℕ, ◌-◌, ◌/◌, ◌∙◌, ◌≡◌}
 use Rattle.lists.specs.Lists.{b2n, tally, up_from}
 use Rattle.lists.specs.Block.{blocks}
 use Rattle.image.specs.Rules.{is_overflow}

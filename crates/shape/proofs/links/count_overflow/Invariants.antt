@@ -1,9 +1,6 @@
-use Rattle.std.proofs.Common.{ap, arith, length, sym, ℕ, ◌+◌, ◌-◌, ◌/◌, ◌∙◌, ◌≡◌, ◌≤◌}
-use Rattle.lists.specs.Lists.{b2n, tally, up_from}
-use Rattle.lists.specs.Block.{blocks}
+use Rattle.std.proofs.Common.{◌+◌, ◌-◌, ◌≡◌, ◌≤◌}
+use Rattle.lists.specs.Lists.{tally, up_from}
 use Rattle.image.specs.Rules.{is_overflow}
-use Rattle.reader.specs.KnownLaws.{sized}
-use Rattle.shape.specs.LoopLaws.{run-turn, run-done}
 use Rattle.shape.proofs.links.count_overflow.Given as goal
 
 abbrev pub invariant-loop-k : goal.invariant-loop-k

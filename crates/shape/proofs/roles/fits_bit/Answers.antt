@@ -1,4 +1,4 @@
-use Rattle.std.proofs.Common.{ap, eq-eqb, leb, ne_eqb, rules, sym, ℕ, ◌∙◌}
+use Rattle.std.proofs.Common.{ap, eq-eqb, leb, ne_eqb, sym, ℕ, ◌∙◌}
 use Rattle.store.specs.Store.{flags_at, id_at}
 use Rattle.shape.proofs.Fitting.{fits-first, fits-later}
 use Rattle.shape.proofs.roles.fits_bit.Goals as goal

@@ -1,4 +1,4 @@
-use Rattle.std.proofs.Common.{ap, eq-eqb, eqb, false, le-leb, ne_eqb, rules, true, ℕ, ◌∙◌, ◌≡◌}
+use Rattle.std.proofs.Common.{ap, eq-eqb, eqb, false, le-leb, ne_eqb, true, ℕ, ◌∙◌, ◌≡◌}
 use borrow.Author.Tests.{lt-leb, not-true, not-false}
 use Rattle.store.specs.Store.{flags_at, id_at}
 use Rattle.image.specs.Rules.{bucket_flags_ok, fits}

@@ -1,4 +1,4 @@
-use Rattle.std.proofs.Common.{ap, rules, sym, ◌∙◌}
+use Rattle.std.proofs.Common.{ap, sym, ◌∙◌}
 use Rattle.address.specs.declared.BlockRole.{BlockRole}
 use Rattle.image.specs.Rules.{fits}
 use Rattle.reader.specs.Roles.{as_role}

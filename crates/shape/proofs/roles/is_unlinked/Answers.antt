@@ -1,4 +1,4 @@
-use Rattle.std.proofs.Common.{ap, eq-eqb, eqb, ne_eqb, rules, ℕ, ◌∙◌}
+use Rattle.std.proofs.Common.{ap, eq-eqb, eqb, ne_eqb, ℕ, ◌∙◌}
 use Rattle.store.specs.Store.{prev_at, next_at, flags_at, id_at}
 use Rattle.store.specs.Flags.{no_link}
 use Rattle.lists.specs.ListsLaws.{and-false}

@@ -1,4 +1,4 @@
-use Rattle.std.proofs.Common.{ap, eqb, inl, inr, rules, sym, ⊎_elim, ◌∙◌, ◌≡◌}
+use Rattle.std.proofs.Common.{ap, eqb, inl, inr, sym, ⊎_elim, ◌∙◌, ◌≡◌}
 use Rattle.image.specs.Rules.{bucket_flags_ok}
 use Rattle.shape.proofs.Fitting.{flags-populated, flags-old, flags-none}
 use Rattle.shape.proofs.roles.may_flag.Goals as goal

@@ -6,7 +6,7 @@ use Rattle.page.specs.declared.Entry.{Entry}
 use Rattle.page.specs.Entries.{entry_at, entries_of}
 use Rattle.page.proofs.RuleLaws.{number-le}
 use Rattle.image.specs.Decode.{decode}
-use Rattle.chain.specs.declared.Found.{Found}
+use Rattle.chain.specs.Search.{at_slot}
 use Rattle.split.specs.declared.Mover.{Mover}
 use Rattle.split.specs.Mover.{movable, copied}
 use Rattle.split.specs.Seek.{Before, Seeks, located, nowhere, found_on}
@@ -69,7 +69,7 @@ returns c =
       subst (λ (e : Entry). Seeks t es (Mover.At e k a.block k)) read
           (slot-here t a.page.now k more c.loop-i.invariant.0 (sym (tested c.before) ∙ c.if-is_movable.true)),
       located
-          (subst (λ (e : Entry). found_on a.block es e.pair ≡ Found.At a.block k) read
+          (subst (λ (e : Entry). found_on a.block es e.pair ≡ at_slot a.block k) read
           (slot-found t a.page.now k more c.requires.0.0 a.block)),
     )
 

@@ -7,7 +7,7 @@ use Rattle.model.specs.Pages.{cut}
 use Rattle.model.specs.Held.{count}
 use Rattle.model.specs.WellFormed.{WF}
 use Rattle.image.specs.Decode.{decode}
-use Rattle.chain.specs.declared.Found.{Found}
+use Rattle.chain.specs.Search.{at_slot}
 use Rattle.reader.specs.JobLaws.{old-low}
 use Rattle.view.specs.ReadsLaws.{reads-max, reads_known}
 use Rattle.view.specs.Places.{find_at}
@@ -30,7 +30,7 @@ plan-cut-requires : tie.Need-plan_cut-requires
 plan-cut-requires c κs =
     let x : Index = decode c.args.store.now in (
       (c.requires.0.0, old c.before, c.requires.0.1),
-      subst (λ (b : ℕ). (find_at x b c.args.pair ≡ Found.At c.args.block c.args.slot)
+      subst (λ (b : ℕ). (find_at x b c.args.pair ≡ at_slot c.args.block c.args.slot)
           × ((WF (cut c.args.pair b x)) × (count (cut c.args.pair b x) ≡ c.args.m.count)))
           (sym (is-old c.before)) c.requires.1,
     )

@@ -1,4 +1,4 @@
-use Rattle.std.proofs.Common.{ap, arith, rules, ◌∙◌}
+use Rattle.std.proofs.Common.{ap, arith, ◌∙◌}
 use Rattle.view.specs.declared.Sources.{Sources}
 use Rattle.view.specs.ReadsLaws.{reads_known}
 use Rattle.view.specs.SourcesLaws.{source-other, source-settled, source-populated}

@@ -1,4 +1,4 @@
-use Rattle.std.proofs.Common.{rules, sym, ◌∙◌}
+use Rattle.std.proofs.Common.{sym, ◌∙◌}
 use Rattle.view.specs.ReadsLaws.{reads_known}
 use Rattle.view.specs.SourcesLaws.{home-made, both-made}
 use Rattle.view.specs.SourcedLaws.{sourced-home, sourced-both}
