@@ -1,10 +1,9 @@
 -- The turns of the loop along the old chain: what the page at index i tells.
-use mathlib.Core.Path.{◌≡◌, refl, sym, ap, ◌∙◌, subst}
-use mathlib.Core.Bool.{Bool, true, false}
-use mathlib.Core.List.{List, ◌++◌, append-nil, append_assoc}
-use Prim.Native.Nat.{ℕ, ◌+◌, ◌-◌, ◌*◌, ◌≤◌, ◌<◌}
-use native.Mathlib.Omega.{arith}
-use lib.ListN.{length, get_or, take, drop, length-append}
+use Rattle.std.proofs.Common.{◌≡◌, refl, sym, ap, ◌∙◌, subst, Bool, true, false, List, [], ◌++◌, append-nil, append_assoc}
+use Rattle.std.proofs.Common.{ℕ, ◌+◌, ◌-◌, ◌*◌, ◌≤◌, ◌<◌, arith, length, get_or, take, drop, length-append}
+use Rattle.std.proofs.Common.{get_or-append-add}
+use Rattle.std.proofs.Math.Option.{none, some}
+use Rattle.std.proofs.Math.ListN.{get_or-append}
 use Rattle.lists.specs.Lists.{b2n, any, tally, find, bind}
 use Rattle.lists.specs.ListsLaws.{tally-le, tally-append, any-no, zero-any, find-no, find-yes}
 use Rattle.page.specs.declared.Pair.{Pair}
@@ -16,84 +15,119 @@ use Rattle.frame.specs.ListsLaws.{find-zero}
 use Rattle.chain.specs.Search.{pair_on, found_as, find_in}
 use Rattle.chain.specs.Within.{entries_on, Within, PageOn}
 use Rattle.chain.specs.WithinLaws.{rest-turn, rest-done, search-here, search-later}
-use Rattle.split.specs.declared.Mover.{Mover}
-use Rattle.split.specs.Seek.{Before, After, Seeks, nothing, Located, located, found_on}
-use Rattle.split.specs.SeekLaws.{before-part, after-part, sought-part, seeks-at, seeks-entry, seeks-none}
-use Rattle.split.specs.SeekLaws.{located-at}
+use Rattle.split.specs.Seek.{Before, AnswersFrom, Stands, found_on}
+use Rattle.split.specs.SeekLaws.{before-part, sought-part}
+use Rattle.split.specs.OldChainLaws.{front-parts, front-none, front-pages}
+use Rattle.split.specs.declared.Spot.{Spot}
+use Rattle.split.specs.Spot.{SpotOn}
+use Rattle.std.proofs.Math.Seq.{take-length}
 
 -- all entries of the pair pass
 abbrev pub PairPasses : (Entry → Bool) → Pair → Type 0
 PairPasses t p = (d : Entry) → is p d ≡ true → t d ≡ true
 
 -- before the page at index i there are k entries, of which none passes
-pub record Behind (s bs : List ℕ) (n : ℕ) (t : Entry → Bool) (k i : ℕ) : Type 0 where
+pub record Behind (s ks : List ℕ) (t : Entry → Bool) (k i : ℕ) : Type 0 where
   pub front : List Entry
-  pub parts : bind (take n bs) (entries_on s) ≡ front ++ bind (drop i (take n bs)) (entries_on s)
+  pub parts : bind ks (entries_on s) ≡ front ++ bind (drop i ks) (entries_on s)
   pub none : tally t front ≡ 0
   pub number : k ≡ length front
   pub few : k ≤ 40 * i
-  pub pages : (p : Pair) → PairPasses t p → find (pair_on s p) (take n bs) ≡ find (pair_on s p) (drop i (take n bs))
+  pub pages : (p : Pair) → PairPasses t p → find (pair_on s p) ks ≡ find (pair_on s p) (drop i ks)
 
-module _ {s bs : List ℕ} {n : ℕ} (ok : Within s bs n) {t : Entry → Bool} {k i : ℕ} (h : Behind s bs n t k i) where
-  module _ (more : i < n) {l : List ℕ} (on : PageOn s bs n i l) where
+-- where none of the first j entries passes, the pages before one that j leads to have none
+pub behind-spot : {s ks : List ℕ} {g : Spot} {j : ℕ} → SpotOn s ks g j → (t : Entry → Bool)
+    → Before t (bind ks (entries_on s)) j → Behind s ks t g.passed g.index
+behind-spot {s} {ks} {g} {j} e t z =
+    let few : length (bind (take g.index ks) (entries_on s)) ≤ j = omega (arith, e.passed, e.near) in
+    record {
+      front = bind (take g.index ks) (entries_on s);
+      parts = front-parts s ks g.index;
+      none = front-none s ks g.index t j z few;
+      number = e.passed;
+      few = e.few;
+      pages = front-pages s ks g.index t j z few;
+    }
+
+module _ {s ks : List ℕ} (ok : Within s ks (length ks)) {t : Entry → Bool} {k i : ℕ} (h : Behind s ks t k i) where
+  module _ (more : i < length ks) {l : List ℕ} (on : PageOn s ks (length ks) i l) where
     abbrev fs : List Entry
-    fs = bind (drop (i + 1) (take n bs)) (entries_on s)
+    fs = bind (drop (i + 1) ks) (entries_on s)
 
-    turn : bind (take n bs) (entries_on s) ≡ h.front ++ (entries_of l ++ fs)
+    turn : bind ks (entries_on s) ≡ h.front ++ (entries_of l ++ fs)
     turn =
         h.parts
-        ∙ ap (λ (es : List Entry). h.front ++ es) (rest-turn ok i more
+        ∙ ap (λ (es : List Entry). h.front ++ es)
+        (subst (λ (js : List ℕ). bind (drop i js) (entries_on s)
+        ≡ entries_on s (get_or ks i 0) ++ bind (drop (i + 1) js) (entries_on s)) (take-length ks) (rest-turn ok i more)
         ∙ ap (λ (x : List ℕ). entries_of x ++ fs) (sym on.page))
 
-    pub page-start : (j : ℕ) → Before t (bind (take n bs) (entries_on s)) j → Before t (entries_of l) (j - k)
-    page-start j z =
-        ap (λ (d : ℕ). tally t (take (j - d) (entries_of l))) h.number
+    pub page-start : (j : ℕ) {m : ℕ} → m ≡ j - k → Before t (bind ks (entries_on s)) j → Before t (entries_of l) m
+    page-start j e z =
+        ap (λ (d : ℕ). tally t (take d (entries_of l))) (e ∙ ap (λ (d : ℕ). j - d) h.number)
         ∙ before-part t h.front (entries_of l) fs j (ap (λ (es : List Entry). tally t (take j es)) (sym turn) ∙ z)
 
-    -- where none from the place j on passes, none of the page does
-    pub page-after : (u : Entry → Bool) (j : ℕ) → After u (bind (take n bs) (entries_on s)) j
-        → After u (entries_of l) (j - k)
-    page-after u j z =
-        ap (λ (d : ℕ). tally u (drop (j - d) (entries_of l))) h.number
-        ∙ after-part u h.front (entries_of l) fs j (ap (λ (es : List Entry). tally u (drop j es)) (sym turn) ∙ z)
+    -- a test that tells which entries from the place j on pass tells it of the page's
+    pub page-answers : {post : Entry → Bool → Type 0} {j m : ℕ} → m ≡ j - k
+        → AnswersFrom post t (bind ks (entries_on s)) j → AnswersFrom post t (entries_of l) m
+    page-answers {post} {j} {m} q a = record { at = at }
+      where
+        at : (i : ℕ) (d : Entry) (b : Bool) → m ≤ i → i < length (entries_of l) → post (get_or (entries_of l) i d) b
+            → b ≡ t (get_or (entries_of l) i d)
+        at i d b le lt p =
+            let here : get_or (bind ks (entries_on s)) (length h.front + i) d ≡ get_or (entries_of l) i d =
+            ap (λ (es : List Entry). get_or es (length h.front + i) d) turn
+            ∙ get_or-append-add h.front (entries_of l ++ fs) i d ∙ get_or-append (entries_of l) fs d i lt in
+            a.at (length h.front + i) d b (omega (arith, h.number, q))
+            (omega (arith, ap length turn, length-append h.front (entries_of l ++ fs), length-append (entries_of l) fs))
+            (subst (λ (e : Entry). post e b) (sym here) p)
+            ∙ ap t here
 
-    pub page-found : {r : Mover} → Seeks t (entries_of l) r → {e : Entry} {j b m : ℕ} → r ≡ Mover.At e j b m
-        → Seeks t (bind (take n bs) (entries_on s)) (Mover.At e (k + j) b m)
-    page-found f {e} {j} {b} {m} q =
-        subst (λ (es : List Entry). Seeks t es (Mover.At e (k + j) b m)) (sym turn)
-        (subst (λ (d : ℕ). Seeks t (h.front ++ (entries_of l ++ fs)) (Mover.At e (d + j) b m)) (sym h.number)
-        (sought-part t h.front (entries_of l) fs e j h.none (seeks-at f q)))
+    pub page-found : {e : Entry} {j : ℕ} → (find t (entries_of l) ≡ some e) × Stands t (entries_of l) e j
+        → (find t (bind ks (entries_on s)) ≡ some e) × Stands t (bind ks (entries_on s)) e (k + j)
+    page-found {e} {j} f =
+        subst (λ (es : List Entry). (find t es ≡ some e) × Stands t es e (k + j)) (sym turn)
+        (subst (λ (d : ℕ). (find t (h.front ++ (entries_of l ++ fs)) ≡ some e)
+        × Stands t (h.front ++ (entries_of l ++ fs)) e (d + j)) (sym h.number)
+        (sought-part t h.front (entries_of l) fs e j h.none f))
+
+    -- a search along the blocks ends at this one or goes on
+    here : (u : ℕ → Bool) → u (get_or ks i 0) ≡ true → find u (drop i ks) ≡ some (get_or ks i 0)
+    here u y =
+        subst (λ (js : List ℕ). find u (drop i js) ≡ some (get_or ks i 0)) (take-length ks) (search-here ok i more u y)
+
+    later : (u : ℕ → Bool) → u (get_or ks i 0) ≡ false → find u (drop i ks) ≡ find u (drop (i + 1) ks)
+    later u y =
+        subst (λ (js : List ℕ). find u (drop i js) ≡ find u (drop (i + 1) js)) (take-length ks)
+        (search-later ok i more u y)
 
     -- its page is the first that has its pair
-    pub page-located : {r : Mover} → Seeks t (entries_of l) r → Located (found_on (get_or bs i 0) (entries_of l)) r
-        → {e : Entry} {j b m : ℕ} → r ≡ Mover.At e j b m → PairPasses t e.pair
-        → Located (find_in s (take n bs)) (Mover.At e (k + j) b m)
+    pub page-located : {e : Entry} → find t (entries_of l) ≡ some e → PairPasses t e.pair
+        → find_in s ks e.pair ≡ found_on (get_or ks i 0) (entries_of l) e.pair
     unfolding find_in
-    page-located f g {e} q u =
-        located
-        (ap (found_as s e.pair) (h.pages e.pair u ∙ search-here ok i more (pair_on s e.pair) stands)
-        ∙ ap (λ (x : List ℕ). found_on (get_or bs i 0) (entries_of x) e.pair) (sym on.page)
-        ∙ located-at g q)
+    page-located {e} f u =
+        ap (found_as s e.pair) (h.pages e.pair u ∙ here (pair_on s e.pair) stands)
+        ∙ ap (λ (x : List ℕ). found_on (get_or ks i 0) (entries_of x) e.pair) (sym on.page)
       where
         yes : (c : Bool) → any (is e.pair) (entries_of l) ≡ c → c ≡ true
         yes true a = refl
         yes false a =
             absurd (omega (
               arith,
-              (find-yes t (entries_of l) e (seeks-entry f q)).1 (is e.pair),
+              (find-yes t (entries_of l) e f).1 (is e.pair),
               ap b2n (same_refl e.pair),
               any-no (is e.pair) (entries_of l) a,
             ))
 
-        stands : pair_on s e.pair (get_or bs i 0) ≡ true
+        stands : pair_on s e.pair (get_or ks i 0) ≡ true
         stands =
             ap (λ (x : List ℕ). any (is e.pair) (entries_of x)) (sym on.page)
             ∙ yes (any (is e.pair) (entries_of l)) refl
 
-    pub page-later : {r : Mover} → Seeks t (entries_of l) r → r ≡ Mover.Nothing → (j : ℕ) → j ≡ length (entries_of l)
-        → j ≤ 40 → Behind s bs n t (k + j) (i + 1)
-    page-later f q j e few =
-        let none : tally t (entries_of l) ≡ 0 = find-no t (entries_of l) (seeks-none f q) in
+    pub page-later : find t (entries_of l) ≡ none → (j : ℕ) → j ≡ length (entries_of l) → j ≤ 40
+        → Behind s ks t (k + j) (i + 1)
+    page-later f j e few =
+        let none : tally t (entries_of l) ≡ 0 = find-no t (entries_of l) f in
         record {
           front = h.front ++ entries_of l;
           parts = turn ∙ sym (append_assoc h.front (entries_of l) fs);
@@ -103,13 +137,16 @@ module _ {s bs : List ℕ} {n : ℕ} (ok : Within s bs n) {t : Entry → Bool} {
           pages =
               λ p u.
               h.pages p u
-              ∙ search-later ok i more (pair_on s p)
+              ∙ later (pair_on s p)
               (ap (λ (x : List ℕ). any (is p) (entries_of x)) (sym on.page)
               ∙ zero-any (is p) (entries_of l) (omega (arith, tally-le (is p) t (entries_of l) u, none)));
         }
 
-  pub walk_end : n ≤ i → Seeks t (bind (take n bs) (entries_on s)) Mover.Nothing
+  pub walk_end : length ks ≤ i → find t (bind ks (entries_on s)) ≡ none
   walk_end past =
-      let all : bind (take n bs) (entries_on s) ≡ h.front =
-      h.parts ∙ ap (λ (es : List Entry). h.front ++ es) (rest-done ok i past) ∙ append-nil h.front in
-      nothing (find-zero t (bind (take n bs) (entries_on s)) (ap (tally t) all ∙ h.none))
+      let all : bind ks (entries_on s) ≡ h.front =
+      h.parts
+      ∙ ap (λ (es : List Entry). h.front ++ es)
+      (subst (λ (js : List ℕ). bind (drop i js) (entries_on s) ≡ []) (take-length ks) (rest-done ok i past))
+      ∙ append-nil h.front in
+      find-zero t (bind ks (entries_on s)) (ap (tally t) all ∙ h.none)

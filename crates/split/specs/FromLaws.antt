@@ -1,6 +1,6 @@
 -- A job goes forward along the old chain: what was passed stays passed. So the next step of a work call may search
 -- from behind the entry that was copied, or from where the cleared one stood.
-use Rattle.std.specs.Prelude.{◌≡◌, refl, Bool, true, false, cond, not, ◌&&◌, ◌||◌, List, [], ◌∷◌, ◌++◌, map, ℕ, zero, suc, ◌+◌, ◌≤◌, ◌<◌, eqb, length, take, drop}
+use Rattle.std.specs.Prelude.{◌≡◌, refl, Bool, true, false, cond, not, ◌&&◌, ◌||◌, List, [], ◌∷◌, ◌++◌, map, ℕ, zero, suc, ◌+◌, ◌≤◌, ◌<◌, eqb, length, take, drop, Option as StdOption, Some, None, IfSome}
 use Rattle.std.proofs.Common.{sym, ap, ap₂, ◌∙◌, add-one, arith, ltb-false}
 use Rattle.std.proofs.Math.Path.{subst}
 use Rattle.std.proofs.Math.Option.{Option, none, some}
@@ -37,26 +37,25 @@ use Rattle.split.specs.SeekLaws.{before-next, after_more, after-only, before-fro
 use Rattle.split.specs.StepLaws.{step-copies, step-clears}
 
 -- the first place, with nothing known of copies
-pub from_start : (x : Index) (p : Position) → (p.place ≡ 0) × (p.fresh ≡ false) × (p.page.index ≡ 0) → From x p
+pub from_start : (x : Index) (p : Position) → (p.place ≡ 0) × (p.fresh ≡ false) × (p.page ≡ None) → From x p
 from_start x p z =
     record {
       none = λ c j. ap (λ (k : ℕ). tally (movable c x) (take k (entries_at x (old_bucket x)))) z.0;
       fresh = λ j t. no_way t z.1;
-      page = λ i. absurd (omega (arith, z.2));
+      page = subst (λ (o : StdOption Spot). IfSome o (λ g. SpotIn x g p.place)) (sym z.2) tt;
     }
 
-pub leads-start : (x : Index) (p : Position) → (p.place ≡ 0) × (p.fresh ≡ false) × (p.page.index ≡ 0) → Leads x p
+pub leads-start : (x : Index) (p : Position) → (p.place ≡ 0) × (p.fresh ≡ false) × (p.page ≡ None) → Leads x p
 leads-start x p z y h = from_start y p z
 
 -- ---- a split that begins: the new chain has no entries
 
-pub begin-leads : (x : Index) → WF x → x.job ≡ idle → (g : Spot) → g.index ≡ 0
-    → Leads x (record { place = 0; fresh = true; page = g })
-begin-leads x w j g z y h =
+pub begin-leads : (x : Index) → WF x → x.job ≡ idle → Leads x (record { place = 0; fresh = true; page = None })
+begin-leads x w j y h =
     record {
       none = λ c i. refl;
       fresh = λ i f. go (entries_at y (old_bucket y));
-      page = λ i. absurd (omega (arith, z));
+      page = tt;
     }
   where
     b : (sp : List ℕ) × (y ≡ widen x sp)
@@ -144,7 +143,7 @@ module _ (x : Index) (w : WF x) (e : Entry) where
 
   pub copy-leads : x.job ≡ copying → find (to_copy x) (entries_at x (old_bucket x)) ≡ some e → (p : Position) → From x p
       → (k : ℕ) → Stands (to_copy x) (entries_at x (old_bucket x)) e k → (g : Spot) → SpotIn x g p.place
-      → Leads x (record { place = k + 1; fresh = p.fresh; page = g })
+      → Leads x (record { place = k + 1; fresh = p.fresh; page = Some g })
   copy-leads j first p from k s g at y h = go (put_view x n (moved_entry e.pair)) (sym (step-copies x j first) ∙ h)
     where
       behind : p.place ≤ k
@@ -153,7 +152,7 @@ module _ (x : Index) (w : WF x) (e : Entry) where
           (ap (to_copy x) s.here ∙ (find-yes (to_copy x) (entries_at x o) e first).0)
 
       go : {q : Option Index} → Putting x (new_bucket x) (moved_entry e.pair) q → or_full q ≡ next y
-          → From y (record { place = k + 1; fresh = p.fresh; page = g })
+          → From y (record { place = k + 1; fresh = p.fresh; page = Some g })
       go {q = none} v f = never (cc)
       go {q = some u} v f =
           let same : u ≡ y = cc in
@@ -163,7 +162,7 @@ module _ (x : Index) (w : WF x) (e : Entry) where
             fresh =
                 λ i t. copy-after a k s (after_more (copied x) (entries_at x o) p.place k behind (from.fresh j t));
             page =
-                λ i. marks-later
+                marks-later
                 (subst (λ (z : Index). SpotIn z g p.place) same (put-spot x w at (moved_entry e.pair) v))
                 (omega (arith, behind));
           }
@@ -219,12 +218,12 @@ before-keep t f h (e ∷ es) (suc k) z = go (f e) refl (before-keep t f h es k) 
 module _ (x : Index) (w : WF x) (e : Entry) where
   pub clear-leads : x.job ≡ clearing → find (moves x) (entries_at x (old_bucket x)) ≡ some e → (k : ℕ)
       → Before (moves x) (entries_at x (old_bucket x)) k → (f : Spot) (i : ℕ) → SpotIn x f i
-      → (g : Spot) → (1 ≤ g.index → (f.passed < k) × (g ≡ f))
+      → (g : StdOption Spot) → IfSome g (λ s. (f.passed < k) × (s ≡ f))
       → Leads x (record { place = k; fresh = false; page = g })
   unfolding cut
   clear-leads j first k z f i at g kept y h =
       subst (λ (v : Index). From v (record { place = k; fresh = false; page = g })) made
-      (record { none = go; fresh = λ q t. absurd (clearing-copying (sym j ∙ q)); page = page })
+      (record { none = go; fresh = λ q t. absurd (clearing-copying (sym j ∙ q)); page = page g kept })
     where
       p : Pair
       p = e.pair
@@ -251,11 +250,11 @@ module _ (x : Index) (w : WF x) (e : Entry) where
       passes : (d : Entry) → is p d ≡ true → moves x d ≡ true
       passes d q = movable-same false x e (find-yes (moves x) (entries_at x (old_bucket x)) e first).0 d q
 
-      page : 1 ≤ g.index → SpotIn u g k
-      page l =
-          let q = kept l in
+      page : (o : StdOption Spot) → IfSome o (λ s. (f.passed < k) × (s ≡ f)) → IfSome o (λ s. SpotIn u s k)
+      page None q = tt
+      page (Some s) q =
           subst (λ (b : Spot). SpotIn u b k) (sym q.1)
-          (cut-spot x p w f i k at (subst (λ (b : Spot). 1 ≤ b.index) q.1 l) q.0
+          (cut-spot x p w f i k at q.0
           (omega (arith, tally-le (is p) (moves x) (take k (entries_at x (old_bucket x))) passes, z)))
 
       go : (d : Bool) → u.job ≡ job_of d → Before (movable d u) (entries_at u (old_bucket u)) k

@@ -21,6 +21,7 @@ pub record NewChain (x : Index) (bs : List ℕ) (n : ℕ) : Type 0 where
   pub blocks : take n bs ≡ chain_blocks x (new_bucket x) (chain x (new_bucket x))
   pub count : n ≡ length (take n bs)
 
--- where the step looks for copies, they are
-abbrev pub Copies : (copying fresh : Bool) → Index → List ℕ → ℕ → Type 0
-Copies c f x bs n = c ≡ true → f ≡ false → NewChain x bs n
+-- where the entries are fresh no copies are looked for, else in the new chain
+abbrev pub Copies : (fresh : Bool) → Index → List ℕ → ℕ → Type 0
+Copies true x bs n = n ≡ 0
+Copies false x bs n = NewChain x bs n

@@ -1,6 +1,6 @@
 -- A search along entries from a place on, before which none passes the test; the positions from which a step may
 -- search.
-use Rattle.std.specs.Prelude.{◌≡◌, Bool, true, false, List, ℕ, ◌+◌, ◌≤◌, ◌<◌, length, get_or, take, drop, Option}
+use Rattle.std.specs.Prelude.{◌≡◌, Bool, true, false, Option, List, ℕ, ◌+◌, ◌≤◌, ◌<◌, length, get_or, take, drop, MatchOption, IfSome}
 use Rattle.std.proofs.Math.Option.{none, some}
 use Rattle.lists.specs.Lists.{tally, find}
 use Rattle.page.specs.declared.Pair.{Pair}
@@ -33,25 +33,21 @@ pub record Stands (t : Entry → Bool) (es : List Entry) (e : Entry) (k : ℕ) :
   pub here : get_or es k e ≡ e
   pub first : Before t es k
 
--- the first entry that passes, and its place
-pub data Seeks (t : Entry → Bool) (es : List Entry) : Mover → Type 0 where
-  sought : {e : Entry} {k b n : ℕ} → find t es ≡ some e → Stands t es e k → Seeks t es (Mover.At e k b n)
-  nothing : find t es ≡ none → Seeks t es Mover.Nothing
+-- what a test that ensures `post` answers at the entries from the place k on is what t says
+pub record AnswersFrom (post : Entry → Bool → Type 0) (t : Entry → Bool) (es : List Entry) (k : ℕ) : Type 0 where
+  pub at : (i : ℕ) (d : Entry) (r : Bool) → k ≤ i → i < length es → post (get_or es i d) r → r ≡ t (get_or es i d)
 
--- its place, or 0
-abbrev pub mover_place : Mover → ℕ
-mover_place (Mover.At e k b n) = k
-mover_place Mover.Nothing = 0
+-- the first entry that passes, and its place
+abbrev pub Seeks : (Entry → Bool) → List Entry → Option Mover → Type 0
+Seeks t es r = MatchOption r (find t es ≡ none) (λ v. (find t es ≡ some v.entry) × Stands t es v.entry v.place)
 
 -- its place, counted from k entries before
 abbrev pub shifted : ℕ → Mover → Mover
-shifted k (Mover.At e j b n) = Mover.At e (k + j) b n
-shifted k Mover.Nothing = Mover.Nothing
+shifted k v = record { entry = v.entry; place = k + v.place; block = v.block; slot = v.slot }
 
 -- its block and slot are where f finds its pair
-pub data Located (f : Pair → Option Found) : Mover → Type 0 where
-  located : {e : Entry} {k b n : ℕ} → f e.pair ≡ at_slot b n → Located f (Mover.At e k b n)
-  nowhere : Located f Mover.Nothing
+abbrev pub Located : (Pair → Option Found) → Option Mover → Type 0
+Located f r = IfSome r (λ v. f v.entry.pair ≡ at_slot v.block v.slot)
 
 -- where a pair is found that stands among the entries of block b
 abbrev pub found_on : (b : ℕ) → List Entry → Pair → Option Found
@@ -62,12 +58,19 @@ abbrev pub job_of : (copying : Bool) → Job
 job_of true = copying
 job_of false = clearing
 
+-- a search from the place k on by a test that ensures `post`: where the entries before it are not left to move, and the
+-- test tells which of the others are, it finds the first one that is left, where f finds its pair
+abbrev pub Searches : (post : Entry → Bool → Type 0) → Index → List Entry → (Pair → Option Found) → ℕ → Option Mover → Type 0
+Searches post x es f k r =
+    (c : Bool) → Before (movable c x) es k → AnswersFrom post (movable c x) es k
+    → (Seeks (movable c x) es r) × (Located f r)
+
 -- none of the entries of the old chain before the position is left for the job to move; where it is fresh, none of the
 -- others has a copy; and where its page is known, it is one of the old chain
 pub record From (x : Index) (p : Position) : Type 0 where
   pub none : (c : Bool) → x.job ≡ job_of c → Before (movable c x) (entries_at x (old_bucket x)) p.place
   pub fresh : x.job ≡ copying → Fresh p.fresh x (entries_at x (old_bucket x)) p.place
-  pub page : 1 ≤ p.page.index → SpotIn x p.page p.place
+  pub page : IfSome p.page (λ g. SpotIn x g p.place)
 
 -- the step after this one may search from the position p
 abbrev pub Leads : Index → Position → Type 0

@@ -1,5 +1,5 @@
 -- Searches from a place on, along one list of entries after another.
-use Rattle.std.specs.Prelude.{◌≡◌, refl, Bool, true, false, List, [], ◌∷◌, ◌++◌, ℕ, zero, suc, ◌+◌, ◌-◌, ◌≤◌, ◌<◌, length, get_or, take, drop, Option}
+use Rattle.std.specs.Prelude.{◌≡◌, refl, Bool, true, false, List, [], ◌∷◌, ◌++◌, ℕ, zero, suc, ◌+◌, ◌-◌, ◌≤◌, ◌<◌, length, get_or, take, drop, Option, Some, None}
 use Rattle.std.proofs.Common.{sym, ap, ◌∙◌, subst, add-one, arith, take-append-drop, length-append, take_all, take-suc, get_or-append-add}
 use Rattle.std.proofs.Math.Option.{none, some}
 use Rattle.std.proofs.Math.ListN.{get_or-append}
@@ -11,9 +11,10 @@ use Rattle.page.specs.declared.Pair.{Pair}
 use Rattle.page.specs.declared.Entry.{Entry}
 use Rattle.frame.specs.ListsLaws.{find-zero, find-left, find-right}
 use Rattle.chain.specs.declared.Found.{Found}
-use Rattle.chain.specs.Search.{at_slot}
 use Rattle.split.specs.declared.Mover.{Mover}
-use Rattle.split.specs.Seek.{Before, After, Stands, Seeks, sought, nothing, Located, located, nowhere}
+use Rattle.model.specs.Index.{Index}
+use Rattle.split.specs.Mover.{movable}
+use Rattle.split.specs.Seek.{Before, After, AnswersFrom, Stands, Seeks, Located, Searches}
 
 module _ (t : Entry → Bool) where
   -- what is not before the place is after it
@@ -49,18 +50,20 @@ module _ (t : Entry → Bool) where
       ap (λ (n : ℕ). tally t (take n es)) e ∙ before-part bs es fs k (omega arith)
 
   -- what was found among them was found in all
-  pub sought-part : (bs es fs : List Entry) (e : Entry) (k : ℕ) {b n : ℕ} → tally t bs ≡ 0
-      → Seeks t es (Mover.At e k b n) → Seeks t (bs ++ (es ++ fs)) (Mover.At e (length bs + k) b n)
-  sought-part bs es fs e k z (sought f s) =
-      sought {k = length bs + k} (find-right t bs (es ++ fs) (find-zero t bs z) ∙ find-left t es fs e f)
-      (record {
-        inside = omega (arith, s.inside, length-append bs (es ++ fs), length-append es fs);
-        here = get_or-append-add bs (es ++ fs) k e ∙ get_or-append es fs e k s.inside ∙ s.here;
-        first =
-            ap (tally t) (take-append-add bs (es ++ fs) k)
-            ∙ tally-append t bs (take k (es ++ fs))
-            ∙ omega (arith, ap (tally t) (take-append-le k es fs (omega (arith, s.inside))), s.first);
-      })
+  pub sought-part : (bs es fs : List Entry) (e : Entry) (k : ℕ) → tally t bs ≡ 0
+      → (find t es ≡ some e) × Stands t es e k
+      → (find t (bs ++ (es ++ fs)) ≡ some e) × Stands t (bs ++ (es ++ fs)) e (length bs + k)
+  sought-part bs es fs e k z (f, s) = (
+    find-right t bs (es ++ fs) (find-zero t bs z) ∙ find-left t es fs e f,
+    record {
+      inside = omega (arith, s.inside, length-append bs (es ++ fs), length-append es fs);
+      here = get_or-append-add bs (es ++ fs) k e ∙ get_or-append es fs e k s.inside ∙ s.here;
+      first =
+          ap (tally t) (take-append-add bs (es ++ fs) k)
+          ∙ tally-append t bs (take k (es ++ fs))
+          ∙ omega (arith, ap (tally t) (take-append-le k es fs (omega (arith, s.inside))), s.first);
+    },
+  )
 
   -- ---- where none from a place on passes
 
@@ -116,39 +119,17 @@ module _ (t : Entry → Bool) where
 
 -- ---- what was found
 
-module _ {t : Entry → Bool} {es : List Entry} {r : Mover} (found : Seeks t es r) where
-  pub seeks-at : {e : Entry} {k b n : ℕ} → r ≡ Mover.At e k b n → Seeks t es (Mover.At e k b n)
-  seeks-at h = subst (Seeks t es) h found
+-- where another search finds the same
+pub located-as : {f : Pair → Option Found} (r : Option Mover) → Located f r → (g : Pair → Option Found) → ((p : Pair) → f p ≡ g p)
+    → Located g r
+located-as (Some v) h g same = sym (same v.entry.pair) ∙ h
+located-as None h g same = tt
 
-  pub seeks-entry : {e : Entry} {k b n : ℕ} → r ≡ Mover.At e k b n → find t es ≡ some e
-  seeks-entry {e} {k} {b} {n} h = go (subst (Seeks t es) h found)
-    where
-      go : Seeks t es (Mover.At e k b n) → find t es ≡ some e
-      go (sought f s) = f
-
-  pub seeks-place : {e : Entry} {k b n : ℕ} → r ≡ Mover.At e k b n → Stands t es e k
-  seeks-place {e} {k} {b} {n} h = go (subst (Seeks t es) h found)
-    where
-      go : Seeks t es (Mover.At e k b n) → Stands t es e k
-      go (sought f s) = s
-
-  pub seeks-none : r ≡ Mover.Nothing → find t es ≡ none
-  seeks-none h = go (subst (Seeks t es) h found)
-    where
-      go : Seeks t es Mover.Nothing → find t es ≡ none
-      go (nothing f) = f
-
-module _ {f : Pair → Option Found} {r : Mover} (found : Located f r) where
-  pub located-at : {e : Entry} {k b n : ℕ} → r ≡ Mover.At e k b n → f e.pair ≡ at_slot b n
-  located-at {e} {k} {b} {n} h = go (subst (Located f) h found)
-    where
-      go : Located f (Mover.At e k b n) → f e.pair ≡ at_slot b n
-      go (located q) = q
-
-  -- where another search finds the same
-  pub located-as : (g : Pair → Option Found) → ((p : Pair) → f p ≡ g p) → Located g r
-  located-as g same = go found
-    where
-      go : {q : Mover} → Located f q → Located g q
-      go (located {e = e} q) = located (sym (same e.pair) ∙ q)
-      go nowhere = nowhere
+-- and among entries that are the same
+pub searches-as : (post : Entry → Bool → Type 0) (x : Index) (f g : Pair → Option Found) (k : ℕ) (r : Option Mover)
+    → {es ds : List Entry} → es ≡ ds → ((p : Pair) → f p ≡ g p) → Searches post x es f k r → Searches post x ds g k r
+searches-as post x f g k r e same h c z a =
+    let found =
+    h c (subst (λ (ls : List Entry). Before (movable c x) ls k) (sym e) z)
+    (subst (λ (ls : List Entry). AnswersFrom post (movable c x) ls k) (sym e) a) in
+    (subst (λ (ls : List Entry). Seeks (movable c x) ls r) e found.0, located-as r found.1 g same)

@@ -34,7 +34,6 @@ SpotIn x =
     let c = chain x (old_bucket x) in
     Marks (chain_blocks x (old_bucket x) c) (λ i. front_size i (pages_in c))
 
--- the page, by its index, or the first one
-abbrev pub or_first : (first : ℕ) → Spot → (index : ℕ) → Spot
-or_first first g zero = record { block = first; index = 0; passed = 0 }
-or_first first g (suc i) = g
+-- the first page of the chain from a block on
+abbrev pub first_page : (first : ℕ) → Spot
+first_page first = record { block = first; index = 0; passed = 0 }

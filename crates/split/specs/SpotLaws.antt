@@ -1,5 +1,5 @@
 -- The page that a search begins at: as it is read, over a copy that is put, and over an entry that is taken away.
-use Rattle.std.specs.Prelude.{◌≡◌, ◌≢◌, Bool, true, false, cond, not, ℕ, zero, suc, ◌+◌, ◌-◌, ◌≤◌, ◌<◌, ltb, length, get_or, take}
+use Rattle.std.specs.Prelude.{◌≡◌, Bool, true, false, cond, not, ℕ, zero, suc, ◌+◌, ◌-◌, ◌≤◌, ◌<◌, ltb, length, get_or, take, Option as StdOption, Some, None, IfSome, unwrap_or}
 use Rattle.std.proofs.Math.Path.{refl, ap}
 use Rattle.std.proofs.Common.{sym, ◌∙◌, subst, arith, lt-ltb, ltb-true, length-append}
 use mathlib.Core.List.{List, [], ◌∷◌, ◌++◌, map, append-nil}
@@ -34,7 +34,7 @@ use Rattle.view.specs.ChainLaws.{under-max, walk-read}
 use Rattle.split.specs.declared.Spot.{Spot}
 use Rattle.split.specs.Seek.{Before}
 use Rattle.split.specs.SeekLaws.{before-all, before-left, before-part}
-use Rattle.split.specs.Spot.{Marks, front_size, pages_in, SpotOn, SpotIn, or_first}
+use Rattle.split.specs.Spot.{Marks, front_size, pages_in, SpotOn, SpotIn, first_page}
 
 module _ {ks : List ℕ} {f : ℕ → ℕ} {g : Spot} {k : ℕ} (m : Marks ks f g k) where
   pub marks-later : {j : ℕ} → k ≤ j → Marks ks f g j
@@ -59,30 +59,10 @@ module _ {ks : List ℕ} {f : ℕ → ℕ} {g : Spot} {k : ℕ} (m : Marks ks f 
 
 -- ---- in a store
 
-pub or-known : (first : ℕ) (g : Spot) (i : ℕ) → i ≢ 0 → g ≡ or_first first g i
-or-known first g zero ne = absurd (ne refl)
-or-known first g (suc i) ne = refl
-
 front-size : (f : ℕ → List Entry) (i : ℕ) (ks : List ℕ) → length (bind (take i ks) f) ≡ front_size i (map f ks)
 front-size f zero ks = refl
 front-size f (suc i) [] = refl
 front-size f (suc i) (k ∷ ks) = omega (arith, length-append (f k) (bind (take i ks) f), front-size f i ks)
-
--- the page that is known, or the first one
-pub first-spot : (s : List ℕ) (first : ℕ) (g : Spot) (k : ℕ) → (1 ≤ g.index → SpotOn s (walk s first) g k)
-    → SpotOn s (walk s first) (or_first first g g.index) k
-first-spot s first g k h = go g.index h
-  where
-    go : (i : ℕ) → (1 ≤ i → SpotOn s (walk s first) g k) → SpotOn s (walk s first) (or_first first g i) k
-    go zero l =
-        record {
-          inside = omega (arith, walk-some s first);
-          block = sym (walk_first s first);
-          passed = refl;
-          near = omega arith;
-          few = omega arith;
-        }
-    go (suc i) l = l (omega arith)
 
 module _ {s : List ℕ} {m : Meta} (r : Reads s m) where
   abbrev o : ℕ
@@ -117,6 +97,19 @@ module _ {s : List ℕ} {m : Meta} (r : Reads s m) where
 
     pub spot_on : {g : Spot} {k : ℕ} → SpotIn (decode s) g k → SpotOn s (walk s first) g k
     spot_on h = marks-as h (sym blocks-read) (λ i. sym (sizes-read i))
+
+    -- the page that is known, or the first one
+    pub spot_known : (o : StdOption Spot) (k : ℕ) → IfSome o (λ g. SpotIn (decode s) g k)
+        → SpotOn s (walk s first) (unwrap_or o (first_page first)) k
+    spot_known (Some g) k h = spot_on h
+    spot_known None k h =
+        record {
+          inside = omega (arith, walk-some s first);
+          block = sym (walk_first s first);
+          passed = refl;
+          near = omega arith;
+          few = omega arith;
+        }
 
 -- ---- over a copy that is put into the new chain
 
@@ -226,10 +219,10 @@ module _ (x : Index) (p : Pair) where
           }
       go false q rest = no_way q refl
 
-  pub cut-spot : WF x → (g : Spot) (j k : ℕ) → SpotIn x g j → 1 ≤ g.index → g.passed < k
+  pub cut-spot : WF x → (g : Spot) (j k : ℕ) → SpotIn x g j → g.passed < k
       → Before (is p) (entries_at x (old_bucket x)) k → SpotIn (cut p (old_bucket x) x) g k
   unfolding cut
-  cut-spot w g j k at i l z = go g.index refl i
+  cut-spot w g j k at l z = go g.index refl
     where
       c : Chain
       c = chain x (old_bucket x)
@@ -240,9 +233,20 @@ module _ (x : Index) (p : Pair) where
       here : chain y (old_bucket x) ≡ without p (chain x (old_bucket x))
       here = chain-here x x.spares (old_bucket x) (without p (chain x (old_bucket x))) (old-range x w.laid)
 
-      go : (n : ℕ) → g.index ≡ n → 1 ≤ n → SpotIn y g k
-      go zero q h = absurd (omega arith)
-      go (suc n) q h =
+      go : (n : ℕ) → g.index ≡ n → SpotIn y g k
+      go zero q =
+          record {
+            inside = omega (arith, q);
+            block =
+                at.block ∙ ap (λ (a : ℕ). get_or (chain_blocks x (old_bucket x) c) a 0) q
+                ∙ ap (λ (a : ℕ). get_or (chain_blocks y (old_bucket y) (chain y (old_bucket y))) a 0) (sym q);
+            passed =
+                at.passed ∙ ap (λ (a : ℕ). front_size a (pages_in c)) q
+                ∙ ap (λ (a : ℕ). front_size a (pages_in (chain y (old_bucket y)))) (sym q);
+            near = omega (arith, l);
+            few = at.few;
+          }
+      go (suc n) q =
           marks-as {k = k} stays
           (ap (chain_blocks y (old_bucket x)) (sym here))
           (λ a. ap (λ (d : Chain). front_size a (pages_in d)) (sym here))

@@ -1,12 +1,12 @@
 // The page of the old chain that a search begins at.
-ghost use Rattle.std.specs.Prelude.{◌≡◌, ◌≤◌, length};
+ghost use Rattle.std.specs.Prelude.{◌≡◌, ◌≤◌, length, IfSome};
 ghost use Rattle.lists.specs.Block.{blocks};
 ghost use Rattle.model.specs.Index.{old_bucket};
 ghost use Rattle.image.specs.Decode.{block_of, decode};
 ghost use Rattle.chain.specs.Walk.{walk};
 ghost use Rattle.chain.specs.Within.{PagesOk, Within};
 ghost use Rattle.view.specs.Reads.{Reads};
-ghost use Rattle.split.specs.Spot.{SpotOn, SpotIn, or_first};
+ghost use Rattle.split.specs.Spot.{SpotOn, SpotIn};
 
 use crate::{Position, Spot};
 use address::parent_of;
@@ -22,20 +22,6 @@ pub fn old_home(store: &[u8], m: Meta) -> u32
     ensures { result ≡ block_of store.now (old_bucket (decode store.now)) }
 {
     home_of(m, parent_of(m.max))
-}
-
-// The page that is known, else the chain's first one.
-fn or_first(first: u32, page: Spot) -> Spot
-    ensures { result ≡ or_first first page page.index }
-{
-    if page.index == 0 {
-        return Spot {
-            block: first,
-            index: 0,
-            passed: 0,
-        };
-    }
-    page
 }
 
 // The page of the chain from `first` on to which the place `from` leads: pages all of whose entries stand before it are
@@ -73,11 +59,14 @@ fn skip_pages(store: &[u8], first: u32, from: usize, spot: Spot) -> Spot
 // The page to which the place of a position leads.
 pub fn find_spot(store: &[u8], m: Meta, from: Position) -> Spot
     requires reads { Reads store.now m }
-    requires spot_in { 1 ≤ from.page.index → SpotIn (decode store.now) from.page from.place }
+    requires spot_in { IfSome from.page (λ g. SpotIn (decode store.now) g from.place) }
     ensures { SpotIn (decode store.now) result from.place }
 {
     let first = old_home(store, m);
-    let page = from.page;
-    let spot = or_first(first, page);
+    let spot = from.page.unwrap_or(Spot {
+        block: first,
+        index: 0,
+        passed: 0,
+    });
     skip_pages(store, first, from.place, spot)
 }

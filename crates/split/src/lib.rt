@@ -10,17 +10,14 @@ pub mod step; // step.rt: one step
 use page::Entry;
 use plan::StepPlan;
 
-// The first entry of the old chain that is left to copy or to clear, its place, which is a number of entries from the
+// An entry of the old chain that a step copies or clears, its place, which is a number of entries from the
 // chain's start, and its block and slot.
 #[derive(Clone, Copy)]
-pub enum Mover {
-    At {
-        entry: Entry,
-        place: usize,
-        block: u32,
-        slot: u32,
-    },
-    Nothing,
+pub struct Mover {
+    pub entry: Entry,
+    pub place: usize,
+    pub block: u32,
+    pub slot: u32,
 }
 
 // A page of a chain: its block, its index and the number of entries on the pages before it.
@@ -32,12 +29,12 @@ pub struct Spot {
 }
 
 // A place in the old chain, which a step may search from. Where it is fresh, no entry from there on has a copy. The
-// search begins at the page, whose index is 0 where none is known.
+// search begins at the page, if one is known, else at the first one.
 #[derive(Clone, Copy)]
 pub struct Position {
     pub place: usize,
     pub fresh: bool,
-    pub page: Spot,
+    pub page: Option<Spot>,
 }
 
 // A planned step, and the position that the next one may search from.

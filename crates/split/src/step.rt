@@ -1,5 +1,5 @@
 // One step: of the pending job, or the begin of a split that is wanted.
-ghost use Rattle.std.specs.Prelude.{◌≡◌, true, false, ◌≤◌, ◌<◌, length};
+ghost use Rattle.std.specs.Prelude.{◌≡◌, true, false, ◌<◌, length, None, IfSome};
 ghost use Rattle.model.specs.Index.{Index, idle, copying, clearing, old_bucket};
 ghost use Rattle.model.specs.Pages.{cut};
 ghost use Rattle.model.specs.Held.{count, wanted};
@@ -18,13 +18,13 @@ ghost use Rattle.split.specs.Step.{advance_of};
 use crate::begin::plan_begin;
 use crate::cursor::find_spot;
 use crate::job::{plan_cleared, plan_copied};
-use crate::search::first_mover;
+use crate::search::{first_to_clear, first_to_copy};
 use crate::{Mover, Position, SplitPlan, Spot};
 use address::parent_of;
 use image::Meta;
 use insertion::put::plan_put;
 use model::{Phase, Stop};
-use page::{Entry, Pair};
+use page::Entry;
 use plan::{Advance, PutPlan, StepPlan, halt};
 use reader::job::read_job;
 use removal::plan_cut;
@@ -67,26 +67,14 @@ fn step_idle(store: &[u8], m: Meta, images: &mut [u8]) -> StepPlan
     or_full(plan_begin(store, m, images))
 }
 
-// No page of the old chain.
-fn no_spot() -> Spot
-    ensures { result.index ≡ 0 }
-{
-    Spot {
-        block: 0,
-        index: 0,
-        passed: 0,
-    }
-}
-
 // The first place, with nothing known of copies.
 pub fn start() -> Position
-    ensures { (result.place ≡ 0) × (result.fresh ≡ false) × (result.page.index ≡ 0) }
+    ensures { (result.place ≡ 0) × (result.fresh ≡ false) × (result.page ≡ None) }
 {
-    let page = no_spot();
     Position {
         place: 0,
         fresh: false,
-        page,
+        page: None,
     }
 }
 
@@ -113,46 +101,42 @@ fn step_copying(store: &[u8], m: Meta, from: Position, images: &mut [u8]) -> Spl
     ensures leads { Leads (decode store.now) result.next }
 {
     let page = find_spot(store, m, from);
-    let mover = first_mover(store, m, true, from.fresh, from.place, page);
-    let Mover::At {
-        entry,
-        place,
-        block: _,
-        slot: _,
-    } = mover
-    else {
+    let Some(mover) = first_to_copy(store, m, from, page) else {
         let change = plan_copied(store, m, images);
         let first = start();
         return advance_by(change, first);
     };
-    let pair = entry.pair;
-    let copy = Entry { pair, moved: true };
+    let copy = Entry {
+        pair: mover.entry.pair,
+        moved: true,
+    };
     SplitPlan {
         step: or_full(plan_put(store, m, m.max, copy, m.count, images)),
         next: Position {
-            place: place + 1,
+            place: mover.place + 1,
             fresh: from.fresh,
-            page,
+            page: Some(page),
         },
     }
 }
 
-// Takes the pair out of the old chain, where it stands at `block` and `slot`.
-fn clear_pair(store: &[u8], m: Meta, pair: Pair, block: u32, slot: u32, images: &mut [u8]) -> Change
+// Takes the entry's pair out of the old chain.
+fn clear_pair(store: &[u8], m: Meta, mover: Mover, images: &mut [u8]) -> Change
     requires reads { (Reads store.now m) × (length images.old ≡ 4096) }
-    requires pair_value { find_at (decode store.now) (old_bucket (decode store.now)) pair ≡ at_slot block slot }
-    requires wf { (WF (cut pair (old_bucket (decode store.now)) (decode store.now)))
-        × (count (cut pair (old_bucket (decode store.now)) (decode store.now)) ≡ m.count) }
+    requires located { find_at (decode store.now) (old_bucket (decode store.now)) mover.entry.pair
+        ≡ at_slot mover.block mover.slot }
+    requires wf { (WF (cut mover.entry.pair (old_bucket (decode store.now)) (decode store.now)))
+        × (count (cut mover.entry.pair (old_bucket (decode store.now)) (decode store.now)) ≡ m.count) }
     ensures { Plans store.now result images.new
-        (cut pair (old_bucket (decode store.now)) (decode store.now)) }
+        (cut mover.entry.pair (old_bucket (decode store.now)) (decode store.now)) }
 {
     plan_cut(
         store,
         m,
         parent_of(m.max),
-        pair,
-        block,
-        slot,
+        mover.entry.pair,
+        mover.block,
+        mover.slot,
         m.count,
         images,
     )
@@ -160,13 +144,14 @@ fn clear_pair(store: &[u8], m: Meta, pair: Pair, block: u32, slot: u32, images: 
 
 // The page to begin at after the entry at `place` is taken away: the same where an entry before that one stands on it,
 // so that it is not freed.
-fn keep_spot(page: Spot, place: usize) -> Spot
-    ensures { 1 ≤ result.index → (page.passed < place) × (result ≡ page) }
+fn keep_spot(page: Spot, place: usize) -> Option<Spot>
+    ensures { IfSome result (λ g. (page.passed < place) × (g ≡ page)) }
 {
     if page.passed < place {
-        return page;
+        Some(page)
+    } else {
+        None
     }
-    no_spot()
 }
 
 // The first entry of the new bucket in the old chain is taken away; without one clearing ends. The search begins at the
@@ -179,24 +164,15 @@ fn step_clearing(store: &[u8], m: Meta, from: Position, images: &mut [u8]) -> Sp
     ensures leads { Leads (decode store.now) result.next }
 {
     let page = find_spot(store, m, from);
-    let mover = first_mover(store, m, false, false, from.place, page);
-    let Mover::At {
-        entry,
-        place,
-        block,
-        slot,
-    } = mover
-    else {
+    let Some(mover) = first_to_clear(store, m, from.place, page) else {
         return advance_by(plan_cleared(store, m, images), start());
     };
-    let pair = entry.pair;
-    let kept = keep_spot(page, place);
     let next = Position {
-        place,
+        place: mover.place,
         fresh: false,
-        page: kept,
+        page: keep_spot(page, mover.place),
     };
-    advance_by(clear_pair(store, m, pair, block, slot, images), next)
+    advance_by(clear_pair(store, m, mover, images), next)
 }
 
 // Plans one step of the pending job, or the begin of a split that is wanted, after which there are no copies. A job's
@@ -215,7 +191,7 @@ pub fn plan_step(store: &[u8], m: Meta, from: Position, images: &mut [u8]) -> Sp
             next: Position {
                 place: 0,
                 fresh: true,
-                page: no_spot(),
+                page: None,
             },
         },
         Phase::Copying { old: _, new: _ } => step_copying(store, m, from, images),

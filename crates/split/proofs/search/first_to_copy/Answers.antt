@@ -1,0 +1,19 @@
+use Rattle.std.proofs.Common.{true, rules}
+use Rattle.split.specs.MoverLaws.{copies-within, copies-pages, copy-answers}
+use Rattle.split.proofs.search.first_to_copy.Goals as goal
+
+pub first_in_old-requires-clause-callable : goal.first_in_old-requires-clause-callable
+first_in_old-requires-clause-callable c =
+    let r = c.requires.reads in
+    let w = copies-within r c.args.from.fresh _ _ c.walk_copies-walked.ensures in
+    let p = copies-pages r c.args.from.fresh _ _ c.walk_copies-walked.ensures in
+    search rules
+
+pub returns-clause-seeks : goal.returns-clause-seeks
+returns-clause-seeks c =
+    (c.first_in_old.ensures.searches true c.requires.before.0
+    (record {
+      at = λ i d b le lt p.
+          let q = copy-answers c.requires.reads c.args.from.fresh _ _ c.walk_copies-walked.ensures _ _ c.requires.before.1 i d le lt in
+          search rules;
+    })).0
