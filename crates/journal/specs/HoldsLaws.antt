@@ -1,6 +1,6 @@
 -- The tests of `holds`, one after the other, and a look.
 use Rattle.std.specs.Prelude.{◌≡◌, Bool, true, false, ◌&&◌, List, eqb}
-use Rattle.std.proofs.Math.Path.{sym}
+use Rattle.std.proofs.Math.Path.{refl, sym}
 use Rattle.std.proofs.Common.{ap, ◌∙◌, arith, le-leb}
 use Rattle.std.proofs.Math.Option.{Option, none}
 use Prim.Native.Nat.{ℕ, ◌≤◌, ◌<◌}
@@ -14,11 +14,19 @@ use Rattle.journal.specs.Journal.{end_copies, images_good, names_below, names_di
 use Rattle.journal.specs.Journal.{image_for, look_at, look}
 
 -- a test that fails, and one that passes
-pub and_no : (a r t : Bool) → t ≡ a → t ≡ false → false ≡ a && r
-and_no a r t e f = sym (ap (λ (x : Bool). x && r) (sym e ∙ f))
+pub and_no : (a r t : Bool) → t ≡ a → t ≡ false → t ≡ a && r
+and_no a r t e f = f ∙ sym (ap (λ (x : Bool). x && r) (sym e ∙ f))
 
 pub and_yes : (a r t u : Bool) → t ≡ a → t ≡ true → u ≡ r → u ≡ a && r
 and_yes a r t u e f g = g ∙ sym (ap (λ (x : Bool). x && r) (sym e ∙ f))
+
+-- six tests, asked from the first on
+pub and-six : (a b c d e f : Bool) → ((((a && b) && c) && d) && e) && f ≡ a && (b && (c && (d && (e && f))))
+and-six false b c d e f = refl
+and-six true false c d e f = refl
+and-six true true false d e f = refl
+and-six true true true false e f = refl
+and-six true true true true e f = refl
 
 pub disk-eq : (s s' j j' : List ℕ) → s ≡ s' → j ≡ j'
     → ◌≡◌ {A = Disk} (record { store = s; journal = j }) (record { store = s'; journal = j' })

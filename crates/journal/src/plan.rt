@@ -2,7 +2,7 @@
 ghost use Rattle.std.specs.Prelude.{◌≡◌, ◌++◌, ℕ, ◌+◌, ◌*◌, ◌≤◌, ◌<◌, length, drop};
 ghost use Rattle.store.specs.Store.{sealed};
 ghost use Rattle.store.specs.Change.{seals};
-ghost use Rattle.journal.specs.Journal.{head_bytes, head, ending, wiped, do_store, run};
+ghost use Rattle.journal.specs.Journal.{disk, head_bytes, head, ending, wiped, do_store, run};
 ghost use Rattle.journal.specs.Planned.{plan_count, plan_name, plan_stores, plan_store};
 ghost use Rattle.journal.specs.WriteLaws.{head_with};
 
@@ -17,15 +17,12 @@ fn head_bytes(change: Change, number: u32) -> [u8; 512]
     requires { change.count ≤ 8 }
     ensures { result ≡ head_with number change.count change.numbers change.count }
 {
-    let count = change.count;
-    let numbers = change.numbers;
+    let numbers = &change.numbers[..change.count];
     let mut head = [0u8; 512];
     put_u32(&mut head, 0, number);
-    put_u32(&mut head, 4, count as u32);
-    let mut i = 0;
-    while i < count {
-        put_u32(&mut head, 8 + 4 * i, numbers[i]);
-        i += 1;
+    put_u32(&mut head, 4, change.count as u32);
+    for (i, name) in numbers.iter().enumerate() {
+        put_u32(&mut head, 8 + 4 * i, *name);
     }
     head
 }
@@ -41,8 +38,8 @@ fn head_as(change: Change, number: u32, k: u32) -> [u8; 512]
 }
 
 // Works out a change of the store with this number. Its images stand in `plan` from byte 1536 on.
-pub fn work_out(plan: &mut [u8], change: Change, number: u32)
-    requires { (length plan.old ≡ 5632) × (change.count ≤ 8) }
+pub fn work_out(plan: &mut [u8; 5632], change: Change, number: u32)
+    requires { change.count ≤ 8 }
     ensures { plan.new
         ≡ head number change.numbers change.count
         ++ (ending number change.numbers change.count
@@ -76,14 +73,12 @@ pub fn plan_name(plan: &[u8], i: usize) -> u32
 }
 
 // Does the `n`-th block store of a plan, and nothing else.
-pub fn store_planned(store: &mut [u8], journal: &mut [u8], plan: &[u8], n: usize)
-    requires journal_len { (length journal.old ≡ 8192) × (5632 ≤ length plan.now) }
+pub fn store_planned(store: &mut [u8], journal: &mut [u8; 8192], plan: &[u8], n: usize)
+    requires plan_len { 5632 ≤ length plan.now }
     requires plan_bound { (plan_count plan.now ≤ 8) × (n < 2 * plan_count plan.now + 3) }
     requires by_index { (i : ℕ) → i < plan_count plan.now → n ≡ plan_count plan.now + 2 + i
         → 512 * plan_name plan.now i + 512 ≤ length store.old }
-    ensures { do_store (plan_store plan.now n)
-        (record { store = store.entry.now; journal = journal.old })
-        ≡ record { store = store.exit.now; journal = journal.new } }
+    ensures { do_store (plan_store plan.now n) (disk store.old journal.old) ≡ disk store.new journal.new }
 {
     let count = plan_count(plan) as usize;
     if n < count {
@@ -109,17 +104,12 @@ pub fn store_planned(store: &mut [u8], journal: &mut [u8], plan: &[u8], n: usize
 }
 
 // Does all block stores of a plan, from the first on.
-pub fn run_plan(store: &mut [u8], journal: &mut [u8], plan: &[u8])
-    requires journal_len { (length journal.old ≡ 8192) × (5632 ≤ length plan.now) × (plan_count plan.now ≤ 8) }
+pub fn run_plan(store: &mut [u8], journal: &mut [u8; 8192], plan: &[u8])
+    requires plan_len { (5632 ≤ length plan.now) × (plan_count plan.now ≤ 8) }
     requires by_index { (i : ℕ) → i < plan_count plan.now → 512 * plan_name plan.now i + 512 ≤ length store.old }
-    ensures { run (plan_stores plan.now)
-        (record { store = store.entry.now; journal = journal.old })
-        ≡ record { store = store.exit.now; journal = journal.new } }
+    ensures { run (plan_stores plan.now) (disk store.old journal.old) ≡ disk store.new journal.new }
 {
-    let total = 2 * plan_count(plan) as usize + 3;
-    let mut n = 0;
-    while n < total {
+    for n in 0..2 * plan_count(plan) as usize + 3 {
         store_planned(store, journal, plan, n);
-        n += 1;
     }
 }

@@ -1,4 +1,3 @@
-use Rattle.std.proofs.Common.{rules}
 use Rattle.journal.specs.WriteLaws.{wiped-written}
 use Rattle.journal.proofs.holds.wiped_head.Goals as goal
 

@@ -1,9 +1,0 @@
-use Rattle.std.proofs.Common.{arith, below_more, get_or, length, rules, ℕ, ◌-◌, ◌<◌, ◌≡◌, ◌≤◌}
-use Rattle.journal.proofs.LoopLaws.{same-yes, same-no}
-use Rattle.journal.proofs.holds.same_bytes.Given as goal
-
-abbrev pub invariant-loop-i : goal.invariant-loop-i
-invariant-loop-i l = (l.i ≤ length l.a) × ((k : ℕ) → k < l.i → get_or l.a k 0 ≡ get_or l.b k 0)
-
-abbrev pub decreases-loop-i : goal.decreases-loop-i
-decreases-loop-i l = length l.a - l.i
