@@ -1,3 +1,2 @@
 pub mod Bodies
 pub mod Blocks
-pub mod Parts

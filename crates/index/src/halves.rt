@@ -171,9 +171,9 @@ pub fn do_store(store: &mut [u8], journal: &mut [u8], plan: &[u8], n: u32) -> Pl
     if !check_length(store) {
         return PlaceAnswer::Refused(Refusal::Length);
     }
-    if journal.len() != 8192 {
+    let Some(journal) = journal.as_mut_array() else {
         return PlaceAnswer::Refused(Refusal::JournalLength);
-    }
+    };
     let place = store_place(store, plan, n);
     match place {
         PlaceAnswer::Short => PlaceAnswer::Short,

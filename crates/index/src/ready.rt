@@ -20,9 +20,9 @@ pub fn test_ready(store: &[u8], journal: &[u8], numbers: bool) -> Test
     if !check_length(store) {
         return Test::Failed(Refusal::Length);
     }
-    if journal.len() != 8192 {
+    let Some(journal) = journal.as_array() else {
         return Test::Failed(Refusal::JournalLength);
-    }
+    };
     if !numbers {
         return Test::Failed(Refusal::Number);
     }

@@ -16,9 +16,9 @@ pub fn recover(store: &mut [u8], journal: &mut [u8]) -> Answer
     if !check_length(store) {
         return Answer::Refused(Refusal::Length);
     }
-    if journal.len() != 8192 {
+    let Some(journal) = journal.as_mut_array() else {
         return Answer::Refused(Refusal::JournalLength);
-    }
+    };
     recover_store(store, journal);
     Answer::Done
 }
@@ -27,9 +27,9 @@ pub fn recover(store: &mut [u8], journal: &mut [u8]) -> Answer
 pub fn wipe(journal: &mut [u8]) -> Answer
     ensures { wipe_outcome journal.old ≡ record { answer = result; journal = journal.new } }
 {
-    if journal.len() != 8192 {
+    let Some(journal) = journal.as_mut_array() else {
         return Answer::Refused(Refusal::JournalLength);
-    }
+    };
     wipe_head(journal);
     Answer::Done
 }
@@ -38,9 +38,9 @@ pub fn wipe(journal: &mut [u8]) -> Answer
 pub fn wiped(journal: &[u8]) -> Answer
     ensures { result ≡ wiped_outcome journal.now }
 {
-    if journal.len() != 8192 {
+    let Some(journal) = journal.as_array() else {
         return Answer::Refused(Refusal::JournalLength);
-    }
+    };
     if !head_wiped(journal) {
         return Answer::Refused(Refusal::Pending);
     }
@@ -54,22 +54,21 @@ pub fn look_at(store: &[u8], journal: &[u8], k: u32) -> PlaceAnswer
     if !check_length(store) {
         return PlaceAnswer::Refused(Refusal::Length);
     }
-    if journal.len() != 8192 {
+    let Some(journal) = journal.as_array() else {
         return PlaceAnswer::Refused(Refusal::JournalLength);
-    }
+    };
     if k as usize >= store.len() / 512 {
         return PlaceAnswer::Refused(Refusal::Number);
     }
-    let i = image_for(store, journal, k as usize);
-    if i < 14 {
-        return PlaceAnswer::At {
+    match image_for(store, journal, k as usize) {
+        Some(i) => PlaceAnswer::At {
             journal: true,
             block: i as u32 + 1,
-        };
-    }
-    PlaceAnswer::At {
-        journal: false,
-        block: k,
+        },
+        None => PlaceAnswer::At {
+            journal: false,
+            block: k,
+        },
     }
 }
 
@@ -80,9 +79,9 @@ pub fn look<'a>(store: &'a [u8], journal: &'a [u8], k: u32) -> &'a [u8]
     if !check_length(store) {
         return &store[..0];
     }
-    if journal.len() != 8192 {
+    let Some(journal) = journal.as_array() else {
         return &store[..0];
-    }
+    };
     if k as usize >= store.len() / 512 {
         return &store[..0];
     }

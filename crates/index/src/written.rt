@@ -10,22 +10,21 @@ ghost use Rattle.journal.specs.Planned.{plan_to, plan_over};
 ghost use Rattle.index.specs.Sound.{Sound};
 ghost use Rattle.index.specs.Written.{Alters};
 
-use endian::raw::copy_over;
 use journal::plan::{run_plan, work_out};
 use store::{Change, number_at};
 
 // Puts the images where a plan has them.
-fn put_images(plan: &mut [u8], images: &[u8])
-    requires { (length plan.old ≡ 5632) × (length images.now ≡ 4096) }
+fn put_images(plan: &mut [u8; 5632], images: &[u8])
+    requires { length images.now ≡ 4096 }
     ensures { drop 1536 plan.new ≡ images.now }
 {
-    copy_over(&mut plan[1536..], images);
+    plan[1536..].copy_from_slice(images);
 }
 
 // Works a change of the store out into `plan`.
-fn list_stores(store: &[u8], plan: &mut [u8], images: &[u8], change: Change)
+fn list_stores(store: &[u8], plan: &mut [u8; 5632], images: &[u8], change: Change)
     requires in_bounds { (512 ≤ length store.now) × (change.count ≤ 8) }
-    requires plan_len { (length plan.old ≡ 5632) × (length images.now ≡ 4096) }
+    requires images_len { length images.now ≡ 4096 }
     ensures { plan.new
         ≡ head (number_at store.now) change.numbers change.count
         ++ (ending (number_at store.now) change.numbers change.count
@@ -49,6 +48,9 @@ pub fn write_change(store: &mut [u8], journal: &mut [u8], images: &[u8], change:
     if change.count == 0 {
         return;
     }
+    let Some(journal) = journal.as_mut_array() else {
+        unreachable!()
+    };
     let mut plan = [0u8; 5632];
     list_stores(store, &mut plan, images, change);
     run_plan(store, journal, &plan);
@@ -70,6 +72,6 @@ pub fn lay_change(store: &[u8], images: &[u8], change: Change, buffer: &mut [u8]
     let mut plan = [0u8; 5632];
     list_stores(store, &mut plan, images, change);
     let size = 1536 + 512 * count;
-    copy_over(&mut buffer[..size], &plan[..size]);
+    buffer[..size].copy_from_slice(&plan[..size]);
     2 * count as u32 + 3
 }
