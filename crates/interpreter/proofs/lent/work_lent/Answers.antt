@@ -1,0 +1,11 @@
+use Rattle.std.proofs.Common.{replicate, refl, arith}
+use Rattle.interpreter.specs.LentLaws.{work-lent}
+use Rattle.interpreter.proofs.lent.work_lent.Goals as goal
+
+pub returns : goal.returns
+returns c =
+    let done =
+    work-lent c.args.store.now (replicate 8192 0) _ (λ i. omega (arith, c.slice_known-1.given i)) refl
+    c.wipe_head.ensures _ c.ranges.budget.fits c.work.ensures
+    in
+    record { value = done.0; store_after = done.1 }
