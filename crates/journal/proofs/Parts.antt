@@ -16,6 +16,9 @@ module _ (p s : List ℕ) (k : ℕ) (is : p ≡ block s k) (inside : 512 * k + 5
   pub length-of-body : length (take 508 p) ≡ 508
   length-of-body = length-take-le 508 p (omega (arith, length-of-block))
 
+-- what the goals of holds.rt and plan.rt are given
+pub ruleset lengths = (length-block)
+
 module _ (s : List ℕ) (i n : ℕ) (whole : i + n ≡ length s) where
   -- as it was lent, and as it is given back
   pub rest-lent : take n (drop i s) ≡ drop i s

@@ -1,4 +1,6 @@
 // Whether a journal holds a change, recovery's condition; and whether its head is wiped.
+#![tactic(auto, using(crate::proofs::Parts::lengths))]
+
 ghost use Rattle.std.specs.Prelude.{◌≡◌, not, ◌&&◌, ◌≤◌, ◌<◌, eqb, ltb};
 ghost use Rattle.lists.specs.Lists.{all, up_from};
 ghost use Rattle.store.specs.Store.{checks};

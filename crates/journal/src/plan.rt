@@ -1,4 +1,6 @@
 // A change worked out into a lent buffer, and then done store by store from it.
+#![tactic(auto, using(crate::proofs::Parts::lengths))]
+
 ghost use Rattle.std.specs.Prelude.{◌≡◌, ◌++◌, ℕ, ◌+◌, ◌*◌, ◌≤◌, ◌<◌, length, drop};
 ghost use Rattle.store.specs.Store.{sealed};
 ghost use Rattle.store.specs.Change.{seals};
@@ -104,8 +106,8 @@ pub fn store_planned(store: &mut [u8], journal: &mut [u8; 8192], plan: &[u8], n:
 }
 
 // Does all block stores of a plan, from the first on.
-pub fn run_plan(store: &mut [u8], journal: &mut [u8; 8192], plan: &[u8])
-    requires plan_len { (5632 ≤ length plan.now) × (plan_count plan.now ≤ 8) }
+pub fn run_plan(store: &mut [u8], journal: &mut [u8; 8192], plan: &[u8; 5632])
+    requires few { plan_count plan.now ≤ 8 }
     requires by_index { (i : ℕ) → i < plan_count plan.now → 512 * plan_name plan.now i + 512 ≤ length store.old }
     ensures { run (plan_stores plan.now) (disk store.old journal.old) ≡ disk store.new journal.new }
 {

@@ -5,7 +5,6 @@ use Rattle.store.specs.Store.{checks}
 use Rattle.journal.specs.Journal.{Disk, disk, head_of, end_of, number_in, name_in, image_in}
 use Rattle.journal.specs.Journal.{end_copies, images_good, names_below, names_differ}
 use Rattle.journal.specs.HoldsLaws.{and_no, and_yes, and-six, no-image, many-images, few-images}
-use Rattle.journal.proofs.Parts.{length-of-block}
 use Rattle.journal.proofs.holds.journal_holds.Goals as goal
 use Rattle.journal.proofs.holds.journal_holds.Goals.{then-count-eq0-via-then-count-eq0, then-count-eq0-via-else-count-eq0+then-count-gt14}
 use Rattle.journal.proofs.holds.journal_holds.Goals.{then-check_block, else-check_block, then-check_block-2, else-check_block-2}
@@ -19,14 +18,6 @@ returns-then-count-eq0 c =
       | then-count-eq0-via-else-count-eq0+then-count-gt14 w ↦
           many-images (disk c.args.store.now c.args.journal.now) (omega (arith, w.if-count-gt14.true))
     ]
-
-pub check_block-requires : goal.check_block-requires
-check_block-requires c =
-    length-of-block _ c.args.journal.now 0 c.block_at.ensures (omega arith)
-
-pub check_block-requires-then-check_block : goal.check_block-requires-then-check_block
-check_block-requires-then-check_block c =
-    length-of-block _ c.args.journal.now 15 c.block_at-then-check_block.ensures (omega arith)
 
 -- the checks of head and end
 abbrev heads : Disk → Bool

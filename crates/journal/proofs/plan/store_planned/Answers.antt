@@ -3,30 +3,17 @@ use Rattle.journal.specs.NthLaws.{did-image, did-head, did-end, did-page, did-wi
 use Rattle.journal.proofs.Parts.{length-of-block}
 use Rattle.journal.proofs.plan.store_planned.Goals as goal
 
-pub put_block-requires : goal.put_block-requires
-put_block-requires c =
-    let few = c.requires.plan_bound.0 in
-    (omega arith, length-of-block _ c.args.plan.now _ c.block_at.ensures (omega arith))
-
 pub returns-then-n-count : goal.returns-then-n-count
 returns-then-n-count c =
     let a = c.args in
     did-image a.plan.now a.store.now a.journal.now _ _ a.n (omega arith)
     c.block_at.ensures c.put_block.ensures
 
-pub put_block-requires-then-past-eq0 : goal.put_block-requires-then-past-eq0
-put_block-requires-then-past-eq0 c =
-    (omega arith, length-of-block _ c.args.plan.now 0 c.block_at-then-past-eq0.ensures (omega arith))
-
 pub returns-then-past-eq0 : goal.returns-then-past-eq0
 returns-then-past-eq0 c =
     let a = c.args in
     did-head a.plan.now a.store.now a.journal.now _ _ a.n (omega arith)
     c.block_at-then-past-eq0.ensures c.put_block-then-past-eq0.ensures
-
-pub put_block-requires-then-past-eq1 : goal.put_block-requires-then-past-eq1
-put_block-requires-then-past-eq1 c =
-    (omega arith, length-of-block _ c.args.plan.now 1 c.block_at-then-past-eq1.ensures (omega arith))
 
 pub returns-then-past-eq1 : goal.returns-then-past-eq1
 returns-then-past-eq1 c =
@@ -49,10 +36,6 @@ returns-then-i-count c =
     did-page a.plan.now a.store.now a.journal.now _ _ a.n (a.n - n.result - 2) _ (omega arith)
     (omega arith) c.plan_name-name.ensures c.block_at-then-i-count.ensures
     c.put_block-then-i-count.ensures
-
-pub put_block-requires-2 : goal.put_block-requires-2
-put_block-requires-2 c =
-    (omega arith, length-of-block _ c.args.plan.now 2 c.block_at-2.ensures (omega arith))
 
 pub returns : goal.returns
 returns c =
