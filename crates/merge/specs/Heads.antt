@@ -7,6 +7,8 @@ use Rattle.page.specs.declared.Entry.{Entry}
 use Rattle.page.specs.Entries.{entry_at, entries_of}
 use Rattle.page.specs.Places.{place_of}
 use Rattle.page.specs.Allowed.{Sorted, Allowed}
+use Rattle.merge.specs.declared.First.{First}
+use Rattle.merge.specs.declared.Merge.{Merge}
 use Rattle.merge.specs.Tree.{max_pages, Won, Second}
 use Rattle.merge.specs.Merge.{Taken}
 
@@ -36,11 +38,14 @@ tail_of c (e ∷ es) = e.pair.offset * 64 + c
 abbrev pub first_at : (s : List ℕ) (b tail : ℕ) → Entry
 first_at s b tail = entry_at (block s b) (tail % 64)
 
--- the arrays that a merge is lent have their lengths
-pub record Lent (keys tails tree : List ℕ) : Type 0 where
-  pub keys-size : length keys ≡ max_pages
-  pub tails-size : length tails ≡ max_pages
-  pub tree-size : length tree ≡ 2 * max_pages
+-- what stands at node 1 of a merge
+abbrev pub first_of : Merge → First
+first_of m =
+    record {
+      page = get_or m.tree 1 0;
+      key = get_or m.keys (get_or m.tree 1 0) 0;
+      tail = get_or m.tails (get_or m.tree 1 0) 0;
+    }
 
 module _ (s ks : List ℕ) where
   -- the entries of page i
@@ -76,6 +81,10 @@ module _ (s ks : List ℕ) where
     pub won : Won keys tails n tree
     pub second : Second keys tails n tree
 
+  -- a merge of the pages ks under way
+  abbrev pub Underway : Merge → Type 0
+  Underway m = Merging (length ks) m.keys m.tails m.tree
+
   -- every cursor stands at the sorted place of a pair
   abbrev pub CursorsAt : (from : Pair) (n : ℕ) (tails : List ℕ) → Type 0
   CursorsAt from n tails = (i : ℕ) → i < n → get_or tails i 0 % 64 ≡ place_of from (page_at i)
@@ -85,3 +94,7 @@ pub record Moved (s ks : List ℕ) (n : ℕ) (tree tails keys' tails' tree' : Li
   pub entry : Entry
   pub taken : Taken (left_of s ks tails) (left_of s ks tails') (get_or tree 1 0) entry
   pub merging : Merging s ks n keys' tails' tree'
+
+-- it is taken from a merge of the pages ks
+abbrev pub Advanced : (s ks : List ℕ) (m m' : Merge) → Type 0
+Advanced s ks m m' = Moved s ks (length ks) m.tree m.tails m'.keys m'.tails m'.tree

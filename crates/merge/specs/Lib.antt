@@ -9,5 +9,4 @@ pub mod Heads
 pub mod KeyLaws
 pub mod HeadLaws
 pub mod MergingLaws
-pub mod Walks
 pub mod WalksLaws

@@ -1,8 +1,7 @@
 -- A merge under way: the page at node 1 leads, and its first entry is taken.
-use Rattle.std.specs.Prelude.{◌≡◌, refl, ◌≢◌, true, List, [], ◌∷◌, ℕ, ◌+◌, ◌*◌, ◌%◌, ◌/◌, ◌≤◌, ◌<◌, length, get_or, set, drop, replicate}
+use Rattle.std.specs.Prelude.{◌≡◌, refl, ◌≢◌, true, List, [], ◌∷◌, ℕ, ◌+◌, ◌%◌, ◌/◌, ◌≤◌, ◌<◌, length, get_or, set, drop}
 use Rattle.std.proofs.Common.{sym, ap, ◌∙◌, add-one, arith, get_or-set_same, get_or-set_other}
 use Rattle.std.proofs.Math.Decide.{dec_lt}
-use Rattle.std.proofs.lemmas.List.{length-replicate}
 use Rattle.lists.specs.Block.{block}
 use Rattle.endian.specs.Endian.{u16_at}
 use Rattle.page.specs.declared.Entry.{Entry}
@@ -12,31 +11,18 @@ use Rattle.page.specs.Allowed.{Allowed}
 use Rattle.page.specs.AllowedLaws.{allowed-sublist}
 use Rattle.page.specs.Entries.{entry_at}
 use Rattle.page.proofs.RuleLaws.{number-le}
-use Rattle.merge.specs.Tree.{max_pages, ahead, Above, Settled, Won, Second}
+use Rattle.merge.specs.Tree.{ahead, Above, Settled, Won, Second}
 use Rattle.merge.specs.ReplayLaws.{won-upto, won-first, settled-moved}
 use Rattle.merge.specs.SecondLaws.{next-kept, kept-won}
 use Rattle.merge.specs.Merge.{leads, joined, Best}
 use Rattle.merge.specs.MergeLaws.{best-end}
-use Rattle.merge.specs.Heads.{no_key, pair_key, pair_from, key_of, tail_of, page_at, left_of, Lent, Merging, Moved}
+use Rattle.merge.specs.declared.First.{First}
+use Rattle.merge.specs.declared.Merge.{Merge}
+use Rattle.merge.specs.Heads.{no_key, pair_key, pair_from, key_of, tail_of, first_of, page_at, left_of, Merging, Moved}
 use Rattle.merge.specs.HeadLaws.{key-done, head-leads, head-on, head-pair, left-done}
 use Rattle.merge.specs.HeadLaws.{left-more, put-left, other-left, heads-put}
 
--- ---- the arrays of a merge, when they are made and while it is under way
-
-pub zero-lent : {keys tails tree : List ℕ} → keys ≡ replicate max_pages 0 → tails ≡ replicate max_pages 0
-    → tree ≡ replicate (2 * max_pages) 0 → Lent keys tails tree
-zero-lent k t r =
-    record {
-      keys-size = ap length k ∙ length-replicate {A = ℕ} max_pages 0;
-      tails-size = ap length t ∙ length-replicate {A = ℕ} max_pages 0;
-      tree-size = ap length r ∙ length-replicate {A = ℕ} (2 * max_pages) 0;
-    }
-
 module _ {s ks : List ℕ} {n : ℕ} {keys tails tree : List ℕ} (m : Merging s ks n keys tails tree) where
-  pub merging-lent : Lent keys tails tree
-  merging-lent =
-      record { keys-size = m.heads.keys-size; tails-size = m.heads.tails-size; tree-size = m.won.size }
-
   -- ---- what is left of the pages
 
   pub left-allowed : (i : ℕ) → i < n → Allowed (left_of s ks tails i)
@@ -208,3 +194,8 @@ module _ {s ks : List ℕ} {n : ℕ} {keys tails tree : List ℕ} (m : Merging s
             taken-moved tree
             (kept-won m.won keys' tails' j other_keys other-tails p (m.second l) h later)
             (λ u. next-kept m.won keys' tails' j other_keys other-tails p (m.second u))
+
+-- where something is left, by what `first` answers
+pub first-below : {s ks : List ℕ} {n : ℕ} (g : Merge) → Merging s ks n g.keys g.tails g.tree → 1 ≤ n → (f : First)
+    → (f.key ≢ no_key) × (f ≡ first_of g) → get_or g.keys (get_or g.tree 1 0) 0 < no_key
+first-below g m some f h = next-below m some (λ e. h.0 (ap (λ (x : First). x.key) h.1 ∙ e))

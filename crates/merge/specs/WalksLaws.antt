@@ -1,101 +1,76 @@
 -- Walks whose blocks are pages, merged: their pages, and their entries by number.
-use Rattle.std.specs.Prelude.{◌≡◌, refl, Bool, cond, List, [], ◌∷◌, ◌++◌, ℕ, zero, suc, ◌+◌, ◌-◌, ◌≤◌, ◌<◌, get_or, take, drop}
-use Rattle.std.proofs.Common.{sym, ap, ap₂, ◌∙◌, subst, add-one, arith, le-ltb}
-use Rattle.std.proofs.Math.Decide.{dec_lt}
-use Rattle.lists.specs.Lists.{bind}
+use Rattle.std.specs.Prelude.{◌≡◌, refl, true, Bool, cond, List, [], ◌∷◌, ◌++◌, ℕ, suc, ◌+◌, ◌≤◌, ◌<◌, length, get_or, drop}
+use Rattle.std.proofs.Common.{ap, ap₂, ◌∙◌, add-zero, arith, le-ltb}
+use Rattle.std.proofs.lemmas.List.{get_or_append_left, get_or-append-add}
+use Rattle.lists.specs.Lists.{bind, Each}
 use Rattle.lists.specs.Bytes.{Bytes}
 use Rattle.lists.specs.Block.{blocks, block}
-use Rattle.lists.specs.BlockLaws.{Bytes-block}
+use Rattle.lists.specs.BlockLaws.{Bytes-block, length-block}
 use Rattle.page.specs.declared.Entry.{Entry}
 use Rattle.page.specs.PairLaws.{before-hash}
+use Rattle.page.specs.SublistLaws.{each-get_or, all-each}
 use Rattle.page.specs.Places.{place_of}
-use Rattle.page.specs.Allowed.{Sorted, Allowed}
-use Rattle.page.proofs.RuleLaws.{page_ok-allowed}
-use Rattle.chain.specs.Within.{entries_on, PagesOk, Within}
-use Rattle.chain.specs.WithinLaws.{block_inside, block-sorted, block-fine, walk_turn, walk-done}
+use Rattle.page.specs.Rule.{page_ok}
+use Rattle.page.proofs.RuleLaws.{page_ok-allowed, page_ok-sorted}
+use Rattle.chain.specs.Within.{entries_on, PagesOk}
 use Rattle.merge.specs.Tree.{max_pages}
 use Rattle.merge.specs.Merge.{joined}
 use Rattle.merge.specs.MergeLaws.{joined_same}
 use Rattle.merge.specs.Heads.{page_at, Pages, left_of, CursorsAt}
-use Rattle.merge.specs.Walks.{Joined}
 
--- the entries of a walk, page by page
-walk-joined : (s bs ks : List ℕ) (n : ℕ) → Within s bs n → (at : ℕ) → ((i : ℕ) → i < n → get_or ks
-    (at + i) 0 ≡ get_or bs i 0)
-    → (i m : ℕ) → i + m ≡ n → joined (page_at s ks) (at + i) m ≡ bind (drop i (take n bs)) (entries_on s)
-walk-joined s bs ks n w at h i zero e =
-    sym (ap (λ (js : List ℕ). bind js (entries_on s)) (walk-done w i (omega (arith, e))))
-walk-joined s bs ks n w at h i (suc m) e =
-    let more : i < n = omega (arith, e) in
-    let next : suc (at + i) ≡ at + suc i = omega arith in
-    ap₂ (λ (x y : List Entry). x ++ y) (ap (entries_on s) (h i more))
-    (ap (λ (k : ℕ). joined (page_at s ks) k m) next ∙ walk-joined s bs ks n w at h (suc i) m (omega (arith, e))
-    ∙ ap (λ (j : ℕ). bind (drop j (take n bs)) (entries_on s)) (sym (add-one i)))
-    ∙ sym (ap (λ (js : List ℕ). bind js (entries_on s)) (walk_turn w i more))
+-- ---- the blocks of a walk that pass the page rule are pages
 
--- ---- the pages of a walk, and of two
+module _ (s ks : List ℕ) (bytes : Bytes s) (few : length ks ≤ max_pages) (inside : Each (λ k. k < blocks s) ks)
+    (fine : PagesOk s ks) where
+  within : (i : ℕ) → i < length ks → get_or ks i 0 < blocks s
+  within i h = each-get_or (λ k. k < blocks s) ks i 0 inside h
 
--- block b is one that passes the page rule
-record Page (s : List ℕ) (b : ℕ) : Type 0 where
-  inside : b < blocks s
-  sorted : Sorted (block s b)
-  allowed : Allowed (entries_on s b)
+  ok : (i : ℕ) → i < length ks → page_ok (block s (get_or ks i 0)) ≡ true
+  ok i h =
+      each-get_or (λ k. page_ok (block s k) ≡ true) ks i 0 (all-each (λ k. page_ok (block s k)) ks fine) h
 
-module _ {s : List ℕ} (bytes : Bytes s) where
-  page-at : {bs : List ℕ} {m : ℕ} → Within s bs m → PagesOk s (take m bs) → (i : ℕ) → i < m → Page s (get_or bs i 0)
-  page-at {bs} {m} o f i h =
-      record {
-        inside = block_inside o i h;
-        sorted = block-sorted o i h f;
-        allowed = page_ok-allowed (block s (get_or bs i 0)) (Bytes-block s (get_or bs i 0) bytes) (block-fine o i h f);
-      }
+  whole : (i : ℕ) → i < length ks → length (block s (get_or ks i 0)) ≡ 512
+  unfolding blocks
+  whole i h = length-block s (get_or ks i 0) (omega (arith, within i h))
 
-  pages-by : {ks : List ℕ} {n : ℕ} → n ≤ max_pages → ((i : ℕ) → i < n → Page s (get_or ks i 0)) → Pages s ks n
-  pages-by few each =
+  pub walk-pages : Pages s ks (length ks)
+  walk-pages =
       record {
         few = few;
-        inside = λ i h. (each i h).inside;
-        sorted = λ i h. (each i h).sorted;
-        allowed = λ i h. (each i h).allowed;
+        inside = within;
+        sorted = λ i h. page_ok-sorted (block s (get_or ks i 0)) (whole i h) (ok i h);
+        allowed = λ i h.
+            page_ok-allowed (block s (get_or ks i 0)) (Bytes-block s (get_or ks i 0) bytes) (ok i h);
       }
-
-  pub alone-pages : {bs : List ℕ} {n : ℕ} → Within s bs n → PagesOk s (take n bs) → Pages s bs n
-  alone-pages w fine = pages-by w.few (page-at w fine)
-
-  module _ {first : List ℕ} {n : ℕ} {second : List ℕ} {k : ℕ} {ks : List ℕ} (j : Joined first n second k ks)
-      (w : Within s first n) (fine : PagesOk s (take n first)) (v : Within s second k)
-      (fine' : PagesOk s (take k second)) where
-    page-of : (i : ℕ) → i < n + k → Page s (get_or ks i 0)
-    page-of i h = go (dec_lt i n)
-      where
-        go : Dec (i < n) → Page s (get_or ks i 0)
-        go (yes l) = subst (Page s) (sym (j.one i l)) (page-at w fine i l)
-        go (no l) =
-            let m : i - n < k = omega (arith, h, l) in
-            let e : n + (i - n) ≡ i = omega (arith, l) in
-            subst (Page s) (sym (j.two (i - n) m) ∙ ap (λ (x : ℕ). get_or ks x 0) e) (page-at v fine' (i - n) m)
-
-    pub joined-pages : n + k ≤ max_pages → Pages s ks (n + k)
-    joined-pages few = pages-by few page-of
 
 -- ---- their entries
 
-pub alone-entries : {s bs : List ℕ} {n : ℕ} → Within s bs n
-    → joined (page_at s bs) 0 n ≡ bind (take n bs) (entries_on s)
-alone-entries {s} {bs} {n} w =
-    walk-joined s bs bs n w 0 (λ i h. let z : 0 + i ≡ i = omega arith in ap (λ (x : ℕ). get_or bs x 0) z) 0 n
-    (omega arith)
+-- where a walk stands among the pages from number `at` on
+walk-joined : (s ks walk : List ℕ) (at : ℕ)
+    → ((i : ℕ) → i < length walk → get_or ks (at + i) 0 ≡ get_or walk i 0)
+    → joined (page_at s ks) at (length walk) ≡ bind walk (entries_on s)
+walk-joined s ks [] at h = refl
+walk-joined s ks (b ∷ walk) at h =
+    ap₂ (λ (x y : List Entry). x ++ y) (ap (entries_on s) (rw add-zero at (h 0 (omega arith))))
+    (walk-joined s ks walk (suc at) (λ i l.
+    let e : suc at + i ≡ at + suc i = omega arith in ap (λ (k : ℕ). get_or ks k 0) e ∙ h (suc i) (omega arith)))
 
-module _ {s first : List ℕ} {n : ℕ} {second : List ℕ} {k : ℕ} {ks : List ℕ} (j : Joined first n second k ks) where
-  pub joined-first : Within s first n → joined (page_at s ks) 0 n ≡ bind (take n first) (entries_on s)
-  joined-first w =
-      walk-joined s first ks n w 0
-      (λ i h. let z : 0 + i ≡ i = omega arith in ap (λ (x : ℕ). get_or ks x 0) z ∙ j.one i h) 0 n (omega arith)
+pub alone-entries : (s walk : List ℕ) → joined (page_at s walk) 0 (length walk) ≡ bind walk (entries_on s)
+alone-entries s walk =
+    walk-joined s walk walk 0 (λ i h. let z : 0 + i ≡ i = omega arith in ap (λ (k : ℕ). get_or walk k 0) z)
 
-  pub joined-second : Within s second k → joined (page_at s ks) n k ≡ bind (take k second) (entries_on s)
-  joined-second v =
-      let z : n ≡ n + 0 = omega arith in
-      ap (λ (i : ℕ). joined (page_at s ks) i k) z ∙ walk-joined s second ks k v n j.two 0 k (omega arith)
+-- those of the first of two walks, and of the second
+module _ (s first second : List ℕ) where
+  pub first-entries : joined (page_at s (first ++ second)) 0 (length first) ≡ bind first (entries_on s)
+  first-entries =
+      walk-joined s (first ++ second) first 0
+      (λ i h. let z : 0 + i ≡ i = omega arith in
+      ap (λ (k : ℕ). get_or (first ++ second) k 0) z ∙ get_or_append_left first second 0 i h)
+
+  pub second-entries : joined (page_at s (first ++ second)) (length first) (length second)
+      ≡ bind second (entries_on s)
+  second-entries =
+      walk-joined s (first ++ second) second (length first) (λ i h. get_or-append-add first second i 0)
 
 -- from the pair 0, 0, 0 on: every entry
 zero-place : (es : List Entry) → place_of (record { hash = 0; block = 0; offset = 0 }) es ≡ 0

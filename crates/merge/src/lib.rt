@@ -10,3 +10,20 @@ use address::limits::MAX_BLOCKS;
 
 // The most pages of a merge: those of a walk, or of two that have no block in common.
 pub const MAX_PAGES: usize = MAX_BLOCKS + 1;
+
+// A merge: of each page its head, as two numbers, its key and its tail (heads.rt), and the winner tree (tree.rt). It is
+// made once and lent to one merge after the other; none of its functions copies it.
+#[derive(Drop)]
+pub struct Merge {
+    pub keys: [u64; MAX_PAGES],
+    pub tails: [u32; MAX_PAGES],
+    pub tree: [u16; 2 * MAX_PAGES],
+}
+
+// What comes first in a merge: the number of its page, and its key and its tail.
+#[derive(Clone, Copy)]
+pub struct First {
+    pub page: usize,
+    pub key: u64,
+    pub tail: u32,
+}

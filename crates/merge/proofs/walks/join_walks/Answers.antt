@@ -1,13 +1,12 @@
-use Rattle.std.proofs.Common.{ap, arith, get_or, rules, ℕ, ◌+◌, ◌∙◌, ◌≡◌}
+use Rattle.std.proofs.Common.{List, ℕ, ◌++◌, refl, ap, ◌∙◌, arith, length-append}
+use Rattle.std.proofs.lemmas.List.{take_at}
+use Rattle.std.proofs.lemmas.Slice.{take-put_mid}
 use Rattle.merge.proofs.walks.join_walks.Goals as goal
 
 pub returns : goal.returns
 returns c =
-    let two = c.copy_walk-2.ensures in
-    let one = c.copy_walk.ensures in
-    record {
-      one = λ i h.
-          let z : i ≡ 0 + i = omega arith in
-          two.before i h ∙ ap (λ (k : ℕ). get_or c.copy_walk.new.pages k 0) z ∙ one.here i h;
-      two = λ i h. two.here i h;
-    }
+    let first = c.args.first.now in
+    let second = c.args.second.now in
+    rw (c.copy_from_slice.ensures.after, c.copy_from_slice-2.ensures.after)
+    (take-put_mid _ _ _ second _ refl (simp length-append (omega arith))
+    ∙ ap (λ (xs : List ℕ). xs ++ second) (take_at first _ _ refl))
