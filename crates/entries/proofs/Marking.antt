@@ -1,6 +1,7 @@
 -- The marks of copies, held against the originals in one pass over both: a turn takes the next copy, when all originals
 -- that stand before it are taken.
-use mathlib.Core.Path.{◌≡◌, refl, sym, ap, ◌∙◌, subst}
+use mathlib.Core.Path.{◌≡◌, refl, sym, ap, ap₂, ◌∙◌, subst}
+use mathlib.Core.Logic.{◌≢◌}
 use mathlib.Core.Bool.{Bool, true, false, ◌&&◌, beq}
 use mathlib.Core.List.{List, ◌∷◌}
 use Prim.Native.Nat.{ℕ, ◌+◌, ◌%◌, ◌/◌, ◌≤◌, ◌<◌}
@@ -17,8 +18,10 @@ use Rattle.page.specs.SublistLaws.{each_map}
 use Rattle.page.specs.Entries.{entry_at}
 use Rattle.merge.specs.Merge.{joined}
 use Rattle.merge.specs.MergeLaws.{joined-each}
-use Rattle.merge.specs.Heads.{no_key, page_at, left_of, Merging, Moved}
-use Rattle.merge.specs.MergingLaws.{merging-upto, first-left}
+use Rattle.merge.specs.declared.First.{First}
+use Rattle.merge.specs.declared.Merge.{Merge}
+use Rattle.merge.specs.Heads.{no_key, first_at, first_of, page_at, left_of, Merging, Moved}
+use Rattle.merge.specs.MergingLaws.{merging-upto, first-left, first-below, next-few}
 use Rattle.entries.specs.Tests.{marked_by}
 use Rattle.merge.specs.Heads.{pair_key, pair_from}
 use Rattle.entries.specs.Next.{next_is, next_before, NotBefore, Kept, Passed}
@@ -139,3 +142,37 @@ module _ {s ks os : List ℕ} {n k : ℕ} {keys tails tree : List ℕ} (m : Merg
       ∙ taken-all (left_of s ks tails) (left_of s ks tails') n moved.taken (merging-upto m some) (marked_by olds'')
       ∙ ap (λ (b : Bool). b && all (marked_by olds'') (joined (left_of s ks tails') 0 n))
       (ap (marked_by olds'') same-entry ∙ tail)
+
+-- ---- by what `first` answers of a merge g of copies
+
+pub copy-fits : {s ks : List ℕ} {n : ℕ} (g : Merge) (m : Merging s ks n g.keys g.tails g.tree) (some : 1 ≤ n) (f : First)
+    → (f.key ≢ no_key) × (f ≡ first_of g)
+    → (f.page < n) × ((f.key < no_key) × ((f.tail % 64 < 40) × (f.tail / 64 < 65536)))
+copy-fits g m some f h =
+    let below = first-below g m some f h in
+    let page = ap (λ (x : First). x.page) h.1 in
+    let key = ap (λ (x : First). x.key) h.1 in
+    let tail = ap (λ (x : First). x.tail) h.1 in (
+      omega (arith, page, merging-upto m some),
+      (omega (arith, key, below), (omega (arith, tail, next-few m some below), omega (arith, tail, copy-small m some below))),
+    )
+
+-- a turn: g' is the merge of copies without its first entry, o and o' that of originals, before it and after it
+pub turn-answer : {s ks os : List ℕ} {n k : ℕ} (g g' o o' : Merge) (m : Merging s ks n g.keys g.tails g.tree)
+    (some : 1 ≤ n) (f : First) → (f.key ≢ no_key) × (f ≡ first_of g) → 1 ≤ k
+    → Passed s os k (pair_from f.key (f.tail / 64)) o.tails o'.keys o'.tails o'.tree
+    → Moved s ks n g.tree g.tails g'.keys g'.tails g'.tree → (whole mark next : Bool)
+    → all (marked_by (joined (left_of s os o.tails) 0 k)) (joined (left_of s ks g.tails) 0 n) ≡ whole
+    → mark ≡ (first_at s (get_or ks f.page 0) f.tail).moved
+    → next ≡ next_is o'.keys o'.tails o'.tree f.key (f.tail / 64)
+    → whole ≡ beq mark next
+    && all (marked_by (joined (left_of s os o'.tails) 0 k)) (joined (left_of s ks g'.tails) 0 n)
+turn-answer {s} {ks} {os} {n} {k} g g' o o' m some f h originals passed moved whole mark next answer marks is =
+    let e = marks ∙ ap (λ (x : First). (first_at s (get_or ks x.page 0) x.tail).moved) h.1 in
+    let i = is ∙ ap (λ (x : First). next_is o'.keys o'.tails o'.tree x.key (x.tail / 64)) h.1 in
+    sym answer
+    ∙ turn-marked m some (first-below g m some f h) originals
+    (subst (λ (x : First). Passed s os k (pair_from x.key (x.tail / 64)) o.tails o'.keys o'.tails o'.tree) h.1 passed)
+    g'.keys g'.tails g'.tree moved
+    ∙ ap₂ (λ (x y : Bool). beq x y
+    && all (marked_by (joined (left_of s os o'.tails) 0 k)) (joined (left_of s ks g'.tails) 0 n)) (sym e) (sym i)

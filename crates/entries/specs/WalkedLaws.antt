@@ -1,7 +1,8 @@
 -- The chains of a store that passes rule 4, and of one that passes rule 5: a bucket's walk
 -- stays inside the store, and holds pages.
-use Rattle.std.specs.Prelude.{◌≡◌, true, List, ◌∷◌, take}
+use Rattle.std.specs.Prelude.{◌≡◌, true, List, ◌∷◌, length, take}
 use Rattle.std.proofs.Common.{sym, ◌∙◌, arith}
+use Rattle.std.proofs.lemmas.List.{take_all}
 use Rattle.std.proofs.Math.Path.{ap}
 use Rattle.std.proofs.Math.Bool.{Bool}
 use Prim.Native.Nat.{ℕ, suc, ◌≤◌}
@@ -17,7 +18,7 @@ use Rattle.image.specs.Rules.{buckets, rule4, rule5}
 use Rattle.chain.specs.Walk.{walk, Walked}
 use Rattle.chain.specs.Within.{entries_on, PagesOk, Within}
 use Rattle.chain.specs.WalkLaws.{walk-trail}
-use Rattle.chain.specs.WithinLaws.{walked-within}
+use Rattle.chain.specs.WithinLaws.{walked-some, walked-within}
 use Rattle.chain.proofs.DecodeLaws.{entries-walk}
 use Rattle.merge.specs.Merge.{joined}
 use Rattle.merge.specs.Heads.{page_at}
@@ -34,11 +35,19 @@ module _ {s : List ℕ} (b : ℕ) (made : b ≤ max_at s) where
       (omega arith)
 
   module _ {bs : List ℕ} {n : ℕ} (held : Walked s (block_of s b) bs n) where
-    pub walk-within : {m : Meta} → Known4 s m → Within s bs n
+    pub walk-within : {m : Meta} → Known4 s m → Within s (take n bs) (length (take n bs))
     unfolding walk
     walk-within k =
         let two = k.known.known in
-        walked-within held (sized two) (bucket-inside two b made, trail-inside two b (chain-linked k))
+        let w = walked-within held (sized two) (bucket-inside two b made, trail-inside two b (chain-linked k)) in
+        record {
+          few = omega (arith, w.few, w.count);
+          count = ap length (take_all (length (take n bs)) (take n bs) (omega arith));
+          inside = rw (take_all (length (take n bs)) (take n bs) (omega arith)) w.inside;
+        }
+
+    pub walk-some : 1 ≤ length (take n bs)
+    walk-some = omega (arith, walked-some held, held.count, ap length held.blocks)
 
     -- the walk's blocks are those that the rules name
     pub walk-blocks : take n bs ≡ block_of s b ∷ trail s b
@@ -55,5 +64,5 @@ module _ {s : List ℕ} (b : ℕ) (made : b ≤ max_at s) where
     walk-entries = ap (λ (ks : List ℕ). bind ks (entries_on s)) held.blocks ∙ entries-walk s b made
 
     -- its pages merged have the chain's entries
-    pub walk-merged : {m : Meta} → Known4 s m → joined (page_at s bs) 0 n ≡ entries_at (decode s) b
-    walk-merged k = alone-entries (walk-within k) ∙ walk-entries
+    pub walk-merged : joined (page_at s (take n bs)) 0 (length (take n bs)) ≡ entries_at (decode s) b
+    walk-merged = alone-entries s (take n bs) ∙ walk-entries

@@ -1,5 +1,5 @@
 // Rule 8: the previous fields of bucket pages, and the count of held pairs.
-ghost use Rattle.std.specs.Prelude.{◌≡◌, suc, ◌*◌, ◌≤◌, take};
+ghost use Rattle.std.specs.Prelude.{◌≡◌, suc, ◌*◌, ◌≤◌, length};
 ghost use Rattle.lists.specs.Lists.{all, tally, bind};
 ghost use Rattle.address.specs.Limits.{max_blocks};
 ghost use Rattle.page.specs.Entries.{entries_of};
@@ -12,29 +12,25 @@ ghost use Rattle.reader.specs.Known.{Known2};
 ghost use Rattle.shape.specs.Known.{Known5};
 ghost use Rattle.entries.specs.Counts.{prev_ok, live_in};
 
-use address::limits::MAX_BLOCKS;
 use address::{bucket_of, last_split};
-use chain::links::{page_on, zero_walk};
+use chain::links::zero_walk;
 use image::Meta;
 use model::Phase;
 use page::Entry;
 use page::slots::{count_entries, get_entry};
 use reader::buckets::{bucket_page, walk_bucket};
 use reader::job::read_job;
-use store::prev_at;
+use store::{block_at, prev_at};
 
 // Whether the previous field of every bucket page names the last bucket that split off.
 fn check_prevs(store: &[u8], m: Meta) -> bool
     requires { Known2 store.now m }
     ensures { result ≡ all (prev_ok store.now) (buckets store.now) }
 {
-    let max = m.max;
-    let mut b = 0;
-    while b <= max {
-        if prev_at(bucket_page(store, m, b)) != last_split(max, b) {
+    for b in 0..=m.max {
+        if prev_at(bucket_page(store, m, b)) != last_split(m.max, b) {
             return false;
         }
-        b += 1;
     }
     true
 }
@@ -55,36 +51,24 @@ fn count_page(page: &[u8], phase: Phase, max: u32, b: u32) -> u32
     requires { Sorted page.now }
     ensures { (result ≡ tally (live_in phase max b) (entries_of page.now)) × (result ≤ 40) }
 {
-    let n = count_entries(page);
     let mut live = 0;
-    let mut i = 0;
-    while i < n {
+    for i in 0..count_entries(page) {
         if is_live(phase, max, b, get_entry(page, i)) {
             live += 1;
         }
-        i += 1;
     }
     live
 }
 
 // The number of held entries of a walk, that of bucket `b`.
-fn count_walk(
-    store: &[u8],
-    blocks: &[u32; MAX_BLOCKS + 1],
-    count: usize,
-    phase: Phase,
-    max: u32,
-    b: u32,
-) -> u32
-    requires { (Within store.now blocks.now count) × (PagesOk store.now (take count blocks.now)) }
-    ensures { (result ≡ tally (live_in phase max b)
-        (bind (take count blocks.now) (entries_on store.now))) × (result ≤ 40 * suc max_blocks) }
+fn count_walk(store: &[u8], walk: &[u32], phase: Phase, max: u32, b: u32) -> u32
+    requires { (Within store.now walk.now (length walk.now)) × (PagesOk store.now walk.now) }
+    ensures { (result ≡ tally (live_in phase max b) (bind walk.now (entries_on store.now)))
+        × (result ≤ 40 * suc max_blocks) }
 {
     let mut live = 0;
-    let mut i = 0;
-    while i < count {
-        live += count_page(page_on(store, blocks, count, i), phase, max, b);
-        i += 1;
+    for block in walk {
+        live += count_page(block_at(store, *block as usize), phase, max, b);
     }
     live
 }
@@ -94,15 +78,12 @@ fn count_live(store: &[u8], m: Meta) -> u32
     requires { Known5 store.now m }
     ensures { result ≡ count (decode store.now) }
 {
-    let max = m.max;
     let phase = read_job(store, m);
     let mut blocks = zero_walk();
     let mut live = 0;
-    let mut b = 0;
-    while b <= max {
+    for b in 0..=m.max {
         let count = walk_bucket(store, &mut blocks, m, b);
-        live += count_walk(store, &blocks, count, phase, max, b);
-        b += 1;
+        live += count_walk(store, &blocks[..count], phase, m.max, b);
     }
     live
 }

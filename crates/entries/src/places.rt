@@ -1,5 +1,5 @@
 // Rule 7: each entry in its bucket, and the marks of a job that copies.
-ghost use Rattle.std.specs.Prelude.{◌≡◌, ◌≤◌, take};
+ghost use Rattle.std.specs.Prelude.{◌≡◌, ◌≤◌, length};
 ghost use Rattle.lists.specs.Lists.{all, bind};
 ghost use Rattle.address.specs.Address.{bucket_of};
 ghost use Rattle.page.specs.Entries.{entries_of};
@@ -14,13 +14,13 @@ ghost use Rattle.entries.specs.Tests.{stands_in, marked_by, marks_in};
 
 use crate::marks::all_marked;
 use address::bucket_of;
-use address::limits::MAX_BLOCKS;
-use chain::links::{page_on, zero_walk};
+use chain::links::zero_walk;
 use image::Meta;
 use model::Phase;
 use page::slots::{count_entries, get_entry};
 use reader::buckets::walk_bucket;
 use reader::job::read_job;
+use store::block_at;
 
 // Whether an entry with this hash code may stand in the chain of bucket `b`.
 fn may_stand(max: u32, phase: Phase, hash: u32, b: u32) -> bool
@@ -43,36 +43,24 @@ fn check_page_places(page: &[u8], max: u32, phase: Phase, b: u32) -> bool
     ensures { result ≡ all (λ e. stands_in phase (bucket_of max e.pair.hash) b)
         (entries_of page.now) }
 {
-    let n = count_entries(page);
-    let mut i = 0;
-    while i < n {
+    for i in 0..count_entries(page) {
         if !may_stand(max, phase, get_entry(page, i).pair.hash, b) {
             return false;
         }
-        i += 1;
     }
     true
 }
 
 // Whether each entry of the walk may stand in the chain of bucket `b`.
-fn check_walk_places(
-    store: &[u8],
-    blocks: &[u32; MAX_BLOCKS + 1],
-    count: usize,
-    max: u32,
-    phase: Phase,
-    b: u32,
-) -> bool
-    requires { (Within store.now blocks.now count) × (PagesOk store.now (take count blocks.now)) }
+fn check_walk_places(store: &[u8], walk: &[u32], max: u32, phase: Phase, b: u32) -> bool
+    requires { (Within store.now walk.now (length walk.now)) × (PagesOk store.now walk.now) }
     ensures { result ≡ all (λ e. stands_in phase (bucket_of max e.pair.hash) b)
-        (bind (take count blocks.now) (entries_on store.now)) }
+        (bind walk.now (entries_on store.now)) }
 {
-    let mut i = 0;
-    while i < count {
-        if !check_page_places(page_on(store, blocks, count, i), max, phase, b) {
+    for block in walk {
+        if !check_page_places(block_at(store, *block as usize), max, phase, b) {
             return false;
         }
-        i += 1;
     }
     true
 }
@@ -83,15 +71,12 @@ fn check_chains(store: &[u8], m: Meta, phase: Phase) -> bool
     ensures { result ≡ all (λ b. all (λ e. stands_in phase (bucket_of (max_at store.now) e.pair.hash) b)
         (entries_at (decode store.now) b)) (buckets store.now) }
 {
-    let max = m.max;
     let mut blocks = zero_walk();
-    let mut b = 0;
-    while b <= max {
+    for b in 0..=m.max {
         let count = walk_bucket(store, &mut blocks, m, b);
-        if !check_walk_places(store, &blocks, count, max, phase, b) {
+        if !check_walk_places(store, &blocks[..count], m.max, phase, b) {
             return false;
         }
-        b += 1;
     }
     true
 }
@@ -106,7 +91,7 @@ fn check_copies(store: &[u8], m: Meta, new: u32, old: u32) -> bool
     let mut originals = zero_walk();
     let n = walk_bucket(store, &mut copies, m, new);
     let k = walk_bucket(store, &mut originals, m, old);
-    all_marked(store, &copies, &originals, n, k)
+    all_marked(store, &copies[..n], &originals[..k])
 }
 
 // While copying, whether each entry of the new chain is marked moved exactly if the old chain has its pair.

@@ -1,0 +1,11 @@
+use Rattle.std.proofs.Common.{◌≡◌, ◌+◌, ◌*◌, ◌≤◌, drop}
+use Rattle.lists.specs.Lists.{tally, bind}
+use Rattle.chain.specs.Within.{entries_on}
+use Rattle.entries.specs.Counts.{live_in}
+use Rattle.entries.proofs.counts.count_walk.Given as goal
+
+abbrev pub invariant-loop-block : goal.invariant-loop-block
+invariant-loop-block l =
+    (l.live ≤ 40 * l.block-index)
+    × (l.live + tally (live_in l.phase l.max l.b) (bind (drop l.block-index l.walk) (entries_on l.store))
+    ≡ tally (live_in l.phase l.max l.b) (bind l.walk (entries_on l.store)))

@@ -1,0 +1,12 @@
+use Rattle.std.proofs.Common.{◌≡◌}
+use Rattle.lists.specs.Lists.{all}
+use Rattle.address.specs.Address.{bucket_of}
+use Rattle.page.specs.Entries.{entries_of}
+use Rattle.shape.specs.LoopLaws.{rest}
+use Rattle.entries.specs.Tests.{stands_in}
+use Rattle.entries.proofs.places.check_page_places.Given as goal
+
+abbrev pub invariant-loop-i : goal.invariant-loop-i
+invariant-loop-i l =
+    all (λ e. stands_in l.phase (bucket_of l.max e.pair.hash) l.b) (rest l.page l.i)
+    ≡ all (λ e. stands_in l.phase (bucket_of l.max e.pair.hash) l.b) (entries_of l.page)
