@@ -1,9 +1,9 @@
 -- The turns of the loop that writes pairs out: what is left to write is what is left of the merged pages.
-use mathlib.Core.Path.{◌≡◌, refl, sym, ap, ap₂, ◌∙◌}
+use mathlib.Core.Path.{◌≡◌, refl, sym, ap, ap₂, ◌∙◌, subst}
 use mathlib.Core.Logic.{◌≢◌}
 use mathlib.Core.Bool.{Bool, true, false, cond}
 use mathlib.Core.List.{List, [], ◌∷◌, ◌++◌}
-use Prim.Native.Nat.{ℕ, suc, ◌+◌, ◌*◌, ◌/◌, ◌≤◌, ◌<◌}
+use Prim.Native.Nat.{ℕ, suc, ◌+◌, ◌*◌, ◌-◌, ◌/◌, ◌≤◌, ◌<◌}
 use native.Mathlib.Omega.{arith}
 use borrow.Author.Tests.{eq-eqb}
 use lib.ListN.{length, get_or, drop, length-append}
@@ -20,8 +20,10 @@ use Rattle.model.specs.Calls.{place_bytes}
 use Rattle.chain.specs.Pairs.{counts, is_match}
 use Rattle.merge.specs.Merge.{joined, Best, Taken}
 use Rattle.merge.specs.MergeLaws.{taken-tally}
-use Rattle.merge.specs.Heads.{first_at, pair_from, no_key, left_of, Merging, Moved}
-use Rattle.merge.specs.MergingLaws.{merging-up, merging-upto, merging-best, merging-none, first-left}
+use Rattle.merge.specs.declared.First.{First}
+use Rattle.merge.specs.declared.Merge.{Merge}
+use Rattle.merge.specs.Heads.{first_at, first_of, pair_from, no_key, left_of, Merging, Moved, Underway, Advanced}
+use Rattle.merge.specs.MergingLaws.{first-below, merging-up, merging-upto, merging-best, merging-none, first-left}
 use Rattle.view.specs.Left.{pairs_left, fresh_at, NoLower, Told}
 use Rattle.view.specs.ToldLaws.{merging-told}
 use Rattle.view.specs.LeftLaws.{left-none, left-past, turn-above, turn-once, turn-skip, turn-first}
@@ -205,3 +207,62 @@ module _ {s ks keys tails tree : List ℕ} {n k h : ℕ} {fresh : Bool} (m : Mer
             (code ∙ here) l out' at'
             (o ∙ ap₂ (λ (d : Bool) (p : Pair). cond d (sets out at (place_bytes p)) out) told-counts told.pair)
             (a ∙ ap (λ (d : Bool). cond d (at + 6) at) told-counts)
+
+-- ---- by what `first` answers of a merge g of the pages ks, the first n of which are own ones
+
+module _ {s ks : List ℕ} {n h : ℕ} {fresh : Bool} (g : Merge) (u : Underway s ks g) (some : 1 ≤ length ks)
+    (upto : n ≤ length ks) {whole out : List ℕ} {at : ℕ}
+    (l : Listed (left_of s ks g.tails) n (length ks - n) h fresh whole out at) where
+  both : length ks ≡ n + (length ks - n)
+  both = omega (arith, upto)
+
+  joint : Merging s ks (n + (length ks - n)) g.keys g.tails g.tree
+  joint = subst (λ (m : ℕ). Merging s ks m g.keys g.tails g.tree) both u
+
+  pub done-none : get_or g.keys (get_or g.tree 1 0) 0 ≡ no_key → out ≡ whole
+  done-none = list-none joint (omega (arith, some, both)) l
+
+  module _ (f : First) (is : (f.key ≢ no_key) × (f ≡ first_of g)) where
+    more : get_or g.keys (get_or g.tree 1 0) 0 < no_key
+    more = first-below g u some f is
+
+    key : f.key ≡ get_or g.keys (get_or g.tree 1 0) 0
+    key = ap (λ (x : First). x.key) is.1
+
+    pub first-told : Told s (get_or ks f.page 0) f.key f.tail
+    first-told = subst (λ (x : First). Told s (get_or ks x.page 0) x.key x.tail) (sym is.1) (merging-told u some more)
+
+    pub done-past : f.key / 4294967296 ≢ h → out ≡ whole
+    done-past ne = list-past joint (omega (arith, some, both)) l more (λ e. ne (ap (λ (k : ℕ). k / 4294967296) key ∙ e))
+
+    module _ (here : f.key / 4294967296 ≡ h) (g' : Merge) (v : Advanced s ks g g') where
+      same : get_or g.keys (get_or g.tree 1 0) 0 / 4294967296 ≡ h
+      same = sym (ap (λ (k : ℕ). k / 4294967296) key) ∙ here
+
+      moved : Moved s ks (n + (length ks - n)) g.tree g.tails g'.keys g'.tails g'.tree
+      moved = subst (λ (m : ℕ). Moved s ks m g.tree g.tails g'.keys g'.tails g'.tree) both v
+
+      pub first-less : entries_left s ks g'.tails (length ks) < entries_left s ks g.tails (length ks)
+      first-less =
+          subst (λ (m : ℕ). entries_left s ks g'.tails m < entries_left s ks g.tails m) (sym both)
+          (list-less joint (omega (arith, some, both)) l more same moved)
+
+      module _ {b : Bool} (own : b ≡ fresh_at fresh n f.page) where
+        own' : b ≡ fresh_at fresh n (get_or g.tree 1 0)
+        own' = own ∙ ap (λ (x : First). fresh_at fresh n x.page) is.1
+
+        pub first-room : counts b (first_at s (get_or ks f.page 0) f.tail) ≡ true → at + 6 ≤ length out
+        first-room q =
+            list-room joint (omega (arith, some, both)) l more same moved own'
+            (sym (ap (λ (x : First). counts b (first_at s (get_or ks x.page 0) x.tail)) is.1) ∙ q)
+
+        pub first-put : (out' : List ℕ) (at' : ℕ)
+            → out' ≡ cond (counts b (first_at s (get_or ks f.page 0) f.tail))
+            (sets out at (place_bytes (pair_from f.key (f.tail / 64)))) out
+            → at' ≡ cond (counts b (first_at s (get_or ks f.page 0) f.tail)) (at + 6) at
+            → Listed (left_of s ks g'.tails) n (length ks - n) h fresh whole out' at'
+        first-put out' at' o a =
+            list-turn joint (omega (arith, some, both)) l more same moved own' out' at'
+            (o ∙ ap (λ (x : First). cond (counts b (first_at s (get_or ks x.page 0) x.tail))
+            (sets out at (place_bytes (pair_from x.key (x.tail / 64)))) out) is.1)
+            (a ∙ ap (λ (x : First). cond (counts b (first_at s (get_or ks x.page 0) x.tail)) (at + 6) at) is.1)

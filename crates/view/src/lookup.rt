@@ -1,6 +1,6 @@
 // Lookup: the matches of a hash code written out. The pages of its chains are merged, from the first place of the hash
 // code on.
-ghost use Rattle.std.specs.Prelude.{◌≡◌, true, cond, suc, ◌+◌, ◌%◌, ◌/◌, ◌≤◌, ◌<◌, length, take};
+ghost use Rattle.std.specs.Prelude.{◌≡◌, true, cond, suc, ◌+◌, ◌-◌, ◌%◌, ◌/◌, ◌≤◌, ◌<◌, length};
 ghost use Rattle.std.proofs.lemmas.List.Edits.{sets};
 ghost use Rattle.lists.specs.Block.{blocks};
 ghost use Rattle.address.specs.Limits.{max_blocks};
@@ -10,22 +10,18 @@ ghost use Rattle.image.specs.Decode.{decode};
 ghost use Rattle.chain.specs.Within.{PagesOk, Within};
 ghost use Rattle.chain.specs.Pairs.{counts};
 ghost use Rattle.chain.specs.Along.{pairs_along};
-ghost use Rattle.merge.specs.Heads.{pair_from, first_at, page_at, Pages, left_of, Merging};
+ghost use Rattle.merge.specs.Heads.{pair_from, first_at, page_at, Pages, left_of, Underway};
 ghost use Rattle.view.specs.Reads.{Reads};
 ghost use Rattle.view.specs.Left.{pairs_left, fresh_at, NoLower, Told};
 ghost use Rattle.view.specs.Lookup.{written, Listable};
 
 use crate::held::walk_sources;
-use address::limits::MAX_BLOCKS;
 use chain::along::count_along;
 use chain::links::zero_walk;
 use endian::{put_u16, put_u32};
 use image::Meta;
-use merge::MAX_PAGES;
-use merge::heads::{
-    NO_KEY, head_pair, is_head_moved, start_merge, take_first, zero_keys, zero_tails, zero_tree,
-};
 use merge::walks::join_walks;
+use merge::{First, Merge};
 use model::{LookupAnswer, Refusal};
 use page::Pair;
 
@@ -45,131 +41,102 @@ fn is_fresh(fresh: bool, n: usize, j: usize) -> bool
     if j < n { fresh } else { false }
 }
 
-// Whether the head of a page counts. The page is read only where a moved one does not.
-fn is_counted(store: &[u8], block: u32, tail: u32, fresh: bool) -> bool
-    requires { (block < blocks store.now) × (tail % 64 < 40) }
-    ensures { result ≡ counts fresh (first_at store.now block tail) }
+// Whether what comes first, on the page in block `block`, counts. The page is read only where a moved one does not.
+fn is_counted(store: &[u8], first: First, block: u32, fresh: bool) -> bool
+    requires { (block < blocks store.now) × (first.tail % 64 < 40) }
+    ensures { result ≡ counts fresh (first_at store.now block first.tail) }
 {
     if !fresh {
         return true;
     }
-    !is_head_moved(store, block, tail)
+    !first.is_moved(store, block)
 }
 
-// Writes the place of the head of a page, if it counts, and gives the place in the output of what comes next.
+// Writes the place of what comes first, if it counts, and gives the place in the output of what comes next.
 fn put_match(
     store: &[u8],
     output: &mut [u8],
+    first: First,
     block: u32,
-    key: u64,
-    tail: u32,
     fresh: bool,
     at: usize,
 ) -> usize
-    requires told { Told store.now block key tail }
-    requires at_in_bounds { counts fresh (first_at store.now block tail) ≡ true → at + 6 ≤ length output.old }
-    ensures { (output.new ≡ cond (counts fresh (first_at store.now block tail))
-        (sets output.old at (place_bytes (pair_from key (tail / 64)))) output.old)
-        × (result ≡ cond (counts fresh (first_at store.now block tail)) (at + 6) at) }
+    requires told { Told store.now block first.key first.tail }
+    requires at_in_bounds { counts fresh (first_at store.now block first.tail) ≡ true → at + 6 ≤ length output.old }
+    ensures { (output.new ≡ cond (counts fresh (first_at store.now block first.tail))
+        (sets output.old at (place_bytes (pair_from first.key (first.tail / 64)))) output.old)
+        × (result ≡ cond (counts fresh (first_at store.now block first.tail)) (at + 6) at) }
 {
-    if !is_counted(store, block, tail, fresh) {
+    if !is_counted(store, first, block, fresh) {
         return at;
     }
-    put_place(output, at, head_pair(key, tail));
+    put_place(output, at, first.pair());
     at + 6
 }
 
-// Writes the places of the matches that are left in a merge of `n` own and `k` old pages, for which there is room.
+// Writes the places of the matches that are left in a merge, the first `own` of whose pages are own ones, for which
+// there is room.
 fn put_left(
+    merge: &mut Merge,
     store: &[u8],
-    pages: &[u32; MAX_PAGES],
-    keys: &mut [u64; MAX_PAGES],
-    tails: &mut [u32; MAX_PAGES],
-    tree: &mut [u16; 2 * MAX_PAGES],
+    pages: &[u32],
+    own: usize,
     output: &mut [u8],
-    n: usize,
-    k: usize,
     hash: u32,
     fresh: bool,
 )
-    requires merging { (Merging store.now pages.now (n + k) keys.old tails.old tree.old) × (1 ≤ n + k) }
-    requires no_lower { (NoLower (left_of store.now pages.now tails.old) (n + k) hash)
-        × (Listable (pairs_left (left_of store.now pages.now tails.old) n k hash fresh) output.old) }
-    ensures { output.new ≡ written (sorted (pairs_left
-        (left_of store.now pages.now tails.old) n k hash fresh))
-        output.old }
+    requires underway { (Underway store.now pages.now merge.old) × (1 ≤ length pages.now) × (own ≤ length pages.now) }
+    requires no_lower { NoLower (left_of store.now pages.now merge.old.tails) (length pages.now) hash }
+    requires room { Listable (pairs_left (left_of store.now pages.now merge.old.tails) own
+        (length pages.now - own) hash fresh) output.old }
+    ensures { output.new ≡ written (sorted (pairs_left (left_of store.now pages.now merge.old.tails) own
+        (length pages.now - own) hash fresh)) output.old }
 {
     let mut at = 0;
-    loop {
-        let j = tree[1] as usize;
-        let key = keys[j];
-        if key == NO_KEY {
+    while let Some(first) = merge.first() {
+        if first.key / 4294967296 != hash as u64 {
             return;
         }
-        if key / 4294967296 != hash as u64 {
-            return;
-        }
-        let tail = tails[j];
-        take_first(store, pages, keys, tails, tree, n + k);
-        let only = is_fresh(fresh, n, j);
-        at = put_match(store, output, pages[j], key, tail, only, at);
+        let block = pages[first.page];
+        merge.take_first(store, pages);
+        let only = is_fresh(fresh, own, first.page);
+        at = put_match(store, output, first, block, only, at);
     }
 }
 
-// Writes the places of the matches on `n` own and `k` old pages, for which there is room. The arrays of the merge are
-// made here and in no caller, so that they stand on the stack while it runs alone.
-fn put_pages(
-    store: &[u8],
-    pages: &[u32; MAX_PAGES],
-    output: &mut [u8],
-    n: usize,
-    k: usize,
-    hash: u32,
-    fresh: bool,
-)
-    requires { (Pages store.now pages.now (n + k)) × (1 ≤ n)
-        × (Listable (pairs_left (page_at store.now pages.now) n k hash fresh) output.old) }
+// Writes the places of the matches on pages, the first `own` of which are own ones, for which there is room. The merge
+// is made here and in no caller, so that it stands on the stack while it runs alone.
+fn put_pages(store: &[u8], pages: &[u32], own: usize, output: &mut [u8], hash: u32, fresh: bool)
+    requires { (Pages store.now pages.now (length pages.now)) × (1 ≤ own) × (own ≤ length pages.now)
+        × (Listable (pairs_left (page_at store.now pages.now) own (length pages.now - own) hash fresh) output.old) }
     ensures { output.new ≡ written (sorted (pairs_left
-        (page_at store.now pages.now) n k hash fresh)) output.old }
+        (page_at store.now pages.now) own (length pages.now - own) hash fresh)) output.old }
 {
-    let mut keys = zero_keys();
-    let mut tails = zero_tails();
-    let mut tree = zero_tree();
+    let mut merge = Merge::new();
     let from = Pair {
         hash,
         block: 0,
         offset: 0,
     };
-    start_merge(store, pages, &mut keys, &mut tails, &mut tree, n + k, from);
-    put_left(
-        store, pages, &mut keys, &mut tails, &mut tree, output, n, k, hash, fresh,
-    );
+    merge.start(store, pages, from);
+    put_left(&mut merge, store, pages, own, output, hash, fresh);
 }
 
 // Writes the places of the matches along two walks, for which there is room. One walk alone is merged where it lies.
-fn put_matches(
-    store: &[u8],
-    own: &[u32; MAX_BLOCKS + 1],
-    n: usize,
-    old: &[u32; MAX_BLOCKS + 1],
-    k: usize,
-    output: &mut [u8],
-    hash: u32,
-    fresh: bool,
-)
-    requires within { (Within store.now own.now n) × (PagesOk store.now (take n own.now)) }
-    requires within_2 { (Within store.now old.now k) × (PagesOk store.now (take k old.now)) }
-    requires le_n { (1 ≤ n) × (n + k ≤ suc max_blocks)
-        × (Listable (pairs_along store.now (take n own.now) (take k old.now) hash fresh) output.old) }
-    ensures { output.new ≡ written (sorted (pairs_along store.now (take n own.now)
-        (take k old.now) hash fresh)) output.old }
+fn put_matches(store: &[u8], own: &[u32], old: &[u32], output: &mut [u8], hash: u32, fresh: bool)
+    requires own_walk { (Within store.now own.now (length own.now)) × (PagesOk store.now own.now) }
+    requires old_walk { (Within store.now old.now (length old.now)) × (PagesOk store.now old.now) }
+    requires sizes { (1 ≤ length own.now) × (length own.now + length old.now ≤ suc max_blocks) }
+    requires room { Listable (pairs_along store.now own.now old.now hash fresh) output.old }
+    ensures { output.new ≡ written (sorted (pairs_along store.now own.now old.now hash fresh)) output.old }
 {
-    if k == 0 {
-        put_pages(store, own, output, n, k, hash, fresh);
+    let n = own.len();
+    if old.is_empty() {
+        put_pages(store, own, n, output, hash, fresh);
         return;
     }
-    let pages = join_walks(own, n, old, k);
-    put_pages(store, &pages, output, n, k, hash, fresh);
+    let pages = join_walks(own, old);
+    put_pages(store, &pages[..n + old.len()], n, output, hash, fresh);
 }
 
 pub fn lookup_in(store: &[u8], m: Meta, hash: u32, output: &mut [u8]) -> LookupAnswer
@@ -186,6 +153,6 @@ pub fn lookup_in(store: &[u8], m: Meta, hash: u32, output: &mut [u8]) -> LookupA
     if output.len() / 6 < matches as usize {
         return LookupAnswer::Refused(Refusal::OutputShort { matches });
     }
-    put_matches(store, &own, n, &old, k, output, hash, walks.fresh);
+    put_matches(store, &own[..n], &old[..k], output, hash, walks.fresh);
     LookupAnswer::Found { matches }
 }
