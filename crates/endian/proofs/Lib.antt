@@ -1,1 +1,2 @@
 pub mod EndianLaws
+pub mod PutLaws

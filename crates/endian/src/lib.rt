@@ -7,18 +7,12 @@ ghost use Rattle.std.specs.Prelude.{◌≡◌, ◌+◌, ◌≤◌, ◌<◌, leng
 ghost use Rattle.std.proofs.lemmas.List.Edits.{sets};
 ghost use Rattle.endian.specs.Endian.{le16, le32, u16_at, u32_at};
 
-pub fn wide(x: u8) -> u32
-    ensures { (result ≡ x) × (result < 256) }
-{
-    x as u32
-}
-
 // The 16-bit number at place `at` of `s`.
 pub fn get_u16(s: &[u8], at: usize) -> u16
     requires { at + 2 ≤ length s.now }
     ensures { result ≡ u16_at s.now at }
 {
-    (wide(s[at]) + wide(s[at + 1]) * 256) as u16
+    u16::from_le_bytes([s[at], s[at + 1]])
 }
 
 // The 32-bit number at place `at` of `s`.
@@ -26,7 +20,7 @@ pub fn get_u32(s: &[u8], at: usize) -> u32
     requires { at + 4 ≤ length s.now }
     ensures { result ≡ u32_at s.now at }
 {
-    get_u16(s, at) as u32 + get_u16(s, at + 2) as u32 * 65536
+    u32::from_le_bytes([s[at], s[at + 1], s[at + 2], s[at + 3]])
 }
 
 // Writes `v` at place `at` of `s`.
@@ -34,14 +28,12 @@ pub fn put_u16(s: &mut [u8], at: usize, v: u16)
     requires { at + 2 ≤ length s.old }
     ensures { s.new ≡ sets s.old at (le16 v) }
 {
-    s[at] = (v % 256) as u8;
-    s[at + 1] = (v / 256 % 256) as u8;
+    s[at..at + 2].copy_from_slice(&v.to_le_bytes());
 }
 
 pub fn put_u32(s: &mut [u8], at: usize, v: u32)
     requires { at + 4 ≤ length s.old }
     ensures { s.new ≡ sets s.old at (le32 v) }
 {
-    put_u16(s, at, (v % 65536) as u16);
-    put_u16(s, at + 2, (v / 65536) as u16);
+    s[at..at + 4].copy_from_slice(&v.to_le_bytes());
 }

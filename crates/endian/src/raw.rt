@@ -8,11 +8,7 @@ pub fn copy_over(dst: &mut [u8], src: &[u8])
     requires { length dst.old ≡ length src.now }
     ensures { dst.new ≡ src.now }
 {
-    let mut i = 0;
-    while i < src.len() {
-        dst[i] = src[i];
-        i += 1;
-    }
+    dst.copy_from_slice(src);
 }
 
 // Writes zeros from place `from` up to `to`.
@@ -20,11 +16,7 @@ pub fn zero_bytes(p: &mut [u8], from: usize, to: usize)
     requires { (from ≤ to) × (to ≤ length p.old) }
     ensures { p.new ≡ sets p.old from (replicate (to - from) 0) }
 {
-    let mut i = from;
-    while i < to {
-        p[i] = 0;
-        i += 1;
-    }
+    p[from..to].fill(0);
 }
 
 // Whether the bytes from place `from` up to `to` are zero. Without an early return, so that the compiler vectorises it.
@@ -33,12 +25,10 @@ pub fn is_zero(p: &[u8], from: usize, to: usize) -> bool
     ensures { result ≡ all_zero (part from to p.now) }
 {
     let mut zero = true;
-    let mut i = from;
-    while i < to {
-        if p[i] != 0 {
+    for byte in &p[from..to] {
+        if *byte != 0 {
             zero = false;
         }
-        i += 1;
     }
     zero
 }
