@@ -1,1 +1,2 @@
 pub mod InjectiveLaws
+mod ChunkLaws

@@ -3,7 +3,7 @@
 
 mod table; // table.rt: what eight single-bit steps make of each byte
 
-ghost use Rattle.std.specs.Prelude.{◌≡◌, ◌++◌, ◌*◌, ◌/◌, length, drop};
+ghost use Rattle.std.specs.Prelude.{◌≡◌, ◌++◌};
 ghost use Rattle.endian.specs.Endian.{le32};
 ghost use Rattle.crc32c.specs.Crc.{crc_bits, crc_bytes, crc_of};
 ghost use Rattle.crc32c.specs.Table.{byte_table};
@@ -30,32 +30,19 @@ fn take_four(table: &[u32; 256], c: u32, w: u32) -> u32
     shift_byte(table, third)
 }
 
-// The state `c` after the bytes of `s` that come in fours.
-fn take_fours(table: &[u32; 256], c: u32, s: &[u8]) -> u32
-    requires { table.now ≡ byte_table }
-    ensures { crc_bytes c s.now
-        ≡ crc_bytes result (drop (length s.now / 4 * 4) s.now) }
-{
-    let end = s.len() / 4 * 4;
-    let mut state = c;
-    let mut i = 0;
-    while i < end {
-        state = take_four(table, state, get_u32(s, i));
-        i += 4;
-    }
-    state
-}
-
 // The state `c` after the bytes of `s`.
 fn update(table: &[u32; 256], c: u32, s: &[u8]) -> u32
     requires { table.now ≡ byte_table }
     ensures { result ≡ crc_bytes c s.now }
 {
-    let mut state = take_fours(table, c, s);
-    let mut i = s.len() / 4 * 4;
-    while i < s.len() {
-        state = shift_byte(table, s[i] as u32 ^ state);
-        i += 1;
+    let fours = s.chunks_exact(4);
+    let rest = fours.remainder();
+    let mut state = c;
+    for four in fours {
+        state = take_four(table, state, get_u32(four, 0));
+    }
+    for byte in rest {
+        state = shift_byte(table, u32::from(*byte) ^ state);
     }
     state
 }

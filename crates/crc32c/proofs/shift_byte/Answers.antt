@@ -1,4 +1,4 @@
-use Rattle.std.proofs.Common.{List, ap, bit_xor, get_or, rules, sym, ℕ, ◌%◌, ◌/◌, ◌∙◌}
+use Rattle.std.proofs.Common.{List, ap, bit_xor, get_or, sym, ℕ, ◌%◌, ◌/◌, ◌∙◌}
 use Rattle.crc32c.specs.TableLaws.{bits-table}
 use Rattle.crc32c.proofs.shift_byte.Goals as goal
 

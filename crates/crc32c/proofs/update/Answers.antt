@@ -1,42 +1,48 @@
-use Rattle.std.proofs.Common.{ap, arith, drop, length, sym, ℕ, ◌+◌, ◌-◌, ◌∙◌, ◌≡◌, ◌≤◌}
+use Rattle.std.proofs.Common.{◌≡◌, ℕ, ◌+◌, ◌-◌, ◌*◌, ◌%◌, ◌<◌, [], ◌∷◌, ◌++◌, ap, sym, ◌∙◌, arith, drop, length, length-append, length-drop}
+use Rattle.std.specs.Slice.Iter.{chunks_exact_rest}
+use Rattle.lists.specs.Bytes.{Bytes}
 use Rattle.crc32c.specs.Crc.{crc_byte, crc_bytes}
 use Rattle.crc32c.specs.CrcLaws.{crc_bytes-drop, crc_bytes-end}
+use Rattle.crc32c.proofs.ChunkLaws.{chunk}
 use Rattle.crc32c.proofs.update.Goals as goal
 
-pub take_fours-state-requires : goal.take_fours-state-requires
-take_fours-state-requires c = c.requires
+pub loop-four-preserved : goal.loop-four-preserved
+loop-four-preserved c =
+    let s = c.args.s.now in
+    let l = c.loop-four in
+    let x = c.in-Some.four in
+    let bytes : Bytes s = λ i. omega (arith, c.type_inv.s i) in
+    let steps = c.in-Some.ensures.steps in
+    let turn = chunk l.state s x.now (chunks_exact_rest c.next.new.self) (4 * length l.yielded) (4 * length (l.yielded ++ x ∷ [])) bytes
+    (sym l.invariant.place ∙ steps.1.0) (steps.1.1 ∙ l.invariant.size) (omega (arith, length-append l.yielded (x ∷ []))) in
+    record {
+      size = steps.0 ∙ l.invariant.size;
+      inside = turn.inside;
+      place = turn.place;
+      state = cc (l.invariant.state, turn.state);
+    }
 
-pub overflow_mul-i : goal.overflow_mul-i
-overflow_mul-i c = omega arith
+pub loop-byte-init : goal.loop-byte-init
+loop-byte-init c =
+    let s = c.args.s.now in
+    let l = c.loop-four in
+    let n : ℕ = 4 * length l.yielded in
+    let few : length s - n < 4 = omega (arith, c.in-None.ensures.steps.1.0, l.invariant.size, ap length l.invariant.place, length-drop n s) in
+    let end : n ≡ length s - length s % 4 = omega (arith, l.invariant.inside) in
+    l.invariant.state
+    ∙ ap (λ (k : ℕ). crc_bytes l.state (drop k s)) end
+    ∙ ap (crc_bytes l.state) (sym (c.remainder-rest.ensures ∙ c.chunks_exact-fours.ensures.remainder))
 
-pub loop-i-init : goal.loop-i-init
-loop-i-init c = (omega arith, c.take_fours-state.ensures)
-
-pub bounds-s-i : goal.bounds-s-i
-bounds-s-i c = omega arith
-
-pub shift_byte-state-requires : goal.shift_byte-state-requires
-shift_byte-state-requires c = c.requires
-
-pub overflow_add-i : goal.overflow_add-i
-overflow_add-i c = omega arith
-
-pub loop-i-smaller : goal.loop-i-smaller
-loop-i-smaller c = omega arith
-
-pub loop-i-preserved : goal.loop-i-preserved
+pub loop-byte-preserved : goal.loop-byte-preserved
 unfolding crc_byte
-loop-i-preserved c =
-    let l = c.loop-i in
-    let s = c.args.s.now in (
-      omega arith,
-      l.invariant.1
-          ∙ crc_bytes-drop l.state s l.i (omega arith)
-          ∙ ap (λ (x : ℕ). crc_bytes x (drop (l.i + 1) s)) (sym c.shift_byte-state.ensures),
-    )
+loop-byte-preserved c =
+    let l = c.loop-byte in
+    let rest = c.remainder-rest.result.now in
+    l.invariant
+    ∙ crc_bytes-drop l.state rest l.byte-index (omega arith)
+    ∙ ap (λ (x : ℕ). crc_bytes x (drop (l.byte-index + 1) rest)) (cc)
 
 pub returns : goal.returns
 returns c =
-    let l = c.loop-i in
-    let s = c.args.s.now in
-    cc (crc_bytes-end l.state s l.i (omega arith))
+    let l = c.loop-byte in
+    cc (crc_bytes-end l.state c.remainder-rest.result.now l.byte-index (omega arith))
