@@ -16,7 +16,7 @@ pub fn high_mask(max: u32) -> u32
     if max < 2 {
         return 3;
     }
-    0xFFFF_FFFF >> u32::leading_zeros(max)
+    0xFFFF_FFFF >> max.leading_zeros()
 }
 
 // Half of the high mask, rounded down.
@@ -44,7 +44,7 @@ pub fn parent_of(bucket: u32) -> u32
     if bucket == 0 {
         return 0;
     }
-    bucket - (1u32 << (31 - u32::leading_zeros(bucket)))
+    bucket - (1u32 << (31 - bucket.leading_zeros()))
 }
 
 // Buckets in all at point `i`: up to 9 those of a group, from 10 on those of a phase, five to eight quarters of what
@@ -65,7 +65,7 @@ pub fn buckets_at(i: u32) -> u32
 pub fn point_of_bucket(bucket: u32) -> u32
     ensures { result ≡ bucket_point bucket }
 {
-    let group = 32 - u32::leading_zeros(bucket);
+    let group = 32 - bucket.leading_zeros();
     if group < 10 {
         return group;
     }
@@ -113,14 +113,12 @@ fn bit_point(spares: [u32; 16], s: u32, bit: u32) -> u32
     requires { s ≤ 16 }
     ensures { (result ≡ bit_point spares bit 1 (pred s)) × (result ≤ 16) }
 {
-    let mut i: u32 = 1;
-    while i < s {
+    for i in 1..s {
         if bit < spares[i as usize] {
             return i;
         }
-        i += 1;
     }
-    i
+    s.max(1)
 }
 
 // The block of an overflow bit: past the meta block, the buckets up to its point and the bits before it.
@@ -136,7 +134,7 @@ pub fn made_blocks(spares: [u32; 16], s: u32) -> u64
     requires { s ≤ 15 }
     ensures { result ≡ made spares s }
 {
-    buckets_at(s) as u64 + spares[s as usize] as u64 + 1
+    u64::from(buckets_at(s)) + u64::from(spares[s as usize]) + 1
 }
 
 // The meta block, the page of a bucket, an overflow bit's block, or a block that is not made yet.
@@ -157,8 +155,7 @@ pub fn role_of(spares: [u32; 16], s: u32, block: u32) -> BlockRole
         return BlockRole::Meta;
     }
     let place = block - 1;
-    let mut point: u32 = 1;
-    while point <= s {
+    for point in 1..=s {
         let buckets = buckets_at(point);
         let before = spares[(point - 1) as usize];
         if place < buckets + before {
@@ -167,7 +164,6 @@ pub fn role_of(spares: [u32; 16], s: u32, block: u32) -> BlockRole
         if place < buckets + spares[point as usize] {
             return BlockRole::Bit(place - buckets);
         }
-        point += 1;
     }
     BlockRole::Unmade
 }

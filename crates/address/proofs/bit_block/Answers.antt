@@ -1,4 +1,4 @@
-use Rattle.std.proofs.Common.{ap, arith, rules, ℕ, ◌+◌, ◌∙◌, ◌≡◌}
+use Rattle.std.proofs.Common.{ap, arith, ℕ, ◌+◌, ◌∙◌, ◌≡◌}
 use Rattle.address.specs.Address.{buckets_at, bit_block}
 use Rattle.address.proofs.bit_block.Goals as goal
 

@@ -22,25 +22,10 @@ loop-i-init c =
     let e : pred c.args.s ≡ c.args.s - 1 = omega arith in
     (omega arith, ap (bit_point c.args.spares c.args.bit 1) e)
 
-pub overflow_cast-i : goal.overflow_cast-i
-overflow_cast-i c = omega arith
-
-pub offset_bounds-spares-i : goal.offset_bounds-spares-i
-offset_bounds-spares-i c = omega arith
-
-pub bounds-spares-i : goal.bounds-spares-i
-bounds-spares-i c = omega arith
-
 pub returns-then-bit-spares : goal.returns-then-bit-spares
 returns-then-bit-spares c =
     let l = c.loop-i in
-    (sym (l.invariant.1 ∙ found _ _ _ l.i c.loop-i-test.true c.if-bit-spares.true), l.invariant.0)
-
-pub overflow_add-i : goal.overflow_add-i
-overflow_add-i c = omega arith
-
-pub loop-i-smaller : goal.loop-i-smaller
-loop-i-smaller c = omega arith
+    (sym (l.invariant.1 ∙ found _ _ _ l.i c.loop-i-test.true c.if-bit-spares.true), omega arith)
 
 pub loop-i-preserved : goal.loop-i-preserved
 loop-i-preserved c =
@@ -50,4 +35,5 @@ loop-i-preserved c =
 pub returns : goal.returns
 returns c =
     let l = c.loop-i in
-    (sym (l.invariant.1 ∙ ended _ _ _ l.i c.loop-i-test.false), l.invariant.0)
+    let e : c.max.result ≡ l.i = omega arith in
+    (e ∙ sym (l.invariant.1 ∙ ended _ _ _ l.i c.loop-i-test.false), omega arith)

@@ -1,4 +1,4 @@
-use Rattle.std.proofs.Common.{List, ap, arith, get_or, pred, refl, rules, suc, zero, ℕ, ◌+◌, ◌-◌, ◌≡◌, ◌≤◌}
+use Rattle.std.proofs.Common.{List, ap, arith, get_or, pred, refl, suc, zero, ℕ, ◌+◌, ◌-◌, ◌≡◌, ◌≤◌}
 use Rattle.address.specs.Address.{bucket_point, bucket_block}
 use Rattle.address.specs.PointLaws.{bucket_point-pos, bucket_point-le}
 use Rattle.address.proofs.bucket_block.Goals as goal

@@ -1,4 +1,4 @@
-use Rattle.std.proofs.Common.{arith, bit_and, le-leb, rules, ◌<◌, ◌≤◌}
+use Rattle.std.proofs.Common.{arith, bit_and, le-leb, ◌<◌, ◌≤◌}
 use borrow.Author.Tests.{lt-leb}
 use Rattle.address.specs.MaskLaws.{bucket_of-and}
 use Rattle.address.proofs.bucket_of.Goals as goal

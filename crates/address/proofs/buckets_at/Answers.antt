@@ -1,4 +1,4 @@
-use Rattle.std.proofs.Common.{arith, rules, shl_exact, sym, ℕ, ◌%◌, ◌*◌, ◌+◌, ◌-◌, ◌/◌, ◌^◌, ◌∙◌, ◌≡◌, ◌≤◌}
+use Rattle.std.proofs.Common.{arith, shl_exact, sym, ℕ, ◌%◌, ◌*◌, ◌+◌, ◌-◌, ◌/◌, ◌^◌, ◌∙◌, ◌≡◌, ◌≤◌}
 use Rattle.address.specs.Address.{buckets_at}
 use Rattle.address.specs.PhaseLaws.{buckets-low, buckets-phase}
 use Rattle.address.proofs.Leading.{shift_one}

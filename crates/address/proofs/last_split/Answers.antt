@@ -1,5 +1,4 @@
-use Rattle.std.proofs.Common.{ap, arith, refl, rules, suc, sym, zero, ℕ, ◌+◌, ◌-◌, ◌∙◌, ◌≡◌, ◌≤◌}
-use borrow.Author.Tests.{eqb-false}
+use Rattle.std.proofs.Common.{ap, arith, refl, suc, sym, zero, ℕ, ◌+◌, ◌-◌, ◌∙◌, ◌≡◌, ◌≤◌}
 use Rattle.address.specs.Address.{split_from, last_split}
 use Rattle.address.specs.LastSplitLaws.{last_none, last-far, last-own}
 use Rattle.address.proofs.last_split.Goals as goal
@@ -35,5 +34,5 @@ returns-else-bucket-top c =
     let max = c.args.max in
     let b = c.args.bucket in
     let e : c.parent_of.result ≡ split_from (max - b) = c.parent_of.ensures in
-    let p : 1 ≤ max = omega (arith, eqb-false max 0 c.if-max-eq0.false-raw) in
+    let p : 1 ≤ max = omega arith in
     sym (last-own max b (omega arith) p (omega (arith, c.if-bucket-top.false)))

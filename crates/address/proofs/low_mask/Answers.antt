@@ -1,4 +1,4 @@
-use Rattle.std.proofs.Common.{ap, rules, ℕ, ◌/◌}
+use Rattle.std.proofs.Common.{ap, ℕ, ◌/◌}
 use Rattle.address.specs.Address.{low_mask}
 use Rattle.address.proofs.low_mask.Goals as goal
 

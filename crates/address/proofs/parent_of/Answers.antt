@@ -1,4 +1,4 @@
-use Rattle.std.proofs.Common.{ap, arith, refl, rules, suc, zero, ℕ, ◌-◌, ◌≡◌}
+use Rattle.std.proofs.Common.{ap, arith, refl, suc, zero, ℕ, ◌-◌, ◌≡◌}
 use Rattle.address.specs.Address.{split_from, bit_length}
 use Rattle.address.specs.MaskLaws.{top-le}
 use Rattle.address.proofs.Leading.{leading_lt, shift_top}

@@ -1,4 +1,4 @@
-use Rattle.std.proofs.Common.{ap, arith, rules, sym, ◌∙◌}
+use Rattle.std.proofs.Common.{ap, arith, sym, ◌∙◌}
 use Rattle.address.specs.Address.{point}
 use Rattle.address.specs.PointLaws.{point-zero, point-bucket_point}
 use Rattle.address.proofs.point_of.Goals as goal
