@@ -1,12 +1,10 @@
 -- The page rule from a slot on: a turn of each loop takes one byte or one slot off what is left to test.
 use mathlib.Core.Path.{◌≡◌, refl, sym, ap, ap₂, ◌∙◌}
-use mathlib.Core.Bool.{Bool, true, false, not, ◌&&◌, ◌||◌}
+use mathlib.Core.Bool.{Bool, true, false, not, ◌&&◌}
 use mathlib.Core.List.{List, ◌∷◌}
-use Prim.Native.Nat.{ℕ, zero, suc, ◌+◌, ◌-◌, ◌*◌, ◌≤◌, ◌<◌}
+use Prim.Native.Nat.{ℕ, zero, suc, ◌+◌, ◌-◌, ◌≤◌, ◌<◌}
 use native.Mathlib.Numerals.{add-one}
 use native.Mathlib.Omega.{arith}
-use borrow.Author.Tests.{not-true, not-false}
-use lib.Dec.{eqb}
 use Rattle.lists.specs.Lists.{all, up_from}
 use Rattle.endian.specs.Endian.{u16_at}
 use Rattle.page.specs.declared.Entry.{Entry}
@@ -14,13 +12,6 @@ use Rattle.page.specs.Pair.{before, bad_pair, pair_of, ascending}
 use Rattle.page.specs.Entries.{entry_at, entries_from, entries_of}
 use Rattle.page.specs.EntriesLaws.{entries_from-cons}
 use Rattle.page.specs.Rule.{flags_ok, numbers_ok, order_ok}
-
--- what a test in the code that was negated says of the test's meaning
-pub holds : {b r : Bool} → r ≡ b → not r ≡ false → b ≡ true
-holds e h = sym e ∙ not-false _ h
-
-pub breaks : {b r : Bool} → r ≡ b → not r ≡ true → b ≡ false
-breaks e h = sym e ∙ not-true _ h
 
 -- a part that passes leaves the rest to be tested, one that does not decides
 pub passed : (t x y : Bool) → x ≡ t && y → t ≡ true → y ≡ x
@@ -33,16 +24,6 @@ failed t x y e h = e ∙ ap (λ (b : Bool). b && y) h
 
 abbrev number_fine : Entry → Bool
 number_fine e = not (bad_pair e.pair)
-
-pub slot-bad : (l : List ℕ) (k : ℕ) → bad_pair (entry_at l k).pair ≡ true
-    → number_fine (entry_at l k) && flags_ok l k ≡ false
-slot-bad l k h = ap (λ (b : Bool). not b && flags_ok l k) h
-
-pub slot-flags : (l : List ℕ) (k : ℕ) → bad_pair (entry_at l k).pair ≡ false
-    → number_fine (entry_at l k) && flags_ok l k
-    ≡ eqb (u16_at l (4 + 12 * k + 10)) 0 || eqb (u16_at l (4 + 12 * k + 10)) 0x2000
-unfolding flags_ok
-slot-flags l k h = ap (λ (b : Bool). not b && flags_ok l k) h
 
 -- the numbers and flags of the entries from slot k up to slot n
 pub numbers_from : List ℕ → ℕ → ℕ → Bool
@@ -88,13 +69,15 @@ order-start l n e =
     let z : n - 0 ≡ u16_at l 0 = omega arith in
     ap (λ (m : ℕ). ascending pair_of (entries_from l 0 m)) z
 
-pub order-turn : (l : List ℕ) (n k : ℕ) → k + 1 < n
-    → order_from l n k ≡ before (entry_at l k).pair (entry_at l (k + 1)).pair && order_from l n (k + 1)
+pub order-turn : (l : List ℕ) (n k : ℕ) → 1 ≤ k → k < n
+    → order_from l n (k - 1) ≡ before (entry_at l (k - 1)).pair (entry_at l k).pair && order_from l n k
 unfolding order_from
-order-turn l n k h =
-    let next = entries_from-cons l (k + 1) n h in
-    ap (ascending pair_of) (entries_from-cons l k n (omega arith) ∙ ap (λ (x : List Entry). entry_at l k ∷ x) next)
-    ∙ ap (λ (x : List Entry). before (entry_at l k).pair (entry_at l (k + 1)).pair && ascending pair_of x) (sym next)
+order-turn l n k pos h =
+    let back : k - 1 + 1 ≡ k = omega arith in
+    let first = entries_from-cons l (k - 1) n (omega arith) ∙ ap (λ (j : ℕ). entry_at l (k - 1) ∷ entries_from l j (n - j)) back in
+    let next = entries_from-cons l k n h in
+    ap (ascending pair_of) (first ∙ ap (λ (x : List Entry). entry_at l (k - 1) ∷ x) next)
+    ∙ ap (λ (x : List Entry). before (entry_at l (k - 1)).pair (entry_at l k).pair && ascending pair_of x) (sym next)
 
 pub order-end : (l : List ℕ) (n k : ℕ) → n ≤ k + 1 → order_from l n k ≡ true
 unfolding order_from entries_from

@@ -13,11 +13,7 @@ fn open_gap(p: &mut [u8], from: usize, to: usize)
     requires { (from ≤ to) × (to + 12 ≤ length p.old) }
     ensures { p.new ≡ opened p.old from to }
 {
-    let mut i = to;
-    while from < i {
-        i -= 1;
-        p[i + 12] = p[i];
-    }
+    p.copy_within(from..to, from + 12);
 }
 
 // Moves the bytes from `from + 12` up to `to` twelve places down.
@@ -25,11 +21,7 @@ fn close_gap(p: &mut [u8], from: usize, to: usize)
     requires { (from + 12 ≤ to) × (to ≤ length p.old) }
     ensures { p.new ≡ closed p.old from to }
 {
-    let mut i = from;
-    while i + 12 < to {
-        p[i] = p[i + 12];
-        i += 1;
-    }
+    p.copy_within(from + 12..to, from);
 }
 
 // Puts `e` into slot `k`, and the entries from there on one slot up.

@@ -8,13 +8,7 @@ use crate::Pair;
 pub fn is_before(a: Pair, b: Pair) -> bool
     ensures { result ≡ before a b }
 {
-    if a.hash != b.hash {
-        return a.hash < b.hash;
-    }
-    if a.block != b.block {
-        return a.block < b.block;
-    }
-    a.offset < b.offset
+    a < b
 }
 
 // 1 where `a` is below `b`, else 0, of numbers up to 2^48: block and offset of a reading have 48 bits. No branch tells
@@ -29,13 +23,7 @@ pub fn one_if_below(a: u64, b: u64) -> usize
 pub fn is_same(a: Pair, b: Pair) -> bool
     ensures { result ≡ same a b }
 {
-    if a.hash != b.hash {
-        return false;
-    }
-    if a.block != b.block {
-        return false;
-    }
-    a.offset == b.offset
+    a == b
 }
 
 // Whether `p` is a pair that no entry may have.

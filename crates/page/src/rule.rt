@@ -22,10 +22,7 @@ fn check_rest(p: &[u8]) -> bool
     requires { (length p.now ≡ 512) × (number_ok p.now ≡ true) }
     ensures { result ≡ rest_zero p.now }
 {
-    if get_u16(p, 2) != 0 {
-        return false;
-    }
-    is_zero(p, 4 + 12 * count_entries(p), 492)
+    get_u16(p, 2) == 0 && is_zero(p, 4 + 12 * count_entries(p), 492)
 }
 
 // Whether the entry in slot `k` may have its numbers and flags.
@@ -33,11 +30,8 @@ fn check_slot(p: &[u8], k: usize) -> bool
     requires { (k < 40) × (length p.now ≡ 512) }
     ensures { result ≡ not (bad_pair (entry_at p.now k).pair) && flags_ok p.now k }
 {
-    if is_bad(get_entry(p, k).pair) {
-        return false;
-    }
     let flags = get_u16(p, 4 + 12 * k + 10);
-    flags == 0 || flags == 0x2000
+    !is_bad(get_entry(p, k).pair) && (flags == 0 || flags == 0x2000)
 }
 
 // Whether every entry may have its numbers and flags.
@@ -45,13 +39,10 @@ fn check_numbers(p: &[u8]) -> bool
     requires { (length p.now ≡ 512) × (number_ok p.now ≡ true) }
     ensures { result ≡ numbers_ok p.now }
 {
-    let n = count_entries(p);
-    let mut k = 0;
-    while k < n {
+    for k in 0..count_entries(p) {
         if !check_slot(p, k) {
             return false;
         }
-        k += 1;
     }
     true
 }
@@ -61,13 +52,10 @@ fn check_order(p: &[u8]) -> bool
     requires { (length p.now ≡ 512) × (number_ok p.now ≡ true) }
     ensures { result ≡ order_ok p.now }
 {
-    let n = count_entries(p);
-    let mut k = 0;
-    while k + 1 < n {
-        if !is_before(get_entry(p, k).pair, get_entry(p, k + 1).pair) {
+    for k in 1..count_entries(p) {
+        if !is_before(get_entry(p, k - 1).pair, get_entry(p, k).pair) {
             return false;
         }
-        k += 1;
     }
     true
 }
@@ -77,14 +65,5 @@ pub fn check_page(p: &[u8]) -> bool
     requires { length p.now ≡ 512 }
     ensures { result ≡ page_ok p.now }
 {
-    if !check_number(p) {
-        return false;
-    }
-    if !check_rest(p) {
-        return false;
-    }
-    if !check_numbers(p) {
-        return false;
-    }
-    check_order(p)
+    check_number(p) && check_rest(p) && check_numbers(p) && check_order(p)
 }

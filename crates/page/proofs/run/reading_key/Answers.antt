@@ -1,4 +1,4 @@
-use Rattle.std.proofs.Common.{arith, rules}
+use Rattle.std.proofs.Common.{arith}
 use Rattle.page.specs.Entries.{read_entry}
 use Rattle.page.proofs.run.reading_key.Goals as goal
 

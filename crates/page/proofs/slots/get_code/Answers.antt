@@ -1,4 +1,3 @@
-use Rattle.std.proofs.Common.{rules}
 use Rattle.page.specs.Entries.{read_entry, entry_at}
 use Rattle.page.proofs.slots.get_code.Goals as goal
 

@@ -1,4 +1,3 @@
-use Rattle.std.proofs.Common.{rules}
 use Rattle.page.specs.Entries.{entry_at}
 use Rattle.page.proofs.slots.get_entry.Goals as goal
 
