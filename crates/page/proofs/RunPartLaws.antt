@@ -55,7 +55,7 @@ module _ (l : List ℕ) (sorted : Sorted l) (h : ℕ) where
   unfolding order_ok
   run_inside = omega (arith, run-le h es sorted.order, length-entries_of l)
 
-  run_fits : 4 + 12 * (run_start h es + run_length h es) ≤ length l
+  pub run_fits : 4 + 12 * (run_start h es + run_length h es) ≤ length l
   run_fits = omega (arith, run_inside, number-le l sorted.number, sorted.whole)
 
   length-run_of : length (run_of h l) ≡ 12 * run_length h (entries_of l)

@@ -18,3 +18,4 @@ pub mod Rule
 pub mod Allowed
 pub mod RunExamples
 pub mod AllowedLaws
+pub mod Bisection

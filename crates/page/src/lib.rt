@@ -2,6 +2,7 @@
 #![tactic(auto)]
 
 pub mod order; // order.rt: which of two pairs, or of two numbers, stands first
+mod bisection; // bisection.rt: the bisection of places whose numbers ascend
 pub mod slots; // slots.rt: one entry of a page
 pub mod run; // run.rt: what a run tells: its entries, the place of a pair among them
 pub mod search; // search.rt: the run of a hash code in a page, the sorted place of a pair

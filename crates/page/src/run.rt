@@ -4,7 +4,7 @@ ghost use Rattle.page.specs.Entries.{read_entry};
 ghost use Rattle.page.specs.Places.{place_of, run_entries, reading_key};
 ghost use Rattle.page.specs.Allowed.{OneCode};
 
-use crate::order::one_if_below;
+use crate::bisection::bisect;
 use crate::slots::read_entry;
 use crate::{Entry, Pair};
 use endian::{get_u16, get_u32};
@@ -29,7 +29,7 @@ fn reading_key(run: &[u8], k: usize) -> u64
     requires { 12 * k + 12 ≤ length run.now }
     ensures { (result ≡ reading_key (read_entry run.now (12 * k)).pair) × (result < 2 ^ 48) }
 {
-    get_u32(run, 12 * k + 4) as u64 * 65536 + get_u16(run, 12 * k + 8) as u64
+    u64::from(get_u32(run, 12 * k + 4)) * 65536 + u64::from(get_u16(run, 12 * k + 8))
 }
 
 // The number of entries before `x`.
@@ -37,13 +37,6 @@ pub fn place_in_run(run: &[u8], x: Pair) -> usize
     requires { OneCode x.hash run.now }
     ensures { result ≡ place_of x (run_entries run.now) }
 {
-    let key = x.block as u64 * 65536 + x.offset as u64;
-    let mut at = 0;
-    let mut left = count_run(run);
-    while 0 < left {
-        let half = left - left / 2;
-        at += half * one_if_below(reading_key(run, at + half - 1), key);
-        left = left / 2;
-    }
-    at
+    let key = u64::from(x.block) * 65536 + u64::from(x.offset);
+    bisect(0, count_run(run), key, |k| reading_key(run, k))
 }

@@ -8,25 +8,9 @@ ghost use Rattle.page.specs.Rule.{page_ok};
 ghost use Rattle.page.specs.Allowed.{Sorted};
 
 use crate::Pair;
-use crate::order::one_if_below;
+use crate::bisection::bisect;
 use crate::run::place_in_run;
 use crate::slots::{count_entries, get_code};
-
-// The number of entries whose hash code is below `code`, by bisection between slots `low` and `high`.
-fn bisect_codes(p: &[u8], low: usize, high: usize, code: u64) -> usize
-    requires { (Sorted p.now) × (low ≤ run_start code (entries_of p.now))
-        × (run_start code (entries_of p.now) ≤ high) × (high ≤ u16_at p.now 0) × (code ≤ 4294967296) }
-    ensures { result ≡ run_start code (entries_of p.now) }
-{
-    let mut at = low;
-    let mut left = high - low;
-    while 0 < left {
-        let half = left - left / 2;
-        at += half * one_if_below(get_code(p, at + half - 1) as u64, code);
-        left = left / 2;
-    }
-    at
-}
 
 // The number of entries whose hash code is below `code`; the caller knows that it is `low` or more. The ends are tried
 // first: runs of one entry, and of the whole page, need no bisection to find their end.
@@ -38,13 +22,13 @@ fn codes_below(p: &[u8], low: usize, code: u64) -> usize
     if high <= low {
         return high;
     }
-    if code <= get_code(p, low) as u64 {
+    if code <= u64::from(get_code(p, low)) {
         return low;
     }
-    if (get_code(p, high - 1) as u64) < code {
+    if u64::from(get_code(p, high - 1)) < code {
         return high;
     }
-    bisect_codes(p, low, high, code)
+    bisect(low, high, code, |k| u64::from(get_code(p, k)))
 }
 
 // The number of entries before the run of the hash code `h`, or before its sorted place if no entry has the code.
@@ -52,7 +36,7 @@ pub fn entries_before(p: &[u8], h: u32) -> usize
     requires { Sorted p.now }
     ensures { result ≡ run_start h (entries_of p.now) }
 {
-    codes_below(p, 0, h as u64)
+    codes_below(p, 0, u64::from(h))
 }
 
 // The slot after the run of the hash code `h`, which begins in slot `start`.
@@ -60,10 +44,8 @@ fn run_end(p: &[u8], start: usize, h: u32) -> usize
     requires { (Sorted p.now) × (start ≡ run_start h (entries_of p.now)) }
     ensures { result ≡ run_start h (entries_of p.now) + run_length h (entries_of p.now) }
 {
-    if start < count_entries(p) {
-        if get_code(p, start) == h {
-            return codes_below(p, start + 1, h as u64 + 1);
-        }
+    if start < count_entries(p) && get_code(p, start) == h {
+        return codes_below(p, start + 1, u64::from(h) + 1);
     }
     start
 }

@@ -4,4 +4,4 @@ use Rattle.page.proofs.run.reading_key.Goals as goal
 
 pub returns : goal.returns
 unfolding read_entry
-returns c = (omega (arith, c.get_u32.ensures, c.get_u16.ensures), omega arith)
+returns c = omega arith
