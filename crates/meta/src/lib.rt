@@ -13,7 +13,7 @@ ghost use Rattle.image.specs.Rules.{front_ok, spares_ok, meta_ok};
 ghost use Rattle.meta.specs.Spares.{rises};
 
 use address::{high_mask, low_mask, made_blocks, point_of};
-use endian::raw::{is_zero, zero_bytes};
+use endian::raw::is_zero;
 use endian::{get_u16, get_u32, put_u32};
 use image::Meta;
 
@@ -23,10 +23,8 @@ fn read_spares(part: &[u8]) -> [u32; 16]
     ensures { result ≡ words_at part.now 40 16 }
 {
     let mut spares = [0u32; 16];
-    let mut i = 0;
-    while i < 16 {
+    for i in 0..16 {
         spares[i] = get_u32(part, 40 + 4 * i);
-        i += 1;
     }
     spares
 }
@@ -56,10 +54,8 @@ fn put_words(part: &mut [u8], at: usize, words: &[u32])
     requires { at + 4 * length words.now ≤ length part.old }
     ensures { part.new ≡ sets part.old at (bind words.now le32) }
 {
-    let mut i = 0;
-    while i < words.len() {
-        put_u32(part, at + 4 * i, words[i]);
-        i += 1;
+    for (i, word) in words.iter().enumerate() {
+        put_u32(part, at + 4 * i, *word);
     }
 }
 
@@ -68,12 +64,11 @@ pub fn put_meta(part: &mut [u8], m: Meta)
     requires { length part.old ≡ 512 }
     ensures { part.new ≡ meta_front m ++ drop 492 part.old }
 {
-    let fill = m.fill as u32;
     let head = [
         0x0644_0640,
         512,
         m.count,
-        fill,
+        u32::from(m.fill),
         m.max,
         m.high,
         m.low,
@@ -81,11 +76,10 @@ pub fn put_meta(part: &mut [u8], m: Meta)
         m.free,
         m.size,
     ];
-    let spares = m.spares;
     put_words(part, 0, &head);
-    put_words(part, 40, &spares);
+    put_words(part, 40, &m.spares);
     put_u32(part, 104, m.number);
-    zero_bytes(part, 108, 492);
+    part[108..492].fill(0);
 }
 
 // Rule 1, of the bytes of a meta block in a store of `size` blocks.
@@ -93,19 +87,11 @@ pub fn check_front(part: &[u8], size: u32) -> bool
     requires { length part.now ≡ 512 }
     ensures { result ≡ front_ok size part.now }
 {
-    if get_u32(part, 0) != 0x0644_0640 {
-        return false;
-    }
-    if get_u32(part, 4) != 512 {
-        return false;
-    }
-    if get_u32(part, 36) != size {
-        return false;
-    }
-    if !is_zero(part, 14, 16) {
-        return false;
-    }
-    is_zero(part, 108, 492)
+    get_u32(part, 0) == 0x0644_0640
+        && get_u32(part, 4) == 512
+        && get_u32(part, 36) == size
+        && is_zero(part, 14, 16)
+        && is_zero(part, 108, 492)
 }
 
 // Whether the spares from 1 to `s` do not fall.
@@ -113,12 +99,10 @@ fn check_rising(spares: [u32; 16], s: u32) -> bool
     requires { s ≤ 15 }
     ensures { result ≡ all (rises spares) (up_from 1 (s - 1)) }
 {
-    let mut i: u32 = 1;
-    while i < s {
-        if spares[(i + 1) as usize] < spares[i as usize] {
+    for i in 1..s as usize {
+        if spares[i + 1] < spares[i] {
             return false;
         }
-        i += 1;
     }
     true
 }
@@ -128,14 +112,7 @@ fn check_above(spares: [u32; 16], s: u32) -> bool
     requires { s ≤ 15 }
     ensures { result ≡ all_zero (drop (suc s) spares) }
 {
-    let mut i = s + 1;
-    while i < 16 {
-        if spares[i as usize] != 0 {
-            return false;
-        }
-        i += 1;
-    }
-    true
+    spares[s as usize + 1..].iter().all(|x| *x == 0)
 }
 
 // The spares of rule 2, at overflow point `s`.
@@ -143,16 +120,7 @@ fn check_spares(spares: [u32; 16], s: u32) -> bool
     requires { s ≤ 15 }
     ensures { result ≡ spares_ok s spares }
 {
-    if spares[0] != 0 {
-        return false;
-    }
-    if spares[1] < 1 {
-        return false;
-    }
-    if !check_rising(spares, s) {
-        return false;
-    }
-    check_above(spares, s)
+    spares[0] == 0 && 1 <= spares[1] && check_rising(spares, s) && check_above(spares, s)
 }
 
 // Whether a format's or a meta block's fill is good.
@@ -166,28 +134,13 @@ pub fn check_fill(fill: u32) -> bool
 pub fn check_meta(m: Meta, size: u32) -> bool
     ensures { result ≡ meta_ok size m }
 {
-    if !check_fill(m.fill as u32) {
-        return false;
-    }
-    if m.max < 1 {
-        return false;
-    }
-    if m.high != high_mask(m.max) {
-        return false;
-    }
-    if m.low != low_mask(m.max) {
-        return false;
-    }
     let s = point_of(m.max);
-    if m.point != s {
-        return false;
-    }
-    if 15 < s {
-        return false;
-    }
-    let spares = m.spares;
-    if !check_spares(spares, s) {
-        return false;
-    }
-    made_blocks(spares, s) <= size as u64
+    check_fill(u32::from(m.fill))
+        && 1 <= m.max
+        && m.high == high_mask(m.max)
+        && m.low == low_mask(m.max)
+        && m.point == s
+        && s <= 15
+        && check_spares(m.spares, s)
+        && made_blocks(m.spares, s) <= u64::from(size)
 }

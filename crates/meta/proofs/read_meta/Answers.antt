@@ -1,4 +1,3 @@
-use Rattle.std.proofs.Common.{rules}
 use Rattle.image.specs.Decode.{read_meta}
 use Rattle.meta.proofs.read_meta.Goals as goal
 
