@@ -13,7 +13,6 @@ ghost use Rattle.store.specs.Finish.{finished_as, finished};
 
 use crate::flags::PAGE_ID;
 use crc32c::crc32c_after;
-use endian::raw::copy_over;
 use endian::{get_u16, get_u32, put_u16, put_u32};
 
 // Block `k`, as a part of the store.
@@ -31,7 +30,7 @@ pub fn put_block(store: &mut [u8], k: usize, image: &[u8])
     ensures { store.new ≡ set_block store.old k image.now }
 {
     let from = 512 * k;
-    copy_over(&mut store[from..from + 512], image);
+    store[from..from + 512].copy_from_slice(image);
 }
 
 // The fields of a block's trailer.
@@ -139,12 +138,8 @@ pub fn seal_change(change: Change, images: &mut [u8], number: u32)
     requires { (change.count ≤ 8) × (length images.old ≡ 4096) }
     ensures { images.new ≡ seals number change.numbers images.old change.count }
 {
-    let count = change.count;
-    let numbers = change.numbers;
-    let mut n = 0;
-    while n < count {
-        seal_one(images, n, number, numbers[n]);
-        n += 1;
+    for n in 0..change.count {
+        seal_one(images, n, number, change.numbers[n]);
     }
 }
 
@@ -154,8 +149,7 @@ pub fn commit_one(store: &mut [u8], change: Change, images: &[u8], n: usize)
     requires images_len { length images.now ≡ 4096 }
     ensures { store.new ≡ stored store.old change.numbers images.now n }
 {
-    let numbers = change.numbers;
-    put_block(store, numbers[n] as usize, block_at(images, n));
+    put_block(store, change.numbers[n] as usize, block_at(images, n));
 }
 
 // Does all block stores of a change.
@@ -165,11 +159,8 @@ fn commit(store: &mut [u8], change: Change, images: &[u8])
     ensures { store.new
         ≡ commits store.old change.numbers images.now change.count }
 {
-    let count = change.count;
-    let mut done = 0;
-    while done < count {
+    for done in 0..change.count {
         commit_one(store, change, images, done);
-        done += 1;
     }
 }
 

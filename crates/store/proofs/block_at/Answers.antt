@@ -1,4 +1,3 @@
-use Rattle.std.proofs.Common.{rules}
 use Rattle.store.proofs.Parts.{part-block}
 use Rattle.store.proofs.block_at.Goals as goal
 

@@ -1,4 +1,3 @@
-use Rattle.std.proofs.Common.{rules}
 use Rattle.store.specs.Store.{checks}
 use Rattle.store.proofs.check_block.Goals as goal
 

@@ -1,4 +1,4 @@
-use Rattle.std.proofs.Common.{arith, length-take-le, rules, sym}
+use Rattle.std.proofs.Common.{arith, length-take-le, sym}
 use Rattle.store.specs.Store.{covered, check_of}
 use Rattle.store.proofs.check_of.Goals as goal
 

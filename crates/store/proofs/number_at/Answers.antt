@@ -1,4 +1,4 @@
-use Rattle.std.proofs.Common.{List, ap, arith, rules, ℕ, ◌∙◌}
+use Rattle.std.proofs.Common.{List, ap, arith, ℕ, ◌∙◌}
 use Rattle.endian.specs.Endian.{u32_at}
 use Rattle.store.specs.Store.{number_at}
 use Rattle.store.proofs.Parts.{length-of-block}

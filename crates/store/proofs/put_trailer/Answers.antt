@@ -1,4 +1,3 @@
-use Rattle.std.proofs.Common.{rules}
 use Rattle.store.specs.TrailerLaws.{sets-trailer}
 use Rattle.store.proofs.put_trailer.Goals as goal
 

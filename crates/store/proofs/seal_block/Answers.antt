@@ -1,4 +1,3 @@
-use Rattle.std.proofs.Common.{rules}
 use Rattle.store.proofs.CheckLaws.{sets-check}
 use Rattle.store.proofs.seal_block.Goals as goal
 

@@ -1,4 +1,4 @@
-use Rattle.std.proofs.Common.{ap, rules, ◌∙◌}
+use Rattle.std.proofs.Common.{ap, ◌∙◌}
 use Rattle.lists.specs.Block.{set_block}
 use Rattle.store.specs.Store.{sealed}
 use Rattle.store.proofs.Parts.{part-block, put-block}
