@@ -6,6 +6,7 @@ use Rattle.journal.specs.Journal.{Disk, disk, head_of, end_of, number_in, name_i
 use Rattle.journal.specs.Journal.{end_copies, images_good, names_below, names_differ}
 use Rattle.journal.specs.HoldsLaws.{and_no, and_yes, and-six, no-image, many-images, few-images}
 use Rattle.journal.proofs.holds.journal_holds.Goals as goal
+use Rattle.journal.proofs.holds.journal_holds.Goals.{Joined-images_good}
 use Rattle.journal.proofs.holds.journal_holds.Goals.{then-count-eq0-via-then-count-eq0, then-count-eq0-via-else-count-eq0+then-count-gt14}
 use Rattle.journal.proofs.holds.journal_holds.Goals.{then-check_block, else-check_block, then-check_block-2, else-check_block-2}
 use Rattle.journal.proofs.holds.journal_holds.Goals.{then-end_copies, else-end_copies, then-images_good, else-images_good}
@@ -26,9 +27,14 @@ heads d = checks (number_in d.journal) 0 (head_of d.journal)
 abbrev ends : Disk → Bool
 ends d = checks (number_in d.journal) 15 (end_of d.journal)
 
-pub returns-then-names_below : goal.returns-then-names_below
+-- the tests up to that of the names' bound, where the ways that ask them join
+below-tests : (c : Joined-images_good)
+    → c.if-images_good.value
+    ≡ (((heads (disk c.args.store.now c.args.journal.now) && ends (disk c.args.store.now c.args.journal.now))
+    && end_copies c.args.journal.now) && images_good (disk c.args.store.now c.args.journal.now))
+    && names_below (disk c.args.store.now c.args.journal.now)
 unfolding blocks
-returns-then-names_below c =
+below-tests c =
     let a = c.args in
     let j = a.journal.now in
     let d = disk a.store.now j in
@@ -63,7 +69,6 @@ returns-then-names_below c =
       | else-end_copies w ↦ w.value-is ∙ and_no _ (images_good d) _ copied w.if-end_copies.false
     ]
     in
-    let below : c.if-images_good.value ≡ (((heads d && ends d) && end_copies j) && images_good d) && names_below d =
     elim c.if-images_good.branch [
       | then-images_good w ↦
           w.value-is
@@ -72,60 +77,23 @@ returns-then-names_below c =
           ∙ ap (λ (n : ℕ). all (λ i. ltb (name_in j i) (length a.store.now / 512)) (up_from 0 n)) count)
       | else-images_good w ↦ w.value-is ∙ and_no _ (names_below d) _ good w.if-images_good.false
     ]
-    in
+
+pub returns-then-names_below : goal.returns-then-names_below
+returns-then-names_below c =
+    let j = c.args.journal.now in
+    let d = disk c.args.store.now j in
+    let below = below-tests (goal.at.returns-then-names_below c).Joined-images_good in
     few-images d (omega arith) (omega arith) _
     (and_yes _ (names_differ d) _ _ below c.if-names_below.true
     (c.names_differ.ensures
-    ∙ ap (λ (n : ℕ). all (λ l. all (λ i. not (eqb (name_in j i) (name_in j l))) (up_from 0 l)) (up_from 0 n)) count)
+    ∙ ap (λ (n : ℕ). all (λ l. all (λ i. not (eqb (name_in j i) (name_in j l))) (up_from 0 l)) (up_from 0 n)) c.count_of-count.ensures)
     ∙ and-six (heads d) (ends d) (end_copies j) (images_good d) (names_below d) (names_differ d))
 
 pub returns-else-names_below : goal.returns-else-names_below
-unfolding blocks
 returns-else-names_below c =
-    let a = c.args in
-    let j = a.journal.now in
-    let d = disk a.store.now j in
-    let number = c.number_of-number.ensures in
-    let count = c.count_of-count.ensures in
-    let headed : c.check_block.result ≡ heads d =
-    c.check_block.ensures ∙ ap₂ (λ (m : ℕ) (b : List ℕ). checks m 0 b) number c.block_at.ensures
-    in
-    let ended : c.if-check_block.value ≡ heads d && ends d =
-    elim c.if-check_block.branch [
-      | then-check_block w ↦
-          w.value-is
-          ∙ and_yes _ (ends d) _ _ headed w.if-check_block.true
-          (w.check_block-then-check_block.ensures
-          ∙ ap₂ (λ (m : ℕ) (b : List ℕ). checks m 15 b) number w.block_at-then-check_block.ensures)
-      | else-check_block w ↦ w.value-is ∙ and_no _ (ends d) _ headed w.if-check_block.false
-    ]
-    in
-    let copied : c.if-check_block-2.value ≡ (heads d && ends d) && end_copies j =
-    elim c.if-check_block-2.branch [
-      | then-check_block-2 w ↦ w.value-is ∙ and_yes _ (end_copies j) _ _ ended w.if-check_block-2.true w.end_copies.ensures
-      | else-check_block-2 w ↦ w.value-is ∙ and_no _ (end_copies j) _ ended w.if-check_block-2.false
-    ]
-    in
-    let good : c.if-end_copies.value ≡ ((heads d && ends d) && end_copies j) && images_good d =
-    elim c.if-end_copies.branch [
-      | then-end_copies w ↦
-          w.value-is
-          ∙ and_yes _ (images_good d) _ _ copied w.if-end_copies.true
-          (w.images_good.ensures
-          ∙ ap₂ (λ (m n : ℕ). all (λ i. checks m (name_in j i) (image_in j i)) (up_from 0 n)) number count)
-      | else-end_copies w ↦ w.value-is ∙ and_no _ (images_good d) _ copied w.if-end_copies.false
-    ]
-    in
-    let below : c.if-images_good.value ≡ (((heads d && ends d) && end_copies j) && images_good d) && names_below d =
-    elim c.if-images_good.branch [
-      | then-images_good w ↦
-          w.value-is
-          ∙ and_yes _ (names_below d) _ _ good w.if-images_good.true
-          (w.names_below.ensures
-          ∙ ap (λ (n : ℕ). all (λ i. ltb (name_in j i) (length a.store.now / 512)) (up_from 0 n)) count)
-      | else-images_good w ↦ w.value-is ∙ and_no _ (names_below d) _ good w.if-images_good.false
-    ]
-    in
+    let j = c.args.journal.now in
+    let d = disk c.args.store.now j in
+    let below = below-tests (goal.at.returns-else-names_below c).Joined-images_good in
     few-images d (omega arith) (omega arith) _
     (and_no _ (names_differ d) _ below c.if-names_below.false
     ∙ and-six (heads d) (ends d) (end_copies j) (images_good d) (names_below d) (names_differ d))
