@@ -1,7 +1,8 @@
 -- The lowest damaged block as the loop finds it, and the verdict of the two searches.
 use mathlib.Core.Path.{◌≡◌, refl, sym, ap, ◌∙◌}
-use mathlib.Core.Bool.{Bool, true, false, not}
+use mathlib.Core.Bool.{Bool, true, false, not, cond}
 use mathlib.Core.List.{List}
+use Rattle.std.specs.Prelude.{Result, Ok, Err}
 use mathlib.Core.Option.{Option, none, some}
 use Prim.Native.Nat.{ℕ, ◌+◌, ◌-◌, ◌/◌, ◌%◌, ◌≤◌, ◌<◌}
 use native.Mathlib.Omega.{arith}
@@ -18,8 +19,13 @@ use Rattle.image.specs.Rules.{lowest_damaged, lowest_broken, judge, verdict}
 use Rattle.outcomes.specs.Outcomes.{verdict_of}
 use Rattle.image.specs.Rules.{length_ok}
 use Rattle.frame.specs.ListsLaws.{find-hit, find-pass}
-use Rattle.verify.specs.Tests.{broken_as}
+use Rattle.verify.specs.Tests.{tested_as}
 use Rattle.shape.specs.LoopLaws.{run-turn, run-done}
+
+-- the verdict on a store whose checks are right, by what the tests of the rules fail with
+abbrev pub judged_as : Result (Unit {0}) ℕ → Verdict
+judged_as (Ok u) = Verdict.Sound
+judged_as (Err r) = Verdict.NotIndex r
 
 module _ (s : List ℕ) where
   -- a store of legal length has a first block
@@ -57,12 +63,23 @@ module _ (s : List ℕ) where
     damaged-later more good =
         sym (find-pass damaged k (rest k) (ap not good)) ∙ sym (ap (find damaged) (run-turn k (blocks s) more)) ∙ so_far
 
-    pub undamaged : blocks s ≤ k → broken_as (lowest_broken s) ≡ verdict_of (verdict s)
+    pub undamaged : blocks s ≤ k → (r : Result (Unit {0}) ℕ) → r ≡ tested_as (lowest_broken s)
+        → judged_as r ≡ verdict_of (verdict s)
     unfolding verdict
-    undamaged past =
+    undamaged past r e =
         let nowhere : lowest_damaged s ≡ none = sym so_far ∙ ap (find damaged) (run-done k (blocks s) past) in
-        rw nowhere (go (lowest_broken s))
+        ap judged_as e ∙ rw nowhere (go (lowest_broken s))
       where
-        go : (b : Option ℕ) → broken_as b ≡ verdict_of (judge none b (decode s))
+        go : (b : Option ℕ) → judged_as (tested_as b) ≡ verdict_of (judge none b (decode s))
         go none = refl
         go (some r) = refl
+
+-- ---- what the test of a rule tells, where it goes on and where it ends
+
+pub goes-on : (b : Bool) (r : ℕ) (u : Unit {0}) → ◌≡◌ {A = Result (Unit {0}) ℕ} (Ok u) (cond b (Ok tt) (Err r)) → b ≡ true
+goes-on true r u e = refl
+goes-on false r u e = absurd cc
+
+pub ends : (b : Bool) (r n : ℕ) → ◌≡◌ {A = Result (Unit {0}) ℕ} (Err n) (cond b (Ok tt) (Err r)) → (b ≡ false) × (n ≡ r)
+ends true r n e = absurd cc
+ends false r n e = (refl, cc)

@@ -1,9 +1,8 @@
 -- What the tests of the rules answer together.
 use Rattle.std.proofs.Math.Option.{Option, none, some}
-use Rattle.std.specs.Prelude.{ℕ}
-use Rattle.image.specs.declared.Verdict.{Verdict}
+use Rattle.std.specs.Prelude.{ℕ, Result, Ok, Err}
 
--- the verdict on a store whose checks are right, by its lowest broken rule
-abbrev pub broken_as : Option ℕ → Verdict
-broken_as none = Verdict.Sound
-broken_as (some r) = Verdict.NotIndex r
+-- what they fail with, by the lowest broken rule of a store whose checks are right
+abbrev pub tested_as : Option ℕ → Result (Unit {0}) ℕ
+tested_as none = Ok tt
+tested_as (some r) = Err r

@@ -2,12 +2,12 @@
 // and 2), `shape` (3, 4 and 6) and `entries` (5, 7 and 8).
 #![tactic(auto)]
 
-ghost use Rattle.std.specs.Prelude.{◌≡◌, true};
+ghost use Rattle.std.specs.Prelude.{◌≡◌, true, cond, Ok, Err};
 ghost use Rattle.image.specs.Rules.{rule1, lowest_broken, verdict};
 ghost use Rattle.outcomes.specs.Outcomes.{verdict_of, verify_outcome};
 ghost use Rattle.image.specs.Rules.{length_ok};
 ghost use Rattle.reader.specs.Known.{Known2};
-ghost use Rattle.verify.specs.Tests.{broken_as};
+ghost use Rattle.verify.specs.Tests.{tested_as};
 
 use address::limits::MAX_BLOCKS;
 use entries::counts::check_counts;
@@ -31,46 +31,36 @@ pub fn check_length(store: &[u8]) -> bool
     4 <= size && size <= MAX_BLOCKS
 }
 
-// The lowest broken rule, the first two of them tested already.
-fn judge_blocks(store: &[u8], m: Meta) -> Verdict
-    requires { (rule1 store.now ≡ true) × (Known2 store.now m) }
-    ensures { result ≡ broken_as (lowest_broken store.now) }
+// Fails with the rule's number, unless it holds.
+fn keeps(rule: u32, holds: bool) -> Result<(), u32>
+    ensures { result ≡ cond holds (Ok tt) (Err rule) }
 {
-    if !check_roles(store, m) {
-        return Verdict::NotIndex { rule: 3 };
-    }
-    if !check_links(store, m) {
-        return Verdict::NotIndex { rule: 4 };
-    }
-    if !check_pages(store, m) {
-        return Verdict::NotIndex { rule: 5 };
-    }
-    if !check_bits(store, m) {
-        return Verdict::NotIndex { rule: 6 };
-    }
-    if !check_places(store, m) {
-        return Verdict::NotIndex { rule: 7 };
-    }
-    if !check_counts(store, m) {
-        return Verdict::NotIndex { rule: 8 };
-    }
-    Verdict::Sound
+    if holds { Ok(()) } else { Err(rule) }
 }
 
-// The lowest broken rule.
-fn judge_rules(store: &[u8]) -> Verdict
+// Fails with the lowest broken rule; the first two are tested already.
+fn judge_blocks(store: &[u8], m: Meta) -> Result<(), u32>
+    requires { (rule1 store.now ≡ true) × (Known2 store.now m) }
+    ensures { result ≡ tested_as (lowest_broken store.now) }
+{
+    keeps(3, check_roles(store, m))?;
+    keeps(4, check_links(store, m))?;
+    keeps(5, check_pages(store, m))?;
+    keeps(6, check_bits(store, m))?;
+    keeps(7, check_places(store, m))?;
+    keeps(8, check_counts(store, m))
+}
+
+// Fails with the lowest broken rule.
+fn judge_rules(store: &[u8]) -> Result<(), u32>
     requires { length_ok store.now ≡ true }
-    ensures { result ≡ broken_as (lowest_broken store.now) }
+    ensures { result ≡ tested_as (lowest_broken store.now) }
 {
     let part = block_at(store, 0);
     let size = (store.len() / 512) as u32;
-    if !check_front(part, size) {
-        return Verdict::NotIndex { rule: 1 };
-    }
+    keeps(1, check_front(part, size))?;
     let m = read_meta(part);
-    if !check_meta(m, size) {
-        return Verdict::NotIndex { rule: 2 };
-    }
+    keeps(2, check_meta(m, size))?;
     judge_blocks(store, m)
 }
 
@@ -79,17 +69,16 @@ fn judge(store: &[u8]) -> Verdict
     requires { length_ok store.now ≡ true }
     ensures { result ≡ verdict_of (verdict store.now) }
 {
-    let size = store.len() / 512;
     let number = number_at(store);
-    let mut k = 0;
-    while k < size {
-        let block = k as u32;
-        if !check_block(block_at(store, k), number, block) {
+    for block in 0..(store.len() / 512) as u32 {
+        if !check_block(block_at(store, block as usize), number, block) {
             return Verdict::Damaged { block };
         }
-        k += 1;
     }
-    judge_rules(store)
+    match judge_rules(store) {
+        Ok(()) => Verdict::Sound,
+        Err(rule) => Verdict::NotIndex { rule },
+    }
 }
 
 // What a store is.
