@@ -3,13 +3,14 @@ use mathlib.Core.Path.{◌≡◌, sym, ap, ◌∙◌, subst}
 use mathlib.Core.Logic.{◌≢◌}
 use mathlib.Core.Bool.{false}
 use mathlib.Core.List.{List, [], ◌∷◌}
-use Prim.Native.Nat.{ℕ, ◌+◌, ◌≤◌, ◌<◌}
+use Prim.Native.Nat.{ℕ, ◌+◌, ◌*◌, ◌≤◌, ◌<◌}
 use native.Mathlib.Omega.{arith}
 use borrow.Author.Tests.{lt-ltb, le-ltb}
 use lib.ListN.{length, get_or, take, drop}
 use Rattle.std.specs.Prelude.{Option, Some, None}
 use Rattle.lists.specs.Lists.{find}
 use Rattle.lists.specs.Block.{blocks, block}
+use Rattle.lists.specs.BlockLaws.{length-block}
 use Rattle.endian.specs.Endian.{u16_at}
 use Rattle.page.specs.declared.Pair.{Pair}
 use Rattle.page.specs.Entries.{entries_of}
@@ -20,39 +21,47 @@ use Rattle.image.specs.Decode.{follow}
 use Rattle.frame.specs.ListsLaws.{find-hit, find-pass}
 use Rattle.chain.specs.declared.Room.{Room}
 use Rattle.chain.specs.Walk.{walk, last_of, Bounded}
-use Rattle.chain.specs.WalkLaws.{walk_end, walk_more, bounded-next}
+use Rattle.chain.specs.WalkLaws.{walk_end, walk_more, bounded-first, bounded-next}
 use Rattle.chain.specs.Search.{slot_in, pair_on, room_on, at_slot, found_as, find_in, room_as, room_in}
-use Rattle.chain.specs.Within.{entries_on, Within, PageOn}
+use Rattle.chain.specs.Within.{entries_on}
 use Rattle.chain.proofs.SearchLaws.{slot_at, slot-none}
-use Rattle.chain.specs.WithinLaws.{search-here, search-later, search-end}
+use Rattle.chain.specs.FindLaws.{find-here, find-later, find-end}
 
-module _ {s bs : List ℕ} {n : ℕ} (ok : Within s bs n) (i : ℕ) where
+module _ (s ks : List ℕ) (p : Pair) (i : ℕ) where
   abbrev at : ℕ
-  at = get_or bs i 0
+  at = get_or ks i 0
 
   -- nothing was found before index i
-  abbrev PairLeft : Pair → Type 0
-  PairLeft p = find (pair_on s p) (take n bs) ≡ find (pair_on s p) (drop i (take n bs))
+  abbrev PairLeft : Type 0
+  PairLeft = find (pair_on s p) ks ≡ find (pair_on s p) (drop i ks)
 
-  module _ (more : i < n) {x : List ℕ} (on : PageOn s bs n i x) where
-    -- the answer r of the search for the pair in the page
-    module _ (p : Pair) (r : Option ℕ) (asked : r ≡ slot_in (entries_of x) p) where
-      answer : r ≡ slot_in (entries_on s at) p
-      answer = asked ∙ ap (λ (y : List ℕ). slot_in (entries_of y) p) on.page
+  -- the answer r of the search for the pair in the page x
+  module _ (more : i < length ks) {x : List ℕ} (on : x ≡ block s (get_or ks i 0)) {r : Option ℕ}
+      (asked : r ≡ slot_in (entries_of x) p) where
+    answer : r ≡ slot_in (entries_on s at) p
+    answer = asked ∙ ap (λ (y : List ℕ). slot_in (entries_of y) p) on
 
-      pub pair-here : (k : ℕ) → r ≡ Some k → PairLeft p → find_in s (take n bs) p ≡ at_slot (get_or bs i 0) k
-      unfolding find_in
-      pair-here k e left =
-          let o = slot_at (entries_on s at) p k (sym answer ∙ e) in
-          ap (found_as s p) (left ∙ search-here ok i more (pair_on s p) o.stands) ∙ ap (at_slot at) (sym o.place)
+    pub pair-here : (k : ℕ) → r ≡ Some k → PairLeft → find_in s ks p ≡ at_slot (get_or ks i 0) k
+    unfolding find_in
+    pair-here k e left =
+        let o = slot_at (entries_on s at) p k (sym answer ∙ e) in
+        ap (found_as s p) (left ∙ find-here (pair_on s p) ks i 0 more o.stands) ∙ ap (at_slot at) (sym o.place)
 
-      pub pair-later : r ≡ None
-          → find (pair_on s p) (drop i (take n bs)) ≡ find (pair_on s p) (drop (i + 1) (take n bs))
-      pair-later e = search-later ok i more (pair_on s p) (slot-none (entries_on s at) p (sym answer ∙ e))
+    pub pair-later : r ≡ None → find (pair_on s p) (drop i ks) ≡ find (pair_on s p) (drop (i + 1) ks)
+    pair-later e = find-later (pair_on s p) ks i 0 more (slot-none (entries_on s at) p (sym answer ∙ e))
 
-  pub pair-nowhere : n ≤ i → (p : Pair) → PairLeft p → find_in s (take n bs) p ≡ None
+  pub pair-nowhere : length ks ≤ i → PairLeft → find_in s ks p ≡ None
   unfolding find_in
-  pair-nowhere past p left = ap (found_as s p) (left ∙ search-end ok i (pair_on s p) past)
+  pair-nowhere past left = ap (found_as s p) (left ∙ find-end (pair_on s p) ks i past)
+
+-- ---- the page of a chain's first block
+
+pub first-whole : (s : List ℕ) (k : ℕ) → Bounded s k → 512 * k + 512 ≤ length s
+unfolding blocks
+first-whole s k b = omega (arith, bounded-first s k b)
+
+pub first-length : (s : List ℕ) (k : ℕ) → Bounded s k → {x : List ℕ} → x ≡ block s k → length x ≡ 512
+first-length s k b e = ap length e ∙ length-block s k (first-whole s k b)
 
 -- ---- room, and the last block, in the chain from block k on, whose page is x
 

@@ -9,6 +9,7 @@ use lib.ListN.{length, get_or, take, drop, drop_of_length-le}
 use lib.Seq.{drop-cons}
 use Rattle.lists.specs.Lists.{b2n, tally, bind}
 use Rattle.lists.specs.ListsLaws.{tally-append, tally-keep, tally-cong, length-keep}
+use Rattle.lists.specs.Block.{block}
 use Rattle.page.specs.declared.Entry.{Entry}
 use Rattle.page.specs.Entries.{read_entry, entries_of}
 use Rattle.page.specs.Run.{has_code, run_length, run_of}
@@ -19,8 +20,8 @@ use Rattle.page.specs.Allowed.{Sorted}
 use Rattle.page.proofs.RuleLaws.{number-le}
 use Rattle.page.proofs.RunPartLaws.{get_or-run_entries, run-entries, run_length_lem}
 use Rattle.model.specs.TallyLaws.{and_comm}
-use Rattle.chain.specs.Within.{entries_on, Within, PageOn}
-use Rattle.chain.specs.WithinLaws.{rest-turn, rest-done}
+use Rattle.chain.specs.Within.{entries_on}
+use Rattle.chain.specs.LentLaws.{left-turn}
 use Rattle.chain.specs.Pairs.{is_match}
 
 abbrev pub unmoved : Entry → Bool
@@ -69,19 +70,20 @@ module _ (r : List ℕ) (i n all : ℕ) (left : all ≡ n + tally unmoved (drop 
 
 -- ---- along a walk
 
-module _ {s bs : List ℕ} {m : ℕ} (ok : Within s bs m) (t : Entry → Bool) (i n : ℕ)
-    (left : tally t (bind (take m bs) (entries_on s)) ≡ n + tally t (bind (drop i (take m bs)) (entries_on s))) where
+module _ (s ks : List ℕ) (t : Entry → Bool) (i n : ℕ)
+    (left : tally t (bind ks (entries_on s)) ≡ n + tally t (bind (drop i ks) (entries_on s))) where
   -- the page at index i has k
-  pub count_turn : i < m → {x : List ℕ} → PageOn s bs m i x → (k : ℕ) → k ≡ tally t (entries_of x)
-      → tally t (bind (take m bs) (entries_on s)) ≡ (n + k) + tally t (bind (drop (i + 1) (take m bs)) (entries_on s))
-  count_turn more on k e =
+  pub count_turn : i < length ks → {x : List ℕ} → x ≡ block s (get_or ks i 0) → {k : ℕ} → k ≡ tally t (entries_of x)
+      → tally t (bind ks (entries_on s)) ≡ (n + k) + tally t (bind (drop (i + 1) ks) (entries_on s))
+  count_turn more on e =
       omega (
         arith,
         left,
-        ap (tally t) (rest-turn ok i more),
-        tally-append t (entries_on s (get_or bs i 0)) (bind (drop (i + 1) (take m bs)) (entries_on s)),
-        e ∙ ap (λ (y : List ℕ). tally t (entries_of y)) on.page,
+        ap (tally t) (left-turn s ks i more),
+        tally-append t (entries_on s (get_or ks i 0)) (bind (drop (i + 1) ks) (entries_on s)),
+        e ∙ ap (λ (y : List ℕ). tally t (entries_of y)) on,
       )
 
-  pub count-end : m ≤ i → tally t (bind (take m bs) (entries_on s)) ≡ n
-  count-end past = omega (arith, left, ap (tally t) (rest-done ok i past))
+  pub count-end : length ks ≤ i → tally t (bind ks (entries_on s)) ≡ n
+  count-end past =
+      omega (arith, left, ap (λ (js : List ℕ). tally t (bind js (entries_on s))) (drop_of_length-le ks {i = i} past))

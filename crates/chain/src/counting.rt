@@ -1,16 +1,16 @@
 // The number of pairs of a hash code.
-ghost use Rattle.std.specs.Prelude.{◌≡◌, true, not, ◌*◌, ◌≤◌, take};
+ghost use Rattle.std.specs.Prelude.{◌≡◌, true, not, ◌*◌, ◌≤◌, length};
 ghost use Rattle.lists.specs.Lists.{b2n, tally, bind};
 ghost use Rattle.page.specs.Entries.{entries_of};
 ghost use Rattle.page.specs.Allowed.{Sorted};
-ghost use Rattle.chain.specs.Within.{entries_on, PagesOk, Within};
+ghost use Rattle.chain.specs.Within.{entries_on, PagesOk};
+ghost use Rattle.chain.specs.Lent.{Within};
 ghost use Rattle.chain.specs.Pairs.{is_match};
 
-use crate::links::page_on;
-use address::limits::MAX_BLOCKS;
 use page::Entry;
 use page::run::{count_run, run_entry};
 use page::search::find_run;
+use store::block_at;
 
 // 1 for an unmoved entry, 0 for a moved one.
 fn count_unmoved(e: Entry) -> u32
@@ -27,10 +27,8 @@ fn count_fresh(page: &[u8], hash: u32) -> u32
     let run = find_run(page, hash);
     let count = count_run(run);
     let mut n: u32 = 0;
-    let mut i = 0;
-    while i < count {
+    for i in 0..count {
         n += count_unmoved(run_entry(run, i));
-        i += 1;
     }
     n
 }
@@ -47,22 +45,15 @@ fn count_in_page(page: &[u8], hash: u32, fresh: bool) -> u32
 }
 
 // The number of entries along a walk that have the hash code: at most 40 on a page.
-pub fn count_in_walk(
-    store: &[u8],
-    blocks: &[u32; MAX_BLOCKS + 1],
-    count: usize,
-    hash: u32,
-    fresh: bool,
-) -> u32
-    requires { (Within store.now blocks.now count) × (PagesOk store.now (take count blocks.now)) }
-    ensures { (result ≡ tally (is_match hash fresh)
-        (bind (take count blocks.now) (entries_on store.now))) × (result ≤ 40 * count) }
+pub fn count_in_walk(store: &[u8], walk: &[u32], hash: u32, fresh: bool) -> u32
+    requires { (Within store.now walk.now) × (PagesOk store.now walk.now) }
+    ensures { (result ≡ tally (is_match hash fresh) (bind walk.now (entries_on store.now)))
+        × (result ≤ 40 * length walk.now) }
 {
     let mut n: u32 = 0;
-    let mut i = 0;
-    while i < count {
-        n += count_in_page(page_on(store, blocks, count, i), hash, fresh);
-        i += 1;
+    for block in walk {
+        let page = block_at(store, *block as usize);
+        n += count_in_page(page, hash, fresh);
     }
     n
 }

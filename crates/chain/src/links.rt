@@ -54,17 +54,15 @@ pub fn walk_chain(store: &[u8], blocks: &mut [u32; MAX_BLOCKS + 1], first: u32) 
     let n = store.len() / 512;
     blocks[0] = first;
     let mut last = first;
-    let mut count = 1;
-    while count <= n {
+    for count in 1..n + 1 {
         let next = next_block(store, last);
         if next == NO_LINK {
-            break;
+            return count;
         }
         blocks[count] = next;
         last = next;
-        count += 1;
     }
-    count
+    n + 1
 }
 
 // The page at index `i` of a walk.

@@ -1,14 +1,13 @@
 // A pair along a walk; the first page with room, as the next fields lead.
-ghost use Rattle.std.specs.Prelude.{◌≡◌, take};
+ghost use Rattle.std.specs.Prelude.{◌≡◌};
 ghost use Rattle.page.specs.Entries.{entries_of};
 ghost use Rattle.page.specs.Allowed.{Sorted};
 ghost use Rattle.chain.specs.Walk.{walk, Bounded};
 ghost use Rattle.chain.specs.Search.{slot_in, find_in, room_in};
-ghost use Rattle.chain.specs.Within.{PagesOk, Within};
+ghost use Rattle.chain.specs.Within.{PagesOk};
+ghost use Rattle.chain.specs.Lent.{Within};
 
-use crate::links::page_on;
 use crate::{Found, Room};
-use address::limits::MAX_BLOCKS;
 use page::Pair;
 use page::order::is_same;
 use page::run::{count_run, place_in_run, run_entry};
@@ -31,19 +30,15 @@ fn find_slot(page: &[u8], pair: Pair) -> Option<u32>
 }
 
 // The first page of the walk that has the pair, and the pair's slot in it.
-pub fn find_pair(
-    store: &[u8],
-    blocks: &[u32; MAX_BLOCKS + 1],
-    count: usize,
-    pair: Pair,
-) -> Option<Found>
-    requires { (Within store.now blocks.now count) × (PagesOk store.now (take count blocks.now)) }
-    ensures { result ≡ find_in store.now (take count blocks.now) pair }
+pub fn find_pair(store: &[u8], walk: &[u32], pair: Pair) -> Option<Found>
+    requires { (Within store.now walk.now) × (PagesOk store.now walk.now) }
+    ensures { result ≡ find_in store.now walk.now pair }
 {
-    for i in 0..count {
-        if let Some(slot) = find_slot(page_on(store, blocks, count, i), pair) {
+    for block in walk {
+        let page = block_at(store, *block as usize);
+        if let Some(slot) = find_slot(page, pair) {
             return Some(Found {
-                block: blocks[i],
+                block: *block,
                 slot,
             });
         }

@@ -1,13 +1,11 @@
-use Rattle.std.proofs.Common.{length, suc, take, ◌++◌, ◌+◌, ◌-◌, ◌≡◌, ◌≤◌}
+use Rattle.std.proofs.Common.{length, suc, take, ◌++◌, ◌+◌, ◌-◌, ◌≡◌}
 use Rattle.address.specs.Limits.{max_blocks}
 use Rattle.image.specs.Decode.{follow}
 use Rattle.chain.specs.Walk.{walk}
 use Rattle.chain.proofs.links.walk_chain.Given as goal
 
 abbrev pub invariant-loop-count : goal.invariant-loop-count
-invariant-loop-count l =
-    (1 ≤ l.count) × (l.count ≤ l.n + 1) × (length l.blocks ≡ suc max_blocks)
-    × (take l.count l.blocks ++ follow l.store (l.n + 1 - l.count) l.last ≡ walk l.store l.first)
-
-abbrev pub decreases-loop-count : goal.decreases-loop-count
-decreases-loop-count l = l.n + 1 - l.count
+invariant-loop-count l = record {
+  room : length l.blocks ≡ suc max_blocks;
+  so_far : take l.count l.blocks ++ follow l.store (l.n + 1 - l.count) l.last ≡ walk l.store l.first;
+}
