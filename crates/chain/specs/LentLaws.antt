@@ -1,5 +1,5 @@
 -- Loops along a walk that is lent: the page at index i, and the entries on the pages from it on.
-use Rattle.std.specs.Prelude.{◌≡◌, true, List, [], ◌∷◌, ◌++◌, ℕ, ◌+◌, ◌*◌, ◌≤◌, ◌<◌, length, get_or, take, drop}
+use Rattle.std.specs.Prelude.{◌≡◌, true, List, ◌∷◌, ◌++◌, ℕ, ◌+◌, ◌*◌, ◌≤◌, ◌<◌, length, get_or, take, drop}
 use Rattle.std.proofs.Common.{sym, ap, ◌∙◌, add-one, arith, drop-cons}
 use Rattle.lists.specs.Lists.{bind}
 use Rattle.lists.specs.Block.{blocks, block}
@@ -9,7 +9,7 @@ use Rattle.page.specs.Rule.{page_ok}
 use Rattle.page.specs.Allowed.{Sorted}
 use Rattle.page.proofs.RuleLaws.{page_ok-sorted}
 use Rattle.chain.specs.Within.{entries_on, PagesOk, Within as Begins}
-use Rattle.chain.specs.Lent.{Within}
+use Rattle.chain.specs.Lent.{Within, PageOn}
 
 -- the first n blocks of an array, as they are lent
 pub lent : {s bs : List ℕ} {n : ℕ} → Begins s bs n → Within s (take n bs)
@@ -37,6 +37,9 @@ module _ {s ks : List ℕ} (ok : Within s ks) (i : ℕ) (more : i < length ks) w
       let each = all-each (λ k. page_ok (block s k)) ks pages in
       let fine = each-get_or (λ k. page_ok (block s k) ≡ true) ks i 0 each more in
       rw e (page_ok-sorted (block s at) (length-block s at at-whole) fine)
+
+  pub at-page : {l : List ℕ} → l ≡ block s (get_or ks i 0) → PageOn s ks i l
+  at-page e = record { page = e; whole = at-length e; sorted = λ pages. at-sorted pages e }
 
 -- ---- what is left of the entries on a walk from index i on
 

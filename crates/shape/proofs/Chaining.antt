@@ -1,5 +1,5 @@
 -- Rule 4 as its loops go: along the links of one chain, and from bucket to bucket.
-use mathlib.Core.Path.{◌≡◌, sym, ap, ap₂, ◌∙◌}
+use mathlib.Core.Path.{◌≡◌, sym, ap, ◌∙◌}
 use mathlib.Core.Bool.{true, false, ◌&&◌}
 use mathlib.Core.List.{List, ◌∷◌}
 use Prim.Native.Nat.{ℕ, suc, ◌+◌, ◌-◌, ◌*◌, ◌≤◌, ◌<◌}
@@ -19,8 +19,8 @@ use Rattle.store.specs.Flags.{no_link}
 use Rattle.image.specs.Decode.{max_at, block_of, trail}
 use Rattle.image.specs.Rules.{buckets, is_overflow, link_ok, linked, rule4}
 use Rattle.chain.specs.Walk.{Sized, walk, Walked}
-use Rattle.chain.specs.WalkLaws.{walk-next}
-use Rattle.chain.specs.WithinLaws.{walked-some, walked-few, walked-get_or}
+use Rattle.chain.specs.WalkLaws.{walk-some, walk-next}
+use Rattle.chain.specs.WithinLaws.{walked-few}
 use Rattle.reader.specs.Known.{Known2}
 use Rattle.shape.specs.LoopLaws.{passed, failed, run-turn, run-done, left, left-start, left-turn, left-done}
 use Rattle.shape.specs.ChainedLaws.{chained, pages-linked}
@@ -32,40 +32,41 @@ linked-cons : (s : List ℕ) (b k j : ℕ) (js : List ℕ) → next_at (block s 
 unfolding linked
 linked-cons s b k j js e = rw (eq-eqb (next_at (block s k)) j e)
 
-module _ (s : List ℕ) (b : ℕ) {bs : List ℕ} {n : ℕ} (held : Walked s (block_of s b) bs n) where
-  abbrev ks : List ℕ
-  ks = walk s (block_of s b)
-
+module _ (s : List ℕ) (b : ℕ) {ks : List ℕ} (held : ks ≡ walk s (block_of s b)) where
   abbrev at : ℕ → ℕ
-  at i = get_or bs i 0
+  at i = get_or ks i 0
 
-  pub chain-start : linked s b (at 0) (drop (0 + 1) ks) ≡ chained s b
+  pub chain-some : 1 ≤ length ks
+  chain-some = omega (arith, ap length held, walk-some s (block_of s b))
+
+  pub chain-start : linked s b (get_or ks 0 0) (drop (0 + 1) ks) ≡ chained s b
   unfolding walk
-  chain-start = ap (λ (k : ℕ). linked s b k (trail s b)) (walked-get_or held 0 (omega (arith, walked-some held)))
+  chain-start = ap (λ (js : List ℕ). linked s b (get_or js 0 0) (drop (0 + 1) js)) held
 
   module _ (i : ℕ) where
-    link-next : i + 1 < n → next_at (block s (at i)) ≡ at (i + 1)
+    link-next : i + 1 < length ks → next_at (block s (at i)) ≡ at (i + 1)
     link-next h =
-        ap (λ (k : ℕ). next_at (block s k)) (walked-get_or held i (omega arith))
-        ∙ sym (walk-next s (block_of s b) i (omega (arith, held.count)))
-        ∙ ap (λ (n : ℕ). get_or ks n 0) (sym (add-one i))
-        ∙ sym (walked-get_or held (i + 1) h)
+        ap (λ (js : List ℕ). next_at (block s (get_or js i 0))) held
+        ∙ sym (walk-next s (block_of s b) i (omega (arith, ap length held)))
+        ∙ ap (λ (n : ℕ). get_or (walk s (block_of s b)) n 0) (sym (add-one i))
+        ∙ ap (λ (js : List ℕ). get_or js (i + 1) 0) (sym held)
 
-    pub chain-turn : i + 1 < n
-        → linked s b (at i) (drop (i + 1) ks) ≡ link_ok s b (at i) (at (i + 1)) && linked s b (at (i + 1)) (drop (i + 1 + 1) ks)
+    pub chain-turn : i + 1 < length ks
+        → linked s b (get_or ks i 0) (drop (i + 1) ks)
+        ≡ link_ok s b (get_or ks i 0) (get_or ks (i + 1) 0) && linked s b (get_or ks (i + 1) 0) (drop (i + 1 + 1) ks)
     chain-turn h =
         ap (linked s b (at i))
-        (drop-cons ks (i + 1) 0 (omega (arith, held.count))
-        ∙ ap₂ (λ (k n : ℕ). k ∷ drop n ks) (sym (walked-get_or held (i + 1) h)) (sym (add-one (i + 1))))
+        (drop-cons ks (i + 1) 0 h ∙ ap (λ (n : ℕ). at (i + 1) ∷ drop n ks) (sym (add-one (i + 1))))
         ∙ linked-cons s b (at i) (at (i + 1)) (drop (i + 1 + 1) ks) (link-next h)
 
-    pub chain-end : n ≤ i + 1 → linked s b (at i) (drop (i + 1) ks) ≡ eqb (next_at (block s (at i))) no_link
+    pub chain-end : length ks ≤ i + 1
+        → linked s b (get_or ks i 0) (drop (i + 1) ks) ≡ eqb (next_at (block s (get_or ks i 0))) no_link
     unfolding linked
-    chain-end h = ap (linked s b (at i)) (drop_of_length-le ks {i = i + 1} (omega (arith, held.count)))
+    chain-end h = ap (linked s b (at i)) (drop_of_length-le ks {i = i + 1} h)
 
-  trail-count : n ≡ suc (length (trail s b))
-  unfolding walk
-  trail-count = held.count
+trail-count : (s : List ℕ) (b : ℕ) {bs : List ℕ} {n : ℕ} → Walked s (block_of s b) bs n → n ≡ suc (length (trail s b))
+unfolding walk
+trail-count s b held = held.count
 
 -- ---- from bucket to bucket
 

@@ -37,12 +37,10 @@ fn check_made(store: &[u8], map: &[u8], m: Meta) -> bool
     ensures { result ≡ all (bit_ok store.now) (up_from 0 (top_at store.now)) }
 {
     let top = top_of(m);
-    let mut n = 0;
-    while n < top {
+    for n in 0..top {
         if !check_bit(store, map, m, n) {
             return false;
         }
-        n += 1;
     }
     true
 }

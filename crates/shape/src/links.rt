@@ -4,11 +4,10 @@ ghost use Rattle.lists.specs.Lists.{tally, up_from};
 ghost use Rattle.lists.specs.Block.{blocks};
 ghost use Rattle.image.specs.Decode.{block_of};
 ghost use Rattle.image.specs.Rules.{is_overflow, link_ok, rule4};
-ghost use Rattle.chain.specs.Walk.{Walked};
+ghost use Rattle.chain.specs.Walk.{walk};
 ghost use Rattle.reader.specs.Known.{Known2};
 ghost use Rattle.shape.specs.ChainedLaws.{chained};
 
-use address::limits::MAX_BLOCKS;
 use chain::links::{next_block, zero_walk};
 use image::Meta;
 use page::slots::count_entries;
@@ -35,20 +34,20 @@ fn check_link(store: &[u8], m: Meta, b: u32, k: u32, j: u32) -> bool
     0 < count_entries(part)
 }
 
-// Whether the walk of bucket `b` is linked, and ends.
-fn check_chain(store: &[u8], blocks: &[u32; MAX_BLOCKS + 1], count: usize, m: Meta, b: u32) -> bool
+// Whether the walk of bucket `b`, of these blocks, is linked, and ends.
+fn check_chain(store: &[u8], blocks: &[u32], m: Meta, b: u32) -> bool
     requires known2 { Known2 store.now m }
-    requires walked { Walked store.now (block_of store.now b) blocks.now count }
+    requires walked { blocks.now ≡ walk store.now (block_of store.now b) }
     ensures { result ≡ chained store.now b }
 {
-    let mut i = 0;
-    while i + 1 < count {
-        if !check_link(store, m, b, blocks[i], blocks[i + 1]) {
+    let mut last = blocks[0];
+    for next in &blocks[1..] {
+        if !check_link(store, m, b, last, *next) {
             return false;
         }
-        i += 1;
+        last = *next;
     }
-    next_block(store, blocks[i]) == NO_LINK
+    next_block(store, last) == NO_LINK
 }
 
 // The number of overflow pages.
@@ -58,12 +57,10 @@ fn count_overflow(store: &[u8], m: Meta) -> usize
 {
     let size = store.len() / 512;
     let mut n = 0;
-    let mut k = 0;
-    while k < size {
+    for k in 0..size {
         if is_overflow(store, m, k as u32) {
             n += 1;
         }
-        k += 1;
     }
     n
 }
@@ -74,17 +71,14 @@ pub fn check_links(store: &[u8], m: Meta) -> bool
     requires { Known2 store.now m }
     ensures { result ≡ rule4 store.now }
 {
-    let max = m.max;
     let mut blocks = zero_walk();
     let mut links = 0;
-    let mut b = 0;
-    while b <= max {
+    for b in 0..m.max + 1 {
         let count = walk_bucket(store, &mut blocks, m, b);
-        if !check_chain(store, &blocks, count, m, b) {
+        if !check_chain(store, &blocks[..count], m, b) {
             return false;
         }
         links += count - 1;
-        b += 1;
     }
     links == count_overflow(store, m)
 }

@@ -109,12 +109,10 @@ fn check_fits(store: &[u8], m: Meta) -> bool
         (block store.now k)) (up_from 0 (blocks store.now)) }
 {
     let size = store.len() / 512;
-    let mut k = 0;
-    while k < size {
+    for k in 0..size {
         if !fits_role(block_at(store, k), m.max, role_at(m, k as u32)) {
             return false;
         }
-        k += 1;
     }
     true
 }

@@ -1,6 +1,6 @@
 -- The turns of the loop along the old chain: what the page at index i tells.
-use Rattle.std.proofs.Common.{◌≡◌, refl, sym, ap, ◌∙◌, subst, Bool, true, false, List, [], ◌++◌, append-nil, append_assoc}
-use Rattle.std.proofs.Common.{ℕ, ◌+◌, ◌-◌, ◌*◌, ◌≤◌, ◌<◌, arith, length, get_or, take, drop, length-append}
+use Rattle.std.proofs.Common.{◌≡◌, refl, sym, ap, ◌∙◌, subst, Bool, true, false, List, ◌++◌, append-nil, append_assoc}
+use Rattle.std.proofs.Common.{ℕ, ◌+◌, ◌-◌, ◌*◌, ◌≤◌, ◌<◌, arith, length, get_or, take, drop, length-append, drop_of_length-le}
 use Rattle.std.proofs.Common.{get_or-append-add}
 use Rattle.std.proofs.Math.Option.{none, some}
 use Rattle.std.proofs.Math.ListN.{get_or-append}
@@ -13,14 +13,15 @@ use Rattle.page.specs.PairLaws.{same_refl}
 use Rattle.page.specs.Entries.{entries_of}
 use Rattle.frame.specs.ListsLaws.{find-zero}
 use Rattle.chain.specs.Search.{pair_on, found_as, find_in}
-use Rattle.chain.specs.Within.{entries_on, Within, PageOn}
-use Rattle.chain.specs.WithinLaws.{rest-turn, rest-done, search-here, search-later}
+use Rattle.chain.specs.Within.{entries_on}
+use Rattle.chain.specs.Lent.{PageOn}
+use Rattle.chain.specs.LentLaws.{left-turn}
+use Rattle.chain.specs.FindLaws.{find-here, find-later}
 use Rattle.split.specs.Seek.{Before, AnswersFrom, Stands, found_on}
 use Rattle.split.specs.SeekLaws.{before-part, sought-part}
 use Rattle.split.specs.OldChainLaws.{front-parts, front-none, front-pages}
 use Rattle.split.specs.declared.Spot.{Spot}
 use Rattle.split.specs.Spot.{SpotOn}
-use Rattle.std.proofs.Math.Seq.{take-length}
 
 -- all entries of the pair pass
 abbrev pub PairPasses : (Entry → Bool) → Pair → Type 0
@@ -49,8 +50,8 @@ behind-spot {s} {ks} {g} {j} e t z =
       pages = front-pages s ks g.index t j z few;
     }
 
-module _ {s ks : List ℕ} (ok : Within s ks (length ks)) {t : Entry → Bool} {k i : ℕ} (h : Behind s ks t k i) where
-  module _ (more : i < length ks) {l : List ℕ} (on : PageOn s ks (length ks) i l) where
+module _ {s ks : List ℕ} {t : Entry → Bool} {k i : ℕ} (h : Behind s ks t k i) where
+  module _ (more : i < length ks) {l : List ℕ} (on : PageOn s ks i l) where
     abbrev fs : List Entry
     fs = bind (drop (i + 1) ks) (entries_on s)
 
@@ -58,8 +59,7 @@ module _ {s ks : List ℕ} (ok : Within s ks (length ks)) {t : Entry → Bool} {
     turn =
         h.parts
         ∙ ap (λ (es : List Entry). h.front ++ es)
-        (subst (λ (js : List ℕ). bind (drop i js) (entries_on s)
-        ≡ entries_on s (get_or ks i 0) ++ bind (drop (i + 1) js) (entries_on s)) (take-length ks) (rest-turn ok i more)
+        (left-turn s ks i more
         ∙ ap (λ (x : List ℕ). entries_of x ++ fs) (sym on.page))
 
     pub page-start : (j : ℕ) {m : ℕ} → m ≡ j - k → Before t (bind ks (entries_on s)) j → Before t (entries_of l) m
@@ -93,13 +93,10 @@ module _ {s ks : List ℕ} (ok : Within s ks (length ks)) {t : Entry → Bool} {
 
     -- a search along the blocks ends at this one or goes on
     here : (u : ℕ → Bool) → u (get_or ks i 0) ≡ true → find u (drop i ks) ≡ some (get_or ks i 0)
-    here u y =
-        subst (λ (js : List ℕ). find u (drop i js) ≡ some (get_or ks i 0)) (take-length ks) (search-here ok i more u y)
+    here u y = find-here u ks i 0 more y
 
     later : (u : ℕ → Bool) → u (get_or ks i 0) ≡ false → find u (drop i ks) ≡ find u (drop (i + 1) ks)
-    later u y =
-        subst (λ (js : List ℕ). find u (drop i js) ≡ find u (drop (i + 1) js)) (take-length ks)
-        (search-later ok i more u y)
+    later u y = find-later u ks i 0 more y
 
     -- its page is the first that has its pair
     pub page-located : {e : Entry} → find t (entries_of l) ≡ some e → PairPasses t e.pair
@@ -147,6 +144,6 @@ module _ {s ks : List ℕ} (ok : Within s ks (length ks)) {t : Entry → Bool} {
       let all : bind ks (entries_on s) ≡ h.front =
       h.parts
       ∙ ap (λ (es : List Entry). h.front ++ es)
-      (subst (λ (js : List ℕ). bind (drop i js) (entries_on s) ≡ []) (take-length ks) (rest-done ok i past))
+      (ap (λ (js : List ℕ). bind js (entries_on s)) (drop_of_length-le ks {i = i} past))
       ∙ append-nil h.front in
       find-zero t (bind ks (entries_on s)) (ap (tally t) all ∙ h.none)

@@ -23,8 +23,9 @@ use Rattle.frame.specs.ListsLaws.{find-zero, find-right}
 use Rattle.chain.specs.Walk.{walk}
 use Rattle.chain.specs.WalkLaws.{walk-next, walk-link, walk-last}
 use Rattle.chain.specs.Search.{pair_on, find_in}
-use Rattle.chain.specs.Within.{entries_on, PagesOk, Within, PageOn}
-use Rattle.chain.specs.WithinLaws.{block_inside, block-whole, block-page}
+use Rattle.chain.specs.Within.{entries_on, PagesOk}
+use Rattle.chain.specs.Lent.{Within, PageOn}
+use Rattle.chain.specs.LentLaws.{lent, at-inside, at-whole, at-page}
 use Rattle.chain.specs.FindLaws.{any-bind}
 use Rattle.view.specs.Reads.{Reads}
 use Rattle.view.specs.ChainLaws.{walk-read, walk-bounded, blocks-within, pages-read, entries-read}
@@ -35,19 +36,19 @@ use Rattle.split.specs.SeekLaws.{before-left, before-all}
 
 -- ---- the pages of a chain whose blocks ks are in no array
 
-module _ {s ks : List ℕ} (ok : Within s ks (length ks)) {i k : ℕ} (inside : i < length ks) (at : k ≡ get_or ks i 0) where
-  pub chain-page : {l : List ℕ} → l ≡ block s k → PageOn s ks (length ks) i l
-  chain-page e = block-page ok i inside (e ∙ ap (block s) at)
+module _ {s ks : List ℕ} (ok : Within s ks) {i k : ℕ} (inside : i < length ks) (at : k ≡ get_or ks i 0) where
+  pub chain-page : {l : List ℕ} → l ≡ block s k → PageOn s ks i l
+  chain-page e = at-page ok i inside (e ∙ ap (block s) at)
 
   pub chain-inside : k < blocks s
-  chain-inside = omega (arith, at, block_inside ok i inside)
+  chain-inside = omega (arith, at, at-inside ok i inside)
 
   pub chain-whole : 512 * k + 512 ≤ length s
-  chain-whole = omega (arith, at, block-whole ok i inside)
+  chain-whole = omega (arith, at, at-whole ok i inside)
 
-module _ {s ks : List ℕ} {i : ℕ} {l : List ℕ} (on : PageOn s ks (length ks) i l) (pages : PagesOk s ks) where
+module _ {s ks : List ℕ} {i : ℕ} {l : List ℕ} (on : PageOn s ks i l) (pages : PagesOk s ks) where
   pub chain-sorted : Sorted l
-  chain-sorted = on.sorted (subst (PagesOk s) (sym (take-length ks)) pages)
+  chain-sorted = on.sorted pages
 
   -- a page has at most 40 entries
   pub chain-few : length (entries_of l) ≤ 40
@@ -55,7 +56,7 @@ module _ {s ks : List ℕ} {i : ℕ} {l : List ℕ} (on : PageOn s ks (length ks
 
 -- ---- the block after the one at index i
 
-module _ {s : List ℕ} (first : ℕ) {i : ℕ} {l : List ℕ} (on : PageOn s (walk s first) (length (walk s first)) i l)
+module _ {s : List ℕ} (first : ℕ) {i : ℕ} {l : List ℕ} (on : PageOn s (walk s first) i l)
     (inside : i < length (walk s first)) {next : ℕ} (read : next ≡ next_at l) where
   leads : next ≡ next_at (block s (get_or (walk s first) i 0))
   leads = read ∙ ap next_at on.page
@@ -94,7 +95,7 @@ module _ (s ks : List ℕ) (i : ℕ) where
       ∙ bind-append (entries_on s) (take i ks) (drop i ks)
 
   -- and on the page at index i
-  pub front-more : i < length ks → {l : List ℕ} → PageOn s ks (length ks) i l
+  pub front-more : i < length ks → {l : List ℕ} → PageOn s ks i l
       → length (bind (take (i + 1) ks) (entries_on s)) ≡ length front + length (entries_of l)
   front-more h on =
       ap (λ (j : ℕ). length (bind (take j ks) (entries_on s))) (add-one i)
@@ -129,10 +130,11 @@ module _ {s : List ℕ} {m : Meta} (r : Reads s m) (b : ℕ) (made : b ≤ m.max
     read_walk : walk s first ≡ chain_blocks (decode s) b (chain (decode s) b)
     read_walk = ap (walk s) home ∙ walk-read r b made
 
-    pub read-within : Within s (walk s first) (length (walk s first))
+    pub read-within : Within s (walk s first)
     read-within =
         let whole = take-length (walk s first) in
-        blocks-within r b made (walk s first) (length (walk s first)) (whole ∙ read_walk) (sym (ap length whole))
+        subst (Within s) whole
+        (lent (blocks-within r b made (walk s first) (length (walk s first)) (whole ∙ read_walk) (sym (ap length whole))))
 
     pub read-pages : PagesOk s (walk s first)
     read-pages = subst (PagesOk s) (sym read_walk) (pages-read r b made)

@@ -4,7 +4,8 @@ ghost use Rattle.lists.specs.Block.{blocks};
 ghost use Rattle.model.specs.Index.{old_bucket};
 ghost use Rattle.image.specs.Decode.{block_of, decode};
 ghost use Rattle.chain.specs.Walk.{walk};
-ghost use Rattle.chain.specs.Within.{PagesOk, Within};
+ghost use Rattle.chain.specs.Within.{PagesOk};
+ghost use Rattle.chain.specs.Lent.{Within};
 ghost use Rattle.view.specs.Reads.{Reads};
 ghost use Rattle.split.specs.Spot.{SpotOn, SpotIn};
 
@@ -27,8 +28,8 @@ pub fn old_home(store: &[u8], m: Meta) -> u32
 // The page of the chain from `first` on to which the place `from` leads: pages all of whose entries stand before it are
 // passed over, but for the last, from the page at `spot` on.
 fn skip_pages(store: &[u8], first: u32, from: usize, spot: Spot) -> Spot
-    requires within { (Within store.now (walk store.now first) (length (walk store.now first)))
-        × (PagesOk store.now (walk store.now first)) × (length (walk store.now first) ≤ blocks store.now) }
+    requires within { (Within store.now (walk store.now first)) × (PagesOk store.now (walk store.now first))
+        × (length (walk store.now first) ≤ blocks store.now) }
     requires spot_on { SpotOn store.now (walk store.now first) spot from }
     ensures { SpotOn store.now (walk store.now first) result from }
 {

@@ -11,7 +11,8 @@ ghost use Rattle.model.specs.Steps.{moves};
 ghost use Rattle.image.specs.Decode.{decode};
 ghost use Rattle.chain.specs.Walk.{walk};
 ghost use Rattle.chain.specs.Search.{find_in};
-ghost use Rattle.chain.specs.Within.{entries_on, PagesOk, Within};
+ghost use Rattle.chain.specs.Within.{entries_on, PagesOk};
+ghost use Rattle.chain.specs.Lent.{Within};
 ghost use Rattle.view.specs.Reads.{Reads};
 ghost use Rattle.view.specs.Places.{find_at};
 ghost use Rattle.split.specs.Mover.{movable, Copies};
@@ -50,22 +51,15 @@ fn is_moving(m: Meta, e: Entry) -> bool
     bucket_of(e.pair.hash, m.max) == m.max
 }
 
-// Whether it does, and stands on none of the pages of the first `walked` blocks of `copies`.
-fn is_uncopied(
-    store: &[u8],
-    copies: &[u32; MAX_BLOCKS + 1],
-    walked: usize,
-    m: Meta,
-    e: Entry,
-) -> bool
-    requires { (Reads store.now m) × (Within store.now copies.now walked) × (PagesOk store.now (take walked copies.now)) }
-    ensures { result ≡ (moves (decode store.now) e
-        && not (is_some (find_in store.now (take walked copies.now) e.pair))) }
+// Whether it does, and stands on none of the pages of the blocks `copies`.
+fn is_uncopied(store: &[u8], copies: &[u32], m: Meta, e: Entry) -> bool
+    requires { (Reads store.now m) × (Within store.now copies.now) × (PagesOk store.now copies.now) }
+    ensures { result ≡ (moves (decode store.now) e && not (is_some (find_in store.now copies.now e.pair))) }
 {
     if !is_moving(m, e) {
         return false;
     }
-    find_pair(store, copies, walked, e.pair).is_none()
+    find_pair(store, copies, e.pair).is_none()
 }
 
 // The first entry from slot `from` on of the page in a block that passes the test.
@@ -105,8 +99,8 @@ fn first_in_chain<F: Fn(Entry) -> bool>(
     spot: Spot,
     test: &F,
 ) -> Option<Mover>
-    requires within { (Within store.now (walk store.now first) (length (walk store.now first)))
-        × (PagesOk store.now (walk store.now first)) × (length (walk store.now first) ≤ blocks store.now) }
+    requires within { (Within store.now (walk store.now first)) × (PagesOk store.now (walk store.now first))
+        × (length (walk store.now first) ≤ blocks store.now) }
     requires spot_on { SpotOn store.now (walk store.now first) spot from }
     requires callable { F.IsAlwaysCallable test.now }
     ensures searches { Searches (F.post test.now) (decode store.now)
@@ -166,14 +160,15 @@ pub fn first_to_copy(store: &[u8], m: Meta, from: Position, spot: Spot) -> Optio
         (entries_at (decode store.now) (old_bucket (decode store.now))) result }
     ensures result_bound { IfSome result (λ v. v.place < 40 * suc max_blocks) }
 {
-    let mut copies = zero_walk();
-    let walked = walk_copies(store, &mut copies, m, from.fresh);
+    let mut blocks = zero_walk();
+    let walked = walk_copies(store, &mut blocks, m, from.fresh);
+    let copies = &blocks[..walked];
     first_in_old(
         store,
         m,
         from.place,
         spot,
-        &|e: Entry| { is_uncopied(store, &copies, walked, m, e) },
+        &|e: Entry| { is_uncopied(store, copies, m, e) },
     )
 }
 

@@ -19,7 +19,7 @@ pub fn find_in(store: &[u8], m: Meta, b: u32, pair: Pair) -> Option<Found>
 {
     let mut blocks = zero_walk();
     let count = walk_bucket(store, &mut blocks, m, b);
-    find_pair(store, &blocks, count, pair)
+    find_pair(store, &blocks[..count], pair)
 }
 
 // The first page with room in bucket `b`'s chain, else the chain's last block.

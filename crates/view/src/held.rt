@@ -68,7 +68,7 @@ pub fn find_held(store: &[u8], m: Meta, pair: Pair) -> Option<Found>
     let mut own = zero_walk();
     let mut old = zero_walk();
     let walks = walk_sources(store, &mut own, &mut old, m, pair.hash);
-    find_along(store, &own, walks.own, &old, walks.old, pair)
+    find_along(store, &own[..walks.own], &old[..walks.old], pair)
 }
 
 pub fn is_held(store: &[u8], m: Meta, pair: Pair) -> bool

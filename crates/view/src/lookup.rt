@@ -149,7 +149,7 @@ pub fn lookup_in(store: &[u8], m: Meta, hash: u32, output: &mut [u8]) -> LookupA
     let walks = walk_sources(store, &mut own, &mut old, m, hash);
     let n = walks.own;
     let k = walks.old;
-    let matches = count_along(store, &own, n, &old, k, hash, walks.fresh);
+    let matches = count_along(store, &own[..n], &old[..k], hash, walks.fresh);
     if output.len() / 6 < matches as usize {
         return LookupAnswer::Refused(Refusal::OutputShort { matches });
     }

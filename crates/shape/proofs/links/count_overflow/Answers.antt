@@ -9,37 +9,28 @@ use Rattle.shape.proofs.links.count_overflow.Goals.{else-is_overflow, then-is_ov
 
 pub loop-k-init : goal.loop-k-init
 loop-k-init c =
-    let a = c.args in
-    let e : length a.store.now / 512 - 0 ≡ length a.store.now / 512 = omega arith in
-    (omega arith, omega arith, omega (arith, ap (λ (j : ℕ). tally (is_overflow a.store.now) (up_from 0 j)) e))
+    let n = length c.args.store.now / 512 in
+    let e : n - 0 ≡ n = omega arith in
+    record { few = omega arith; left = omega (arith, ap (λ (j : ℕ). tally (is_overflow c.args.store.now) (up_from 0 j)) e) }
 
 pub overflow_cast-k : goal.overflow_cast-k
 unfolding blocks
 overflow_cast-k c = omega (arith, (sized c.requires).few)
 
-pub is_overflow-requires : goal.is_overflow-requires
-is_overflow-requires c = c.requires
-
-pub overflow_add-n : goal.overflow_add-n
-overflow_add-n c = omega arith
-
-pub overflow_add-k : goal.overflow_add-k
-overflow_add-k c = omega arith
-
-pub loop-k-smaller : goal.loop-k-smaller
-loop-k-smaller c = omega arith
-
 pub loop-k-preserved : goal.loop-k-preserved
 loop-k-preserved c =
-    let turn = ap (tally (is_overflow c.args.store.now)) (run-turn c.loop-k.k (length c.args.store.now / 512) c.loop-k-test.true) in
+    let turn =
+    ap (tally (is_overflow c.args.store.now)) (run-turn c.loop-k.k (length c.args.store.now / 512) c.loop-k-test.true) in
     let found = sym c.is_overflow.ensures in
     elim c.if-is_overflow.branch [
-      | then-is_overflow w ↦ (omega arith, omega arith, omega (arith, c.loop-k.invariant.2, turn, ap b2n (found ∙ w.if-is_overflow.true)))
-      | else-is_overflow w ↦ (omega arith, omega arith, omega (arith, c.loop-k.invariant.2, turn, ap b2n (found ∙ w.if-is_overflow.false)))
+      | then-is_overflow w ↦
+          record { few = omega arith; left = omega (arith, c.loop-k.invariant.left, turn, ap b2n (found ∙ w.if-is_overflow.true)) }
+      | else-is_overflow w ↦
+          record { few = omega arith; left = omega (arith, c.loop-k.invariant.left, turn, ap b2n (found ∙ w.if-is_overflow.false)) }
     ]
 
 pub returns : goal.returns
 unfolding blocks
 returns c =
     let none = ap (tally (is_overflow c.args.store.now)) (run-done c.loop-k.k (length c.args.store.now / 512) c.loop-k-test.false) in
-    omega (arith, c.loop-k.invariant.2, none)
+    omega (arith, c.loop-k.invariant.left, none)

@@ -4,9 +4,7 @@ use Rattle.image.specs.Rules.{is_overflow}
 use Rattle.shape.proofs.links.count_overflow.Given as goal
 
 abbrev pub invariant-loop-k : goal.invariant-loop-k
-invariant-loop-k l =
-    (l.k ≤ l.size) × (l.n ≤ l.k)
-    × (l.n + tally (is_overflow l.store) (up_from l.k (l.size - l.k)) ≡ tally (is_overflow l.store) (up_from 0 l.size))
-
-abbrev pub decreases-loop-k : goal.decreases-loop-k
-decreases-loop-k l = l.size - l.k
+invariant-loop-k l = record {
+  few : l.n ≤ l.k;
+  left : l.n + tally (is_overflow l.store) (up_from l.k (l.size - l.k)) ≡ tally (is_overflow l.store) (up_from 0 l.size);
+}

@@ -41,10 +41,10 @@ returns-in-Some-clause-searches g c b z a =
     let es = entries_of c.block_at-page.result.now in
     let found =
     c.in-Some.ensures.seeks t
-    (page-start w.0 h i.inside on _ c.saturating_sub-start.ensures z)
-    (page-answers w.0 h i.inside on c.saturating_sub-start.ensures a) in (
-      page-found w.0 h i.inside on found,
-      page-located w.0 h i.inside on found.0 (movable-same b _ _ (find-yes t es _ found.0).0)
+    (page-start h i.inside on _ c.saturating_sub-start.ensures z)
+    (page-answers h i.inside on c.saturating_sub-start.ensures a) in (
+      page-found h i.inside on found,
+      page-located h i.inside on found.0 (movable-same b _ _ (find-yes t es _ found.0).0)
           ∙ ap (λ (k : ℕ). found_on k es c.in-Some.found.entry.pair) (sym i.block)
           ∙ c.in-Some.ensures.located,
     )
@@ -76,9 +76,9 @@ returns-then-next-clause-searches g c b z a =
     let es = entries_of c.block_at-page.result.now in
     let none =
     c.in_default.ensures.seeks t
-    (page-start w.0 h i.inside on _ c.saturating_sub-start.ensures z)
-    (page-answers w.0 h i.inside on c.saturating_sub-start.ensures a) in (
-      walk_end w.0 (page-later w.0 h i.inside on none (length es) refl (chain-few on w.1))
+    (page-start h i.inside on _ c.saturating_sub-start.ensures z)
+    (page-answers h i.inside on c.saturating_sub-start.ensures a) in (
+      walk_end (page-later h i.inside on none (length es) refl (chain-few on w.1))
           (link-end c.args.first on i.inside c.next_at-next.ensures c.if-next.true),
       tt,
     )
@@ -116,7 +116,7 @@ loop-found-preserved g c =
           let t = movable b (decode c.args.store.now) in
           let none =
           c.in_default.ensures.seeks t
-          (page-start w.0 h i.inside on _ c.saturating_sub-start.ensures z)
-          (page-answers w.0 h i.inside on c.saturating_sub-start.ensures a) in
-          page-later w.0 h i.inside on none c.count_entries-passed.result number (omega (arith, number, chain-few on w.1));
+          (page-start h i.inside on _ c.saturating_sub-start.ensures z)
+          (page-answers h i.inside on c.saturating_sub-start.ensures a) in
+          page-later h i.inside on none c.count_entries-passed.result number (omega (arith, number, chain-few on w.1));
     }

@@ -1,5 +1,6 @@
-use Rattle.std.proofs.Common.{true, rules}
-use Rattle.split.specs.MoverLaws.{copies-within, copies-pages, copy-answers}
+use Rattle.std.proofs.Common.{true, arith, rules}
+use Rattle.std.proofs.lemmas.List.{length-take}
+use Rattle.split.specs.MoverLaws.{copies-count, copies-within, copies-pages, copy-answers}
 use Rattle.split.proofs.search.first_to_copy.Goals as goal
 
 pub first_in_old-requires-clause-callable : goal.first_in_old-requires-clause-callable
@@ -8,6 +9,15 @@ first_in_old-requires-clause-callable c =
     let w = copies-within r c.args.from.fresh _ _ c.walk_copies-walked.ensures in
     let p = copies-pages r c.args.from.fresh _ _ c.walk_copies-walked.ensures in
     search rules
+
+pub slice_bounds-blocks-end : goal.slice_bounds-blocks-end
+slice_bounds-blocks-end c =
+    let w = c.walk_copies-walked in
+    let count = copies-count c.requires.reads c.args.from.fresh _ _ w.ensures in
+    omega (arith, count, length-take w.result w.new.copies)
+
+pub slice_bounds-copies-end : goal.slice_bounds-copies-end
+slice_bounds-copies-end c = copies-count c.requires.reads c.args.from.fresh _ _ c.walk_copies-walked.ensures
 
 pub returns-clause-seeks : goal.returns-clause-seeks
 returns-clause-seeks c =
