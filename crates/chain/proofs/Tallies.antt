@@ -21,7 +21,7 @@ use Rattle.page.proofs.RuleLaws.{number-le}
 use Rattle.page.proofs.RunPartLaws.{get_or-run_entries, run-entries, run_length_lem}
 use Rattle.model.specs.TallyLaws.{and_comm}
 use Rattle.chain.specs.Within.{entries_on}
-use Rattle.chain.specs.LentLaws.{left-turn}
+use Rattle.chain.specs.WithinLaws.{rest-turn}
 use Rattle.chain.specs.Pairs.{is_match}
 
 abbrev pub unmoved : Entry → Bool
@@ -79,7 +79,7 @@ module _ (s ks : List ℕ) (t : Entry → Bool) (i n : ℕ)
       omega (
         arith,
         left,
-        ap (tally t) (left-turn s ks i more),
+        ap (tally t) (rest-turn s ks i more),
         tally-append t (entries_on s (get_or ks i 0)) (bind (drop (i + 1) ks) (entries_on s)),
         e ∙ ap (λ (y : List ℕ). tally t (entries_of y)) on,
       )

@@ -3,8 +3,6 @@ pub mod Walk
 pub mod WalkLaws
 pub mod Within
 pub mod WithinLaws
-pub mod Lent
-pub mod LentLaws
 pub mod Search
 pub mod Pairs
 pub mod PairsLaws

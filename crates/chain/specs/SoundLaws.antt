@@ -47,7 +47,7 @@ module _ (s : List ℕ) (g : SoundBytes s) where
         each_all (λ k. page_ok (block s k)) (walk s (block_of s b))
         (each_map (PageRead s g) (λ k. page_ok (block s k) ≡ true) (λ k r. r.rule) (walk s (block_of s b)) read)
 
-    pub sound-within : {bs : List ℕ} {n : ℕ} → Walked s (block_of s b) bs n → Within s bs n
+    pub sound-within : {bs : List ℕ} {n : ℕ} → Walked s (block_of s b) bs n → Within s (take n bs)
     sound-within held = walked-within held sound-sized sound-inside
 
     pub sound-walked : {bs : List ℕ} {n : ℕ} → Walked s (block_of s b) bs n → PagesOk s (take n bs)

@@ -1,5 +1,5 @@
--- A walk as it is lent, the first n of a list of blocks: what the loops along it ask, and its pages.
-use Rattle.std.specs.Prelude.{◌≡◌, true, List, ℕ, suc, ◌≤◌, ◌<◌, length, get_or, take}
+-- A walk as it is lent, a slice of blocks: what the loops along it ask, and its pages.
+use Rattle.std.specs.Prelude.{◌≡◌, true, List, ℕ, suc, ◌≤◌, ◌<◌, length, get_or}
 use Rattle.lists.specs.Lists.{all, Each}
 use Rattle.lists.specs.Block.{blocks, block}
 use Rattle.page.specs.declared.Entry.{Entry}
@@ -17,15 +17,14 @@ module _ (s : List ℕ) where
   abbrev pub PagesOk : List ℕ → Type 0
   PagesOk ks = all (λ k. page_ok (block s k)) ks ≡ true
 
-  module _ (bs : List ℕ) (n : ℕ) where
-    -- the number is right, and the blocks are the store's
+  module _ (ks : List ℕ) where
+    -- the blocks are no more than a walk has room for, and the store's
     pub record Within : Type 0 where
-      pub few : n ≤ suc max_blocks
-      pub count : length (take n bs) ≡ n
-      pub inside : Each (λ k. k < blocks s) (take n bs)
+      pub few : length ks ≤ suc max_blocks
+      pub inside : Each (λ k. k < blocks s) ks
 
     -- l is the page at index i; where the pages pass the rule it is sorted
     pub record PageOn (i : ℕ) (l : List ℕ) : Type 0 where
-      pub page : l ≡ block s (get_or bs i 0)
+      pub page : l ≡ block s (get_or ks i 0)
       pub whole : length l ≡ 512
-      pub sorted : PagesOk (take n bs) → Sorted l
+      pub sorted : PagesOk ks → Sorted l

@@ -1,8 +1,7 @@
 // The pairs of a hash code along two walks: that of its own bucket's chain, of which only the unmoved entries count where
 // `fresh`, and that of the old chain, of no block where there is no such chain.
 ghost use Rattle.std.specs.Prelude.{◌≡◌, length};
-ghost use Rattle.chain.specs.Within.{PagesOk};
-ghost use Rattle.chain.specs.Lent.{Within};
+ghost use Rattle.chain.specs.Within.{PagesOk, Within};
 ghost use Rattle.chain.specs.Along.{pairs_along, find_along};
 
 use crate::Found;

@@ -3,8 +3,7 @@ ghost use Rattle.std.specs.Prelude.{◌≡◌, true, not, ◌*◌, ◌≤◌, le
 ghost use Rattle.lists.specs.Lists.{b2n, tally, bind};
 ghost use Rattle.page.specs.Entries.{entries_of};
 ghost use Rattle.page.specs.Allowed.{Sorted};
-ghost use Rattle.chain.specs.Within.{entries_on, PagesOk};
-ghost use Rattle.chain.specs.Lent.{Within};
+ghost use Rattle.chain.specs.Within.{entries_on, PagesOk, Within};
 ghost use Rattle.chain.specs.Pairs.{is_match};
 
 use page::Entry;

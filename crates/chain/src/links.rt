@@ -1,10 +1,9 @@
-// The blocks of a chain, as the next fields lead, and the page at an index of a walk.
-ghost use Rattle.std.specs.Prelude.{◌≡◌, suc, ◌<◌, length, replicate};
+// The blocks of a chain, as the next fields lead.
+ghost use Rattle.std.specs.Prelude.{◌≡◌, suc, length, replicate};
 ghost use Rattle.lists.specs.Block.{block};
 ghost use Rattle.address.specs.Limits.{max_blocks};
 ghost use Rattle.store.specs.Store.{next_at};
 ghost use Rattle.chain.specs.Walk.{Sized, walk, Bounded, last_of, Walked};
-ghost use Rattle.chain.specs.Within.{Within, PageOn};
 
 use address::limits::MAX_BLOCKS;
 use store::flags::NO_LINK;
@@ -63,17 +62,4 @@ pub fn walk_chain(store: &[u8], blocks: &mut [u32; MAX_BLOCKS + 1], first: u32) 
         last = next;
     }
     n + 1
-}
-
-// The page at index `i` of a walk.
-pub fn page_on<'a>(
-    store: &'a [u8],
-    blocks: &[u32; MAX_BLOCKS + 1],
-    count: usize,
-    i: usize,
-) -> &'a [u8]
-    requires { (Within store.now blocks.now count) × (i < count) }
-    ensures { PageOn store.now blocks.now count i result.now }
-{
-    block_at(store, blocks[i] as usize)
 }

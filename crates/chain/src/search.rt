@@ -4,8 +4,7 @@ ghost use Rattle.page.specs.Entries.{entries_of};
 ghost use Rattle.page.specs.Allowed.{Sorted};
 ghost use Rattle.chain.specs.Walk.{walk, Bounded};
 ghost use Rattle.chain.specs.Search.{slot_in, find_in, room_in};
-ghost use Rattle.chain.specs.Within.{PagesOk};
-ghost use Rattle.chain.specs.Lent.{Within};
+ghost use Rattle.chain.specs.Within.{PagesOk, Within};
 
 use crate::{Found, Room};
 use page::Pair;

@@ -25,7 +25,7 @@ use Rattle.entries.proofs.Walking.{page-sorted}
 use Rattle.entries.specs.NextLaws.{next-least, next-any}
 
 -- a walk of one page, or none
-pub one-page : (s walk : List ℕ) → Within s walk (length walk) → PagesOk s walk → length walk ≤ 1
+pub one-page : (s walk : List ℕ) → Within s walk → PagesOk s walk → length walk ≤ 1
     → distinct (bind walk (entries_on s)) ≡ true
 unfolding order_ok
 one-page s [] ok pages few = refl

@@ -1,6 +1,5 @@
 -- The turns of the loops along a walk that test or count the entries on its pages.
 use Rattle.std.proofs.Common.{◌≡◌, Bool, true, ◌&&◌, List, ◌∷◌, ℕ, ◌+◌, ◌≤◌, ◌<◌, length, get_or, drop, sym, ap, ◌∙◌, add-one, arith, drop-cons, drop_of_length-le}
-use Rattle.std.proofs.lemmas.List.{take_all}
 use Rattle.lists.specs.Lists.{all, tally, bind}
 use Rattle.lists.specs.ListsLaws.{tally-append}
 use Rattle.lists.specs.Block.{block}
@@ -13,15 +12,15 @@ use Rattle.merge.specs.Heads.{Pages}
 use Rattle.merge.specs.WalksLaws.{walk-pages}
 use Rattle.shape.specs.LoopLaws.{all_join}
 
-pub page-sorted : {s walk : List ℕ} → Within s walk (length walk) → PagesOk s walk → (i : ℕ) → i < length walk
+pub page-sorted : {s walk : List ℕ} → Within s walk → PagesOk s walk → (i : ℕ) → i < length walk
     → Sorted (block s (get_or walk i 0))
 page-sorted {s} {walk} ok pages i more =
-    block-sorted ok i more (rw (take_all (length walk) walk (omega arith)) pages)
+    block-sorted ok i more pages
 
-pub walk-merge : {s walk : List ℕ} → Bytes s → Within s walk (length walk) → PagesOk s walk
+pub walk-merge : {s walk : List ℕ} → Bytes s → Within s walk → PagesOk s walk
     → Pages s walk (length walk)
 walk-merge {s} {walk} bytes ok pages =
-    walk-pages s walk bytes (omega (arith, ok.few)) (rw (take_all (length walk) walk (omega arith)) at ok.inside) pages
+    walk-pages s walk bytes (omega (arith, ok.few)) ok.inside pages
 
 module _ (s walk : List ℕ) (t : Entry → Bool) (i : ℕ) where
   -- the entries on the pages from index k on

@@ -2,7 +2,6 @@
 -- stays inside the store, and holds pages.
 use Rattle.std.specs.Prelude.{◌≡◌, true, List, ◌∷◌, length, take}
 use Rattle.std.proofs.Common.{sym, ◌∙◌, arith}
-use Rattle.std.proofs.lemmas.List.{take_all}
 use Rattle.std.proofs.Math.Path.{ap}
 use Rattle.std.proofs.Math.Bool.{Bool}
 use Prim.Native.Nat.{ℕ, suc, ◌≤◌}
@@ -35,16 +34,11 @@ module _ {s : List ℕ} (b : ℕ) (made : b ≤ max_at s) where
       (omega arith)
 
   module _ {bs : List ℕ} {n : ℕ} (held : Walked s (block_of s b) bs n) where
-    pub walk-within : {m : Meta} → Known4 s m → Within s (take n bs) (length (take n bs))
+    pub walk-within : {m : Meta} → Known4 s m → Within s (take n bs)
     unfolding walk
     walk-within k =
         let two = k.known.known in
-        let w = walked-within held (sized two) (bucket-inside two b made, trail-inside two b (chain-linked k)) in
-        record {
-          few = omega (arith, w.few, w.count);
-          count = ap length (take_all (length (take n bs)) (take n bs) (omega arith));
-          inside = rw (take_all (length (take n bs)) (take n bs) (omega arith)) w.inside;
-        }
+        walked-within held (sized two) (bucket-inside two b made, trail-inside two b (chain-linked k))
 
     pub walk-some : 1 ≤ length (take n bs)
     walk-some = omega (arith, walked-some held, held.count, ap length held.blocks)

@@ -62,7 +62,7 @@ fn count_page(page: &[u8], phase: Phase, max: u32, b: u32) -> u32
 
 // The number of held entries of a walk, that of bucket `b`.
 fn count_walk(store: &[u8], walk: &[u32], phase: Phase, max: u32, b: u32) -> u32
-    requires { (Within store.now walk.now (length walk.now)) × (PagesOk store.now walk.now) }
+    requires { (Within store.now walk.now) × (PagesOk store.now walk.now) }
     ensures { (result ≡ tally (live_in phase max b) (bind walk.now (entries_on store.now)))
         × (result ≤ 40 * suc max_blocks) }
 {

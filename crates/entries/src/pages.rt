@@ -19,7 +19,7 @@ use store::block_at;
 
 // Whether each block of the walk is a page.
 fn check_blocks(store: &[u8], walk: &[u32]) -> bool
-    requires { Within store.now walk.now (length walk.now) }
+    requires { Within store.now walk.now }
     ensures { result ≡ all (λ k. page_ok (block store.now k)) walk.now }
 {
     for block in walk {
@@ -47,7 +47,7 @@ fn all_distinct(merge: &mut Merge, store: &[u8], pages: &[u32]) -> bool
 
 // Whether no pair stands twice in the pages of the walk.
 fn check_distinct(merge: &mut Merge, store: &[u8], walk: &[u32]) -> bool
-    requires { (Within store.now walk.now (length walk.now)) × (PagesOk store.now walk.now) }
+    requires { (Within store.now walk.now) × (PagesOk store.now walk.now) }
     ensures { result ≡ distinct (bind walk.now (entries_on store.now)) }
 {
     if walk.len() <= 1 {

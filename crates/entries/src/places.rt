@@ -53,7 +53,7 @@ fn check_page_places(page: &[u8], max: u32, phase: Phase, b: u32) -> bool
 
 // Whether each entry of the walk may stand in the chain of bucket `b`.
 fn check_walk_places(store: &[u8], walk: &[u32], max: u32, phase: Phase, b: u32) -> bool
-    requires { (Within store.now walk.now (length walk.now)) × (PagesOk store.now walk.now) }
+    requires { (Within store.now walk.now) × (PagesOk store.now walk.now) }
     ensures { result ≡ all (λ e. stands_in phase (bucket_of max e.pair.hash) b)
         (bind walk.now (entries_on store.now)) }
 {

@@ -13,9 +13,8 @@ use Rattle.page.specs.PairLaws.{same_refl}
 use Rattle.page.specs.Entries.{entries_of}
 use Rattle.frame.specs.ListsLaws.{find-zero}
 use Rattle.chain.specs.Search.{pair_on, found_as, find_in}
-use Rattle.chain.specs.Within.{entries_on}
-use Rattle.chain.specs.Lent.{PageOn}
-use Rattle.chain.specs.LentLaws.{left-turn}
+use Rattle.chain.specs.Within.{entries_on, PageOn}
+use Rattle.chain.specs.WithinLaws.{rest-turn}
 use Rattle.chain.specs.FindLaws.{find-here, find-later}
 use Rattle.split.specs.Seek.{Before, AnswersFrom, Stands, found_on}
 use Rattle.split.specs.SeekLaws.{before-part, sought-part}
@@ -59,7 +58,7 @@ module _ {s ks : List ℕ} {t : Entry → Bool} {k i : ℕ} (h : Behind s ks t k
     turn =
         h.parts
         ∙ ap (λ (es : List Entry). h.front ++ es)
-        (left-turn s ks i more
+        (rest-turn s ks i more
         ∙ ap (λ (x : List ℕ). entries_of x ++ fs) (sym on.page))
 
     pub page-start : (j : ℕ) {m : ℕ} → m ≡ j - k → Before t (bind ks (entries_on s)) j → Before t (entries_of l) m

@@ -24,9 +24,7 @@ use Rattle.image.specs.Decode.{block_of, decode}
 use Rattle.frame.specs.Frame.{chain_blocks}
 use Rattle.chain.specs.Walk.{Walked}
 use Rattle.chain.specs.Search.{at_slot, find_in}
-use Rattle.chain.specs.Within.{PagesOk}
-use Rattle.chain.specs.Lent.{Within}
-use Rattle.chain.specs.LentLaws.{lent}
+use Rattle.chain.specs.Within.{PagesOk, Within}
 use Rattle.chain.specs.FindLaws.{find-here}
 use Rattle.view.specs.Reads.{Reads}
 use Rattle.view.specs.ReadsLaws.{reads-max}
@@ -61,11 +59,11 @@ module _ {s : List ℕ} {m : Meta} (r : Reads s m) where
   pub copies-within : (f : Bool) (bs : List ℕ) (n : ℕ) → Copies f (decode s) bs n → Within s (take n bs)
   copies-within true bs n z =
       subst (λ (j : ℕ). Within s (take j bs)) (sym z) (record { few = omega arith; inside = tt })
-  copies-within false bs n h = lent (blocks-within r (new_bucket (decode s)) new-made bs n h.blocks h.count)
+  copies-within false bs n h = blocks-within r (new_bucket (decode s)) new-made (take n bs) h.blocks
 
   pub copies-pages : (f : Bool) (bs : List ℕ) (n : ℕ) → Copies f (decode s) bs n → PagesOk s (take n bs)
   copies-pages true bs n z = ap (λ (j : ℕ). all (λ (k : ℕ). page_ok (block s k)) (take j bs)) z
-  copies-pages false bs n h = blocks-pages r (new_bucket (decode s)) new-made bs n h.blocks h.count
+  copies-pages false bs n h = blocks-pages r (new_bucket (decode s)) new-made (take n bs) h.blocks
 
 -- ---- one entry
 

@@ -2,7 +2,6 @@
 use Rattle.std.specs.Prelude.{◌≡◌, ◌≢◌, Bool, true, false, List, [], ◌∷◌, ◌++◌, ℕ, pred, ◌+◌, ◌*◌, ◌≤◌, ◌<◌, length, get_or, take, drop}
 use Rattle.std.proofs.Common.{sym, ap, ◌∙◌, subst, append-nil, add-one, arith, take-append-drop, length-append, take-suc}
 use Rattle.std.proofs.Math.Decide.{dec_lt}
-use Rattle.std.proofs.Math.Seq.{take-length}
 use Rattle.lists.specs.Lists.{tally, find, bind, any}
 use Rattle.lists.specs.ListsLaws.{bind-append, tally-le, any-no, zero-any, find-no}
 use Rattle.lists.specs.Block.{blocks, block}
@@ -23,9 +22,8 @@ use Rattle.frame.specs.ListsLaws.{find-zero, find-right}
 use Rattle.chain.specs.Walk.{walk}
 use Rattle.chain.specs.WalkLaws.{walk-next, walk-link, walk-last}
 use Rattle.chain.specs.Search.{pair_on, find_in}
-use Rattle.chain.specs.Within.{entries_on, PagesOk}
-use Rattle.chain.specs.Lent.{Within, PageOn}
-use Rattle.chain.specs.LentLaws.{lent, at-inside, at-whole, at-page}
+use Rattle.chain.specs.Within.{entries_on, PagesOk, Within, PageOn}
+use Rattle.chain.specs.WithinLaws.{block_inside, block-whole, block-page}
 use Rattle.chain.specs.FindLaws.{any-bind}
 use Rattle.view.specs.Reads.{Reads}
 use Rattle.view.specs.ChainLaws.{walk-read, walk-bounded, blocks-within, pages-read, entries-read}
@@ -38,13 +36,13 @@ use Rattle.split.specs.SeekLaws.{before-left, before-all}
 
 module _ {s ks : List ℕ} (ok : Within s ks) {i k : ℕ} (inside : i < length ks) (at : k ≡ get_or ks i 0) where
   pub chain-page : {l : List ℕ} → l ≡ block s k → PageOn s ks i l
-  chain-page e = at-page ok i inside (e ∙ ap (block s) at)
+  chain-page e = block-page ok i inside (e ∙ ap (block s) at)
 
   pub chain-inside : k < blocks s
-  chain-inside = omega (arith, at, at-inside ok i inside)
+  chain-inside = omega (arith, at, block_inside ok i inside)
 
   pub chain-whole : 512 * k + 512 ≤ length s
-  chain-whole = omega (arith, at, at-whole ok i inside)
+  chain-whole = omega (arith, at, block-whole ok i inside)
 
 module _ {s ks : List ℕ} {i : ℕ} {l : List ℕ} (on : PageOn s ks i l) (pages : PagesOk s ks) where
   pub chain-sorted : Sorted l
@@ -132,9 +130,7 @@ module _ {s : List ℕ} {m : Meta} (r : Reads s m) (b : ℕ) (made : b ≤ m.max
 
     pub read-within : Within s (walk s first)
     read-within =
-        let whole = take-length (walk s first) in
-        subst (Within s) whole
-        (lent (blocks-within r b made (walk s first) (length (walk s first)) (whole ∙ read_walk) (sym (ap length whole))))
+        blocks-within r b made (walk s first) read_walk
 
     pub read-pages : PagesOk s (walk s first)
     read-pages = subst (PagesOk s) (sym read_walk) (pages-read r b made)

@@ -4,8 +4,7 @@ ghost use Rattle.lists.specs.Block.{blocks};
 ghost use Rattle.model.specs.Index.{old_bucket};
 ghost use Rattle.image.specs.Decode.{block_of, decode};
 ghost use Rattle.chain.specs.Walk.{walk};
-ghost use Rattle.chain.specs.Within.{PagesOk};
-ghost use Rattle.chain.specs.Lent.{Within};
+ghost use Rattle.chain.specs.Within.{PagesOk, Within};
 ghost use Rattle.view.specs.Reads.{Reads};
 ghost use Rattle.split.specs.Spot.{SpotOn, SpotIn};
 

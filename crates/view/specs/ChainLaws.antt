@@ -108,20 +108,18 @@ module _ {s : List ℕ} {m : Meta} (r : Reads s m) (b : ℕ) (made : b ≤ m.max
           (omega (arith, length-map (trail s b) (read_page s)))
           ∙ ap (λ (g : Page). g.entries) (get_d_map (read_page s) (trail s b) j no_link (read_page s no_link) l))
 
-  -- ---- its blocks, the first n of bs
+  -- ---- its blocks, as they are lent
 
-  module _ (bs : List ℕ) (n : ℕ) (e : take n bs ≡ chain_blocks (decode s) b (chain (decode s) b))
-      (number : n ≡ length (take n bs)) where
-    pub blocks-within : Within s bs n
+  module _ (ks : List ℕ) (e : ks ≡ chain_blocks (decode s) b (chain (decode s) b)) where
+    pub blocks-within : Within s ks
     blocks-within =
         let size = ap length (e ∙ sym walk-read) in
         record {
-          few = omega (arith, number, size, walk-few s (block_of s b), (reads_sized r).few);
-          count = sym number;
+          few = omega (arith, size, walk-few s (block_of s b), (reads_sized r).few);
           inside = subst (Each (λ k. k < blocks s)) (sym e) blocks-inside;
         }
 
-    pub blocks-pages : PagesOk s (take n bs)
+    pub blocks-pages : PagesOk s ks
     blocks-pages = subst (PagesOk s) (sym e) pages-read
 
   -- ---- a walk of it
@@ -133,8 +131,8 @@ module _ {s : List ℕ} {m : Meta} (r : Reads s m) (b : ℕ) (made : b ≤ m.max
     pub walks-count : n ≡ length (take n bs)
     walks-count = held.count ∙ ap length (sym held.blocks)
 
-    pub walks-within : Within s bs n
-    walks-within = blocks-within bs n walks-blocks walks-count
+    pub walks-within : Within s (take n bs)
+    walks-within = blocks-within (take n bs) walks-blocks
 
     pub walks-pages : PagesOk s (take n bs)
-    walks-pages = blocks-pages bs n walks-blocks walks-count
+    walks-pages = blocks-pages (take n bs) walks-blocks

@@ -39,24 +39,19 @@ module _ {s : List ℕ} {m : Meta} (r : Reads s m) (h : ℕ) where
   abbrev x : Index
   x = decode s
 
-  -- the first n of bs are a source's blocks
-  module _ (bs : List ℕ) (n : ℕ) (number : n ≡ length (take n bs)) where
-    own-walkable : (f : Sources) → sources_of x h ≡ f → take n bs ≡ own_blocks x f
-        → (Within s bs n) × (PagesOk s (take n bs))
+  -- the blocks ks are a source's
+  module _ (ks : List ℕ) where
+    own-walkable : (f : Sources) → sources_of x h ≡ f → ks ≡ own_blocks x f → (Within s ks) × (PagesOk s ks)
     own-walkable (Sources.Home b) e w =
-        let made = home-made r h b e in (blocks-within r b made bs n w number, blocks-pages r b made bs n w number)
+        let made = home-made r h b e in (blocks-within r b made ks w, blocks-pages r b made ks w)
     own-walkable (Sources.Both new old) e w =
-        let made = (both-made r h new old e).0 in
-        (blocks-within r new made bs n w number, blocks-pages r new made bs n w number)
+        let made = (both-made r h new old e).0 in (blocks-within r new made ks w, blocks-pages r new made ks w)
 
-    old-walkable : (f : Sources) → sources_of x h ≡ f → take n bs ≡ old_blocks x f
-        → (Within s bs n) × (PagesOk s (take n bs))
+    old-walkable : (f : Sources) → sources_of x h ≡ f → ks ≡ old_blocks x f → (Within s ks) × (PagesOk s ks)
     old-walkable (Sources.Home b) e w =
-        let z : n ≡ 0 = number ∙ ap length w in
-        (subst (Within s bs) (sym z) (within_none s bs), subst (PagesOk s) (sym w) refl)
+        (subst (Within s) (sym w) (within_none s), subst (PagesOk s) (sym w) refl)
     old-walkable (Sources.Both new old) e w =
-        let made = (both-made r h new old e).1 in
-        (blocks-within r old made bs n w number, blocks-pages r old made bs n w number)
+        let made = (both-made r h new old e).1 in (blocks-within r old made ks w, blocks-pages r old made ks w)
 
   along-by : (f : Sources) → sources_of x h ≡ f
       → pairs_along s (own_blocks x f) (old_blocks x f) h (is_both f) ≡ pairs_by x h f
@@ -78,11 +73,11 @@ module _ {s : List ℕ} {m : Meta} (r : Reads s m) (h : ℕ) where
 
   module _ {own : List ℕ} {n : ℕ} {old : List ℕ} {k : ℕ} {fresh : Bool}
       (w : Sourced (decode s) h own n old k fresh) where
-    pub sourced-own : (Within s own n) × (PagesOk s (take n own))
-    sourced-own = own-walkable own n w.own-count (sources_of x h) refl w.own-blocks
+    pub sourced-own : (Within s (take n own)) × (PagesOk s (take n own))
+    sourced-own = own-walkable (take n own) (sources_of x h) refl w.own-blocks
 
-    pub sourced-old : (Within s old k) × (PagesOk s (take k old))
-    sourced-old = old-walkable old k w.old-count (sources_of x h) refl w.old-blocks
+    pub sourced-old : (Within s (take k old)) × (PagesOk s (take k old))
+    sourced-old = old-walkable (take k old) (sources_of x h) refl w.old-blocks
 
     -- an own chain has a block
     pub sourced-some : 1 ≤ n

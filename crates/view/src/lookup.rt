@@ -124,8 +124,8 @@ fn put_pages(store: &[u8], pages: &[u32], own: usize, output: &mut [u8], hash: u
 
 // Writes the places of the matches along two walks, for which there is room. One walk alone is merged where it lies.
 fn put_matches(store: &[u8], own: &[u32], old: &[u32], output: &mut [u8], hash: u32, fresh: bool)
-    requires own_walk { (Within store.now own.now (length own.now)) × (PagesOk store.now own.now) }
-    requires old_walk { (Within store.now old.now (length old.now)) × (PagesOk store.now old.now) }
+    requires own_walk { (Within store.now own.now) × (PagesOk store.now own.now) }
+    requires old_walk { (Within store.now old.now) × (PagesOk store.now old.now) }
     requires sizes { (1 ≤ length own.now) × (length own.now + length old.now ≤ suc max_blocks) }
     requires room { Listable (pairs_along store.now own.now old.now hash fresh) output.old }
     ensures { output.new ≡ written (sorted (pairs_along store.now own.now old.now hash fresh)) output.old }

@@ -1,21 +1,21 @@
 use Rattle.std.proofs.Common.{arith, sym, ◌*◌, ◌+◌, ◌≤◌}
 use Rattle.chain.specs.Pairs.{is_match}
-use Rattle.chain.specs.LentLaws.{at-whole, at-sorted}
+use Rattle.chain.specs.WithinLaws.{block-whole, block-page}
 use Rattle.chain.proofs.Tallies.{count-few, count_turn, count-end}
 use Rattle.chain.proofs.counting.count_in_walk.Goals as goal
 
 pub block_at-page-requires : goal.block_at-page-requires
-block_at-page-requires c = at-whole c.requires.0 c.loop-block.block-index c.loop-block-test.true
+block_at-page-requires c = block-whole c.requires.0 c.loop-block.block-index c.loop-block-test.true
 
 pub count_in_page-n-requires : goal.count_in_page-n-requires
 count_in_page-n-requires c =
-    at-sorted c.requires.0 c.loop-block.block-index c.loop-block-test.true c.requires.1 c.block_at-page.ensures
+    (block-page c.requires.0 c.loop-block.block-index c.loop-block-test.true c.block_at-page.ensures).sorted c.requires.1
 
 -- a page adds at most 40
 bound : (c : goal.After-count_in_page-n) → c.loop-block.n + c.count_in_page-n.result ≤ 40 * (c.loop-block.block-index + 1)
 bound c =
     let sorted =
-    at-sorted c.requires.0 c.loop-block.block-index c.loop-block-test.true c.requires.1 c.block_at-page.ensures in
+    (block-page c.requires.0 c.loop-block.block-index c.loop-block-test.true c.block_at-page.ensures).sorted c.requires.1 in
     omega (
       arith,
       c.count_in_page-n.ensures,

@@ -1,14 +1,14 @@
 use Rattle.std.proofs.Common.{arith, refl, sym, ◌∙◌}
-use Rattle.chain.specs.LentLaws.{at-whole, at-sorted}
+use Rattle.chain.specs.WithinLaws.{block-whole, block-page}
 use Rattle.chain.proofs.Searching.{pair-here, pair-later, pair-nowhere}
 use Rattle.chain.proofs.search.find_pair.Goals as goal
 
 pub block_at-page-requires : goal.block_at-page-requires
-block_at-page-requires c = at-whole c.requires.0 c.loop-block.block-index c.loop-block-test.true
+block_at-page-requires c = block-whole c.requires.0 c.loop-block.block-index c.loop-block-test.true
 
 pub find_slot-requires : goal.find_slot-requires
 find_slot-requires c =
-    at-sorted c.requires.0 c.loop-block.block-index c.loop-block-test.true c.requires.1 c.block_at-page.ensures
+    (block-page c.requires.0 c.loop-block.block-index c.loop-block-test.true c.block_at-page.ensures).sorted c.requires.1
 
 pub returns-in-Some : goal.returns-in-Some
 returns-in-Some c =

@@ -1,6 +1,5 @@
 use Rattle.std.proofs.Common.{List, ap, ℕ, ◌∙◌}
 use Rattle.chain.specs.WithinLaws.{zero_room}
-use Rattle.chain.specs.LentLaws.{lent}
 use Rattle.chain.specs.Search.{find_in}
 use Rattle.view.specs.ReadsLaws.{reads_known}
 use Rattle.view.specs.ChainLaws.{walks-blocks, walks-within, walks-pages}
@@ -13,7 +12,7 @@ walk_bucket-count-requires c = (reads_known c.requires.0, c.requires.1, zero_roo
 pub find_pair-requires : goal.find_pair-requires
 find_pair-requires c =
     let h = c.walk_bucket-count.ensures in
-    (lent (walks-within c.requires.0 c.args.b c.requires.1 h), walks-pages c.requires.0 c.args.b c.requires.1 h)
+    (walks-within c.requires.0 c.args.b c.requires.1 h, walks-pages c.requires.0 c.args.b c.requires.1 h)
 
 pub returns : goal.returns
 returns c =

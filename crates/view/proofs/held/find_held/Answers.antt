@@ -1,6 +1,5 @@
 use Rattle.std.proofs.Common.{refl, ◌∙◌}
 use Rattle.chain.specs.WithinLaws.{zero_room}
-use Rattle.chain.specs.LentLaws.{lent}
 use Rattle.view.specs.SourcedLaws.{sourced-own, sourced-old, sourced-find}
 use Rattle.view.proofs.held.find_held.Goals as goal
 
@@ -9,9 +8,11 @@ walk_sources-walks-requires c = (c.requires, zero_room c.zero_walk-own.ensures, 
 
 pub find_along-requires : goal.find_along-requires
 find_along-requires c =
-    let own = sourced-own c.requires c.args.pair.hash c.walk_sources-walks.ensures in
-    let old = sourced-old c.requires c.args.pair.hash c.walk_sources-walks.ensures in
-    record { within = (lent own.0, own.1); within_2 = (lent old.0, old.1) }
+    let h = c.args.pair.hash in
+    record {
+      within = sourced-own c.requires h c.walk_sources-walks.ensures;
+      within_2 = sourced-old c.requires h c.walk_sources-walks.ensures;
+    }
 
 pub returns : goal.returns
 returns c =

@@ -1,21 +1,10 @@
-use Rattle.std.proofs.Common.{List, ℕ, length, take, ap, ◌∙◌, arith}
-use Rattle.std.proofs.lemmas.List.{take_all}
+use Rattle.std.proofs.Common.{List, ap, ◌∙◌, arith}
 use Rattle.page.specs.declared.Pair.{Pair}
 use Rattle.image.specs.Decode.{decode}
-use Rattle.chain.specs.Within.{Within}
 use Rattle.view.specs.Lookup.{written}
 use Rattle.view.specs.SourcedLaws.{sourced-own, sourced-old, sourced-some, sourced-room, sourced-number, sourced-matches}
 use Rattle.view.specs.LookupLaws.{sourced-listable, lookup-short, lookup-written}
 use Rattle.view.proofs.lookup.lookup_in.Goals as goal
-
--- a walk as it is lent
-lent : {s bs : List ℕ} {n : ℕ} → Within s bs n → Within s (take n bs) (length (take n bs))
-lent {s} {bs} {n} w =
-    record {
-      few = omega (arith, w.few, w.count);
-      count = ap length (take_all (length (take n bs)) (take n bs) (omega arith));
-      inside = rw (take_all (length (take n bs)) (take n bs) (omega arith)) w.inside;
-    }
 
 pub count_along-matches-requires-clause-within : goal.count_along-matches-requires-clause-within
 count_along-matches-requires-clause-within c = sourced-own c.requires c.args.hash c.walk_sources-walks.ensures
@@ -31,20 +20,18 @@ returns-then-output-matches c =
 
 pub put_matches-requires-clause-own_walk : goal.put_matches-requires-clause-own_walk
 put_matches-requires-clause-own_walk c =
-    let w = sourced-own c.requires c.args.hash c.walk_sources-walks.ensures in (lent w.0, w.1)
+    sourced-own c.requires c.args.hash c.walk_sources-walks.ensures
 
 pub put_matches-requires-clause-old_walk : goal.put_matches-requires-clause-old_walk
 put_matches-requires-clause-old_walk c =
-    let w = sourced-old c.requires c.args.hash c.walk_sources-walks.ensures in (lent w.0, w.1)
+    sourced-old c.requires c.args.hash c.walk_sources-walks.ensures
 
 pub put_matches-requires-clause-sizes : goal.put_matches-requires-clause-sizes
 put_matches-requires-clause-sizes c =
     let r = c.requires in
     let h = c.args.hash in
     let w = c.walk_sources-walks.ensures in
-    let own = (sourced-own r h w).0.count in
-    let old = (sourced-old r h w).0.count in
-    (omega (arith, own, sourced-some r h w), omega (arith, own, old, sourced-room r h w))
+    (omega (arith, w.own-count, sourced-some r h w), omega (arith, w.own-count, w.old-count, sourced-room r h w))
 
 pub put_matches-requires-clause-room : goal.put_matches-requires-clause-room
 put_matches-requires-clause-room c =

@@ -1,7 +1,5 @@
 use Rattle.std.proofs.Common.{◌≡◌, ◌+◌, ◌-◌, ◌++◌, ◌≤◌, ◌<◌, List, [], ◌∷◌, ℕ, Bool, false, length, sym, ap, ap₂, ◌∙◌, subst, arith, rules, length-append}
-use Rattle.std.proofs.lemmas.List.{take_all}
 use Rattle.lists.specs.Bytes.{Bytes}
-use Rattle.lists.specs.Lists.{Each}
 use Rattle.lists.specs.ListsLaws.{each_append, all_append}
 use Rattle.lists.specs.Block.{blocks, block}
 use Rattle.page.specs.declared.Pair.{Pair}
@@ -18,10 +16,6 @@ use Rattle.merge.specs.WalksLaws.{walk-pages, alone-entries, first-entries, seco
 use Rattle.view.specs.Left.{pairs_left}
 use Rattle.view.specs.Lookup.{written, Listable}
 use Rattle.view.proofs.lookup.put_matches.Goals as goal
-
--- the blocks of a walk are the store's
-inside : {s walk : List ℕ} → Within s walk (length walk) → Each (λ k. k < blocks s) walk
-inside {s} {walk} w = rw (take_all (length walk) walk (omega arith)) at w.inside
 
 -- the pairs on pages, by the entries of the own ones and of the old ones
 pairs-by : (h : ℕ) (fresh : Bool) {es fs es' fs' : List Entry} → es ≡ es' → fs ≡ fs'
@@ -40,11 +34,11 @@ alone s own (b ∷ old) h fresh e = absurd (omega arith)
 -- ---- two
 
 module _ (s own old : List ℕ) where
-  together-pages : Bytes s → Within s own (length own) → PagesOk s own → Within s old (length old) → PagesOk s old
+  together-pages : Bytes s → Within s own → PagesOk s own → Within s old → PagesOk s old
       → length own + length old ≤ max_pages → Pages s (own ++ old) (length (own ++ old))
   together-pages bytes w fine v fine' few =
       walk-pages s (own ++ old) bytes (simp length-append (omega arith))
-      (each_append (λ k. k < blocks s) own old (inside w) (inside v))
+      (each_append (λ k. k < blocks s) own old w.inside v.inside)
       (all_append (λ k. page_ok (block s k)) own old fine fine')
 
   together : (h : ℕ) (fresh : Bool)
@@ -61,7 +55,7 @@ put_pages-requires c =
     let bytes : Bytes a.store.now = λ i. omega (arith, c.type_inv.store i) in
     let none : length a.old.now ≡ 0 = search rules in
     let w = c.requires.own_walk in (
-      walk-pages a.store.now a.own.now bytes (omega (arith, w.0.few)) (inside w.0) w.1,
+      walk-pages a.store.now a.own.now bytes (omega (arith, w.0.few)) w.0.inside w.1,
       c.requires.sizes.0,
       omega arith,
       subst (λ (ps : List Pair). Listable ps a.output.now)
