@@ -1,6 +1,6 @@
 -- A planned change written to a sound store makes what the outcome says; steps one after the other make work's, and
 -- squeeze's.
-use Rattle.std.specs.Prelude.{◌≡◌, List, ℕ, suc, ◌+◌, ◌-◌, ◌≤◌, ◌<◌, length}
+use Rattle.std.specs.Prelude.{◌≡◌, List, ℕ, suc, ◌+◌, ◌-◌, ◌≤◌, ◌<◌, length, Ok, Err}
 use Rattle.std.proofs.Math.Path.{refl, ap}
 use Rattle.std.proofs.Common.{sym, ◌∙◌, subst, zero-add, arith}
 use Rattle.lists.specs.Block.{block}
@@ -12,12 +12,11 @@ use Rattle.model.specs.declared.Answer.{Answer}
 use Rattle.model.specs.declared.Stop.{Stop}
 use Rattle.model.specs.declared.WorkAnswer.{WorkAnswer}
 use Rattle.model.specs.Index.{Index}
-use Rattle.model.specs.Steps.{Step, next, stopped, Worked, step, iterate}
+use Rattle.model.specs.Steps.{Step, next, stopped, Worked, iterate}
 use Rattle.model.specs.Machine.{Kind, step_index}
 use Rattle.model.specs.Calls.{Result}
 use Rattle.model.specs.WellFormed.{WF}
 use Rattle.model.proofs.BoundLaws.{laid-size}
-use Rattle.model.proofs.StepLaws.{step-wf}
 use Rattle.model.proofs.KindLaws.{kind-wf}
 use Rattle.model.proofs.MachineLaws.{never}
 use Rattle.image.specs.Layout.{encode}
@@ -33,8 +32,6 @@ use Rattle.cuts.specs.Journalled.{journalled, step_to, step_journalled, worked_b
 use Rattle.plan.specs.Plan.{Plans, Settles, accepted, declined, Advances, advanced, halted}
 use Rattle.plan.specs.PlanLaws.{fits-none}
 use Rattle.view.specs.ReadsLaws.{reads-laid, reads-size, reads_whole, encode-reads}
-use Rattle.split.specs.declared.Position.{Position}
-use Rattle.split.specs.Seek.{From, Leads}
 use Rattle.index.specs.Sound.{Sound, Stepped, moved, stayed}
 use Rattle.index.specs.Written.{Alters}
 
@@ -85,30 +82,45 @@ module _ {s : List ℕ} {c : Change} {images : List ℕ} where
   advances-alters (advanced p) = plans-alters p
   advances-alters (halted e) = none-alters e
 
-  pub advances-stepped : (k : Kind) → Sound s → {q : Step Index} {a : Advance} → Advances s c images q a
-      → step_index k (decode s) ≡ q → (j : List ℕ) (e : Disk) → written (disk s j) (finished s c images) ≡ e
-      → e.store ≡ finished s c images → Stepped k (disk s j) a e
-  unfolding step_journalled
-  advances-stepped k r (advanced {y} p) q j e f made =
-      moved
-      (ap (step_to (disk s j)) (step-read k s ∙ ap step_on q)
-      ∙ ap next (ap (written (disk s j)) (sym p.makes) ∙ f))
-      (subst Sound (sym (made ∙ p.makes)) (sound-encode y (kind-wf k (decode s) y r.wf q)))
-    where
-      sound-encode : (y : Index) → WF y → Sound (encode y)
-      sound-encode y w = let q = encode-reads y w in record { wf = q.wf; bytes = q.bytes; meta = refl }
-  advances-stepped k r (halted n) q j e f made =
-      stayed (ap (step_to (disk s j)) (step-read k s ∙ ap step_on q))
-      (sym f ∙ ap (written (disk s j)) (finished-none s c images n) ∙ idle (disk s j))
+  module _ (k : Kind) (r : Sound s) {a : Advance} (p : Advances s c images (step_index k (decode s)) a) (j : List ℕ) {e : Disk}
+      (w : written (disk s j) (finished s c images) ≡ e) (made : e.store ≡ finished s c images) where
+    made-by : {q : Step Index} {b : Advance} → Advances s c images q b → q ≡ step_index k (decode s) → b ≡ Advance.Next
+        → (y : Index) × (q ≡ next y) × (e.store ≡ encode y) × (written (disk s j) (encode y) ≡ e)
+    made-by (advanced {y} h) q n = (y, refl, made ∙ h.makes, ap (written (disk s j)) (sym h.makes) ∙ w)
+    made-by (halted z) q n = never (cc)
 
-  -- the position that it gives is one to search from in the store that it leaves
-  pub advances-from : Sound s → {q : Step Index} {a : Advance} → Advances s c images q a → step (decode s) ≡ q
-      → (t : List ℕ) → t ≡ finished s c images → (k : Position) → Leads (decode s) k → a ≡ Advance.Next
-      → From (decode t) k
-  advances-from r (advanced {y} p) e t f k g n =
-      subst (λ (x : Index). From x k)
-      (sym (ap decode (f ∙ p.makes) ∙ decode-encode y (step-wf (decode s) y r.wf e))) (g y e)
-  advances-from r (halted z) e t f k g n = never (cc)
+    -- one that goes on, told to go on with x
+    pub steps-on : {X : Type 0} (x : X) → a ≡ Advance.Next → Stepped k (disk s j) (Ok x) e
+    unfolding step_journalled
+    steps-on x n =
+        let f = made-by p refl n in
+        moved
+        (ap (step_to (disk s j)) (step-read k s ∙ ap step_on f.1) ∙ ap next f.3)
+        (subst Sound (sym f.2) (sound-encode f.0 (kind-wf k (decode s) f.0 r.wf f.1)))
+      where
+        sound-encode : (y : Index) → WF y → Sound (encode y)
+        sound-encode y v = let q = encode-reads y v in record { wf = q.wf; bytes = q.bytes; meta = refl }
+
+    -- what is so of the index that it makes is so of the store that it leaves
+    pub step-leaves : (P : Index → Type 0) → ((y : Index) → step_index k (decode s) ≡ next y → P y) → a ≡ Advance.Next
+        → P (decode e.store)
+    step-leaves P g n =
+        let f = made-by p refl n in
+        subst P (sym (ap decode f.2 ∙ decode-encode f.0 (kind-wf k (decode s) f.0 r.wf f.1))) (g f.0 f.1)
+
+    -- one that stops
+    pub step-stops : {X : Type 0} (t : Stop) → a ≡ Advance.Stopped t → Stepped k (disk s j) {X = X} (Err t) e
+    unfolding step_journalled
+    step-stops {X} t n = go p refl n
+      where
+        go : {q : Step Index} {b : Advance} → Advances s c images q b → q ≡ step_index k (decode s)
+            → b ≡ Advance.Stopped t → Stepped k (disk s j) {X = X} (Err t) e
+        go (advanced h) q n = never (cc)
+        go (halted {r = u} z) q n =
+            let same : u ≡ t = cc in
+            subst (λ (v : Stop). Stepped k (disk s j) {X = X} (Err v) e) same
+            (stayed (ap (step_to (disk s j)) (step-read k s ∙ ap step_on (sym q)))
+            (sym w ∙ ap (written (disk s j)) (finished-none s c images z) ∙ idle (disk s j)))
 
 -- ---- steps one after the other
 
@@ -174,9 +186,9 @@ pub record Working (k : Kind) (budget : ℕ) (s₀ s : Disk) (n : ℕ) : Type 0 
   pub sixteen : length s.journal ≡ 8192
 
 module _ (k : Kind) {budget : ℕ} {s₀ s : Disk} {n : ℕ} (w : Working k budget s₀ s n) (h : n < budget) where
-  pub working-next : {a : Advance} {t : Disk} → Stepped k s a t → a ≡ Advance.Next
+  pub working-next : {X : Type 0} {x : X} {t : Disk} → Stepped k s (Ok x) t
       → length t.store ≡ length s.store → length t.journal ≡ 8192 → Working k budget s₀ t (n + 1)
-  working-next (moved e q) z m l =
+  working-next (moved e q) m l =
       record {
         sound = q;
         within = omega arith;
@@ -184,15 +196,11 @@ module _ (k : Kind) {budget : ℕ} {s₀ s : Disk} {n : ℕ} (w : Working k budg
         size = m ∙ w.size;
         sixteen = l;
       }
-  working-next (stayed e q) z m l = never (cc)
 
-  pub working-stop : {a : Advance} {t : Disk} → Stepped k s a t → (r : Stop) → a ≡ Advance.Stopped r
+  pub working-stop : {X : Type 0} {r : Stop} {t : Disk} → Stepped k s {X = X} (Err r) t
       → worked_by (iterate (step_journalled k) budget s₀) ≡ record { answer = WorkAnswer.Worked n r; disk = t }
-  working-stop (moved e q) r z = never (cc)
-  working-stop (stayed {r = u} e q) r z =
-      let same : u ≡ r = cc in
-      ap worked_by w.rest ∙ left-stop k budget n s u h e
-      ∙ (λ i. record { answer = WorkAnswer.Worked n (same i); disk = sym q i })
+  working-stop (stayed {r = r} e q) =
+      ap worked_by w.rest ∙ left-stop k budget n s r h e ∙ (λ i. record { answer = WorkAnswer.Worked n r; disk = sym q i })
 
 pub working-spent : (k : Kind) {budget : ℕ} {s₀ s : Disk} {n : ℕ} → Working k budget s₀ s n → budget ≤ n
     → worked_by (iterate (step_journalled k) budget s₀) ≡ record { answer = WorkAnswer.Worked n Stop.Spent; disk = s }

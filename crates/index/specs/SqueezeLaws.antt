@@ -106,16 +106,6 @@ module _ (d : Disk) (b : ℕ) (numbers : Bool) where
           go none h = refl
           go (some r) h = never (cc)
 
--- ---- the pages that the next step looks at are there in the store that a step leaves
-
-pub advances-spans : {s : List ℕ} {c : Change} {images : List ℕ} (b : ℕ) → Sound s → {q : Step Index} {a : Advance}
-    → Advances s c images q a → squeeze_step b (decode s) ≡ q → (t : List ℕ) → t ≡ finished s c images
-    → {v : Span} → Leads (decode s) b v → a ≡ Advance.Next → Spans (decode t) b v
-advances-spans {s} b r (advanced {y} p) e t f {v} g n =
-    subst (λ (x : Index). Spans x b v)
-    (sym (ap decode (f ∙ p.makes) ∙ decode-encode y (squeeze-wf b (decode s) y r.wf e))) (g y e)
-advances-spans b r (halted z) e t f g n = never (cc)
-
 -- ---- the outcome
 
 module _ (d : Disk) (b budget : ℕ) where

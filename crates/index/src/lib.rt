@@ -10,6 +10,7 @@ mod written; // written.rt: a planned change, its list worked out, written or la
 mod sound; // sound.rt: changes of a store that passed the tests
 pub mod change; // change.rt: the insert without a journal
 pub mod journalled; // journalled.rt: insert and remove
+mod steps; // steps.rt: steps one after the other
 pub mod work; // work.rt: the steps of splits
 pub mod squeezing; // squeezing.rt: the steps that pack a bucket's chain
 pub mod recovery; // recovery.rt: recover, wipe, look
@@ -18,9 +19,6 @@ pub mod halves; // halves.rt: a change in two halves
 
 use model::Refusal;
 use page::Pair;
-use plan::Advance;
-use split::Position;
-use squeeze::Span;
 
 // What the tests before a call find: a sound store, or the refusal.
 #[derive(Clone, Copy)]
@@ -34,18 +32,4 @@ pub enum Test {
 enum PairTest {
     Passed(Pair),
     Failed(Refusal),
-}
-
-// What a step came to, and the position in the old chain that the next one may search from.
-#[derive(Clone, Copy)]
-struct Stride {
-    advance: Advance,
-    next: Position,
-}
-
-// What a squeeze's step came to, and the pages that the next one looks at.
-#[derive(Clone, Copy)]
-struct SqueezeStride {
-    advance: Advance,
-    next: Span,
 }

@@ -12,9 +12,9 @@ ghost use Rattle.index.specs.Sound.{Sound};
 
 use crate::Test;
 use crate::ready::test_ready;
-use crate::sound::{read_fields, squeeze_written};
-use model::{Refusal, Stop, WorkAnswer};
-use plan::Advance;
+use crate::sound::read_fields;
+use crate::steps::{Squeezing, run_steps};
+use model::{Refusal, WorkAnswer};
 use squeeze::{is_busy, span_of};
 
 // The tests of the bucket, which come after those of the store.
@@ -45,8 +45,7 @@ pub fn test_squeeze(store: &[u8], journal: &[u8], bucket: u32, numbers: bool) ->
     }
 }
 
-// Steps on a sound store, until the budget is spent, which is tested first, or a step stops. It counts the steps, and
-// each looks at the pages that the last one left it. The steps share the room for the images.
+// Steps on a sound store, the first of which looks at the whole chain.
 fn squeeze_sound(store: &mut [u8], journal: &mut [u8], bucket: u32, budget: u32) -> WorkAnswer
     requires { (Sound store.old) × (bucket ≤ (decode store.old).max_bucket) × (length journal.old ≡ 8192) }
     ensures { worked_by (iterate (step_journalled (of_squeeze bucket)) budget
@@ -54,23 +53,8 @@ fn squeeze_sound(store: &mut [u8], journal: &mut [u8], bucket: u32, budget: u32)
         ≡ record { answer = result; disk = disk store.new journal.new } }
 {
     let m = read_fields(store);
-    let mut span = span_of(store, m, bucket);
-    let mut images = [0u8; 4096];
-    let mut steps: u32 = 0;
-    while steps < budget {
-        let stride = squeeze_written(store, journal, &mut images, span);
-        let advance = stride.advance;
-        if let Advance::Stopped(stop) = advance {
-            return WorkAnswer::Worked { steps, stop };
-        }
-        let next = stride.next;
-        span = next;
-        steps += 1;
-    }
-    WorkAnswer::Worked {
-        steps,
-        stop: Stop::Spent,
-    }
+    let span = span_of(store, m, bucket);
+    run_steps(&Squeezing { bucket }, store, journal, budget, span)
 }
 
 // Does up to `budget` steps that squeeze the bucket.
