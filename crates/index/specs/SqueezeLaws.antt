@@ -1,7 +1,7 @@
 -- What squeeze's outcome is, by what its tests find; what a step leaves the next one.
-use Rattle.std.specs.Prelude.{◌≡◌, Bool, List, ℕ, ◌≤◌, ◌<◌}
+use Rattle.std.specs.Prelude.{◌≡◌, Bool, ℕ, ◌≤◌, ◌<◌}
 use Rattle.std.proofs.Math.Path.{refl, sym, ap}
-use Rattle.std.proofs.Common.{◌∙◌, subst}
+use Rattle.std.proofs.Common.{◌∙◌}
 use Rattle.std.proofs.Math.Bool.{true, false}
 use Rattle.std.proofs.Math.Option.{Option, none, some}
 use borrow.Author.Tests.{leb-true, le-leb, lt-leb}
@@ -10,23 +10,15 @@ use Rattle.lists.specs.Bytes.{Bytes}
 use Rattle.model.specs.declared.Refusal.{Refusal}
 use Rattle.model.specs.declared.WorkAnswer.{WorkAnswer}
 use Rattle.model.specs.Index.{Index}
-use Rattle.model.specs.Steps.{Step, iterate}
-use Rattle.model.specs.Squeeze.{squeeze_step, is_busy, bucket_in, bucket_test}
-use Rattle.model.proofs.SqueezeStepLaws.{squeeze-wf}
+use Rattle.model.specs.Steps.{iterate}
+use Rattle.model.specs.Squeeze.{is_busy, bucket_in, bucket_test}
 use Rattle.model.specs.Machine.{of_squeeze}
 use Rattle.model.specs.Calls.{budget_ok}
 use Rattle.model.proofs.MachineLaws.{never}
 use Rattle.image.specs.Decode.{decode}
-use Rattle.image.proofs.EncodeDecodeLaws.{decode-encode}
 use Rattle.outcomes.specs.Outcomes.{Tested, passed, failed, unless_refused, bucket_tested}
 use Rattle.journal.specs.Journal.{Disk}
 use Rattle.cuts.specs.Journalled.{tested_with, step_journalled, worked_by, work_on, squeeze_journalled}
-use Rattle.store.specs.declared.Change.{Change}
-use Rattle.store.specs.Finish.{finished}
-use Rattle.plan.specs.declared.Advance.{Advance}
-use Rattle.plan.specs.Plan.{Advances, advanced, halted}
-use Rattle.squeeze.specs.declared.Span.{Span}
-use Rattle.squeeze.specs.Span.{Spans, Leads}
 use Rattle.index.specs.declared.Test.{Test}
 use Rattle.index.specs.Tested.{test_of}
 use Rattle.index.specs.TestedLaws.{failed-is}

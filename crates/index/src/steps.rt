@@ -65,13 +65,7 @@ impl Planner for Splits {
 
     ghost begins = { λ it x p. From x p };
 
-    fn plan(
-        &self,
-        store: &[u8],
-        m: Meta,
-        from: Position,
-        images: &mut [u8],
-    ) -> Planned<Position> {
+    fn plan(&self, store: &[u8], m: Meta, from: Position, images: &mut [u8]) -> Planned<Position> {
         let plan = plan_step(store, m, from, images);
         Planned {
             step: plan.step,

@@ -1,4 +1,4 @@
-use Rattle.std.proofs.Common.{◌∙◌, arith}
+use Rattle.std.proofs.Common.{◌∙◌}
 use Rattle.index.specs.SoundLaws.{working-next, working-stop}
 use Rattle.index.proofs.steps.run_steps.Goals as goal
 

@@ -1,4 +1,3 @@
-use Rattle.image.specs.Decode.{decode}
 use Rattle.index.specs.SoundLaws.{advances-alters, steps-on, step-leaves, step-stops}
 use Rattle.index.proofs.steps.write_step.Goals as goal
 

@@ -5,7 +5,7 @@ use Rattle.index.proofs.work.work.Goals as goal
 
 pub run_steps-requires-clause-sound : goal.run_steps-requires-clause-sound
 run_steps-requires-clause-sound c =
-    ready-sound _ (disk c.args.store.now c.args.journal.now) (λ i. omega (arith, c.type_inv.store i))
+    ready-sound _ (disk c.args.store.now c.args.journal.now) (λ i. omega (arith, c.slice_known-1.given i))
     (sym c.test_ready-test.ensures ∙ c.in-Passed.is)
 
 pub run_steps-requires-clause-journal_len : goal.run_steps-requires-clause-journal_len
@@ -19,5 +19,5 @@ returns-in-Failed c =
 
 pub returns-in-Passed : goal.returns-in-Passed
 returns-in-Passed c =
-    work-made (disk c.args.store.now c.args.journal.now) c.args.budget (λ i. omega (arith, c.type_inv.store i))
+    work-made (disk c.args.store.now c.args.journal.now) c.args.budget (λ i. omega (arith, c.slice_known-1.given i))
     (sym c.test_ready-test.ensures ∙ c.in-Passed.is) ∙ c.run_steps.ensures
