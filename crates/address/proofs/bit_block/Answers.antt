@@ -2,9 +2,6 @@ use Rattle.std.proofs.Common.{ap, arith, ℕ, ◌+◌, ◌∙◌, ◌≡◌}
 use Rattle.address.specs.Address.{buckets_at, bit_block}
 use Rattle.address.proofs.bit_block.Goals as goal
 
-pub buckets_at-requires : goal.buckets_at-requires
-buckets_at-requires c = omega (arith, c.bit_point.ensures.1)
-
 block-is : (c : goal.After-buckets_at) → c.buckets_at.result + c.args.bit + 1
     ≡ bit_block c.args.spares c.args.s c.args.bit
 unfolding bit_block

@@ -1,4 +1,4 @@
-use Rattle.std.proofs.Common.{List, add-one, ap, arith, get_or, le-ltb, lt-ltb, pred, suc, sym, ℕ, ◌+◌, ◌-◌, ◌<◌, ◌∙◌, ◌≡◌, ◌≤◌}
+use Rattle.std.proofs.Common.{List, add-one, ap, arith, get_or, le-ltb, lt-ltb, suc, sym, ℕ, ◌+◌, ◌-◌, ◌<◌, ◌∙◌, ◌≡◌, ◌≤◌}
 use Rattle.address.specs.Address.{bit_point}
 use Rattle.address.proofs.bit_point.Goals as goal
 
@@ -16,11 +16,6 @@ module _ (sp : List ℕ) (s n i : ℕ) where
 
   ended : s ≤ i → bit_point sp n i (s - i) ≡ i
   ended h = let e : s - i ≡ 0 = omega arith in ap (bit_point sp n i) e
-
-pub loop-i-init : goal.loop-i-init
-loop-i-init c =
-    let e : pred c.args.s ≡ c.args.s - 1 = omega arith in
-    (omega arith, ap (bit_point c.args.spares c.args.bit 1) e)
 
 pub returns-then-bit-spares : goal.returns-then-bit-spares
 returns-then-bit-spares c =

@@ -1,7 +1,7 @@
 use Rattle.std.proofs.Common.{ap, arith, refl, suc, sym, zero, ℕ, ◌-◌, ◌<◌, ◌^◌, ◌∙◌, ◌≡◌}
 use Rattle.address.specs.Address.{high_mask, mask_digits, bit_length}
 use Rattle.address.specs.MaskLaws.{digits-mask, high-mask}
-use Rattle.address.proofs.Leading.{digits-leading, leading_lt, shift-ones}
+use Rattle.address.proofs.Leading.{digits-leading, shift-ones}
 use Rattle.address.proofs.high_mask.Goals as goal
 
 small : (m : ℕ) → m < 2 → 3 ≡ high_mask m
@@ -12,9 +12,6 @@ small (suc (suc m)) h = absurd (omega arith)
 
 pub returns-then-max-lt2 : goal.returns-then-max-lt2
 returns-then-max-lt2 c = small c.args.max c.if-max-lt2.true
-
-pub overflow_shr-result : goal.overflow_shr-result
-overflow_shr-result c = let m = c.args.max in omega (arith, leading_lt m (omega arith) c.ranges.max.fits)
 
 pub returns : goal.returns
 returns c =

@@ -1,7 +1,7 @@
 use Rattle.std.proofs.Common.{ap, arith, refl, suc, zero, ℕ, ◌-◌, ◌≡◌}
 use Rattle.address.specs.Address.{split_from, bit_length}
 use Rattle.address.specs.MaskLaws.{top-le}
-use Rattle.address.proofs.Leading.{leading_lt, shift_top}
+use Rattle.address.proofs.Leading.{shift_top}
 use Rattle.address.proofs.parent_of.Goals as goal
 
 of_zero : (m : ℕ) → m ≡ 0 → 0 ≡ split_from m
@@ -11,9 +11,6 @@ of_zero (suc m) e = absurd (omega arith)
 
 pub returns-then-bucket-eq0 : goal.returns-then-bucket-eq0
 returns-then-bucket-eq0 c = of_zero c.args.bucket c.if-bucket-eq0.true
-
-pub overflow_sub-result : goal.overflow_sub-result
-overflow_sub-result c = leading_lt c.args.bucket (omega arith) c.ranges.bucket.fits
 
 pub overflow_sub-result-2 : goal.overflow_sub-result-2
 overflow_sub-result-2 c =

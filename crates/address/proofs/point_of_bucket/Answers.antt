@@ -1,12 +1,9 @@
 use Rattle.std.proofs.Common.{ap, arith, sym, ℕ, ◌*◌, ◌+◌, ◌-◌, ◌/◌, ◌<◌, ◌^◌, ◌∙◌, ◌≡◌, ◌≤◌}
-use lib.Count.{count_leading_zeros, leading_le}
+use lib.Count.{count_leading_zeros}
 use Rattle.address.specs.Address.{bucket_point, bit_length}
 use Rattle.address.specs.DigitLaws.{quarter-low, quarter-high, point-low, point-high}
 use Rattle.address.proofs.Leading.{digits-leading}
 use Rattle.address.proofs.point_of_bucket.Goals as goal
-
-pub overflow_sub-group : goal.overflow_sub-group
-overflow_sub-group c = omega (arith, leading_le 32 c.args.bucket)
 
 -- leading zeros give the group
 group-is : (b : ℕ) → b < 2 ^ 32 → 32 - count_leading_zeros 32 b ≡ bit_length b

@@ -2,7 +2,7 @@ use Rattle.std.proofs.Common.{ap, arith, get_or, suc, sym, ℕ, ◌+◌, ◌-◌
 use Rattle.address.specs.Address.{buckets_at}
 use Rattle.address.specs.Role.{role_of, bit_page}
 use Rattle.address.specs.BlockRole.{role_case}
-use Rattle.address.proofs.Role.{sum_below, role-unmade, before-le, bucket-in, bit_in}
+use Rattle.address.proofs.Role.{sum_below, role-unmade, bucket-in, bit_in}
 use Rattle.address.proofs.role_of.Goals as goal
 
 after : (i : ℕ) → 1 ≤ i → i ≡ suc (i - 1)
@@ -12,9 +12,6 @@ pub returns-then-block-eq0 : goal.returns-then-block-eq0
 unfolding role_of
 returns-then-block-eq0 c = sym (ap (λ (k : ℕ). role_case (role_of c.args.spares c.args.s k)) c.if-block-eq0.true)
 
-pub loop-point-init : goal.loop-point-init
-loop-point-init c h = absurd (omega arith)
-
 pub overflow_add-buckets : goal.overflow_add-buckets
 overflow_add-buckets c =
     let i = c.loop-point.point in
@@ -23,12 +20,6 @@ overflow_add-buckets c =
       c.buckets_at-buckets.ensures,
       sum_below c.args.spares c.args.s _ c.requires.1 i (i - 1) (omega arith) (omega arith),
     )
-
-pub overflow_sub-result : goal.overflow_sub-result
-overflow_sub-result c =
-    let l = c.loop-point in
-    let h = before-le c.args.spares c.args.s _ c.requires.1 (l.point - 1) c.args.block in
-    omega (arith, h (omega arith) (omega arith) l.invariant)
 
 pub returns-then-place-buckets : goal.returns-then-place-buckets
 returns-then-place-buckets c =
@@ -46,9 +37,6 @@ overflow_add-buckets-in-loop-point c =
       c.buckets_at-buckets.ensures,
       sum_below c.args.spares c.args.s _ c.requires.1 i i (omega arith) (omega arith),
     )
-
-pub overflow_sub-result-then-place-buckets-2 : goal.overflow_sub-result-then-place-buckets-2
-overflow_sub-result-then-place-buckets-2 c = omega (arith, c.if-place-buckets.false)
 
 pub returns-then-place-buckets-2 : goal.returns-then-place-buckets-2
 returns-then-place-buckets-2 c =

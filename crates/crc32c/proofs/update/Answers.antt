@@ -1,4 +1,4 @@
-use Rattle.std.proofs.Common.{◌≡◌, ℕ, ◌+◌, ◌-◌, ◌*◌, ◌%◌, ◌<◌, [], ◌∷◌, ◌++◌, ap, sym, ◌∙◌, arith, drop, length, length-append, length-drop}
+use Rattle.std.proofs.Common.{ℕ, ◌+◌, ◌*◌, [], ◌∷◌, ◌++◌, ap, sym, ◌∙◌, arith, drop, length, length-append}
 use Rattle.std.specs.Slice.Iter.{chunks_exact_rest}
 use Rattle.lists.specs.Bytes.{Bytes}
 use Rattle.crc32c.specs.Crc.{crc_byte, crc_bytes}
@@ -21,17 +21,6 @@ loop-four-preserved c =
       place = turn.place;
       state = cc (l.invariant.state, turn.state);
     }
-
-pub loop-byte-init : goal.loop-byte-init
-loop-byte-init c =
-    let s = c.args.s.now in
-    let l = c.loop-four in
-    let n : ℕ = 4 * length l.yielded in
-    let few : length s - n < 4 = omega (arith, c.in-None.ensures.steps.1.0, l.invariant.size, ap length l.invariant.place, length-drop n s) in
-    let end : n ≡ length s - length s % 4 = omega (arith, l.invariant.inside) in
-    l.invariant.state
-    ∙ ap (λ (k : ℕ). crc_bytes l.state (drop k s)) end
-    ∙ ap (crc_bytes l.state) (sym (c.remainder-rest.ensures ∙ c.chunks_exact-fours.ensures.remainder))
 
 pub loop-byte-preserved : goal.loop-byte-preserved
 unfolding crc_byte

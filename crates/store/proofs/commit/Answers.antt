@@ -8,14 +8,6 @@ loop-done-init c =
     let a = c.args in
     (refl, sym (commits-zero a.store.now a.change.numbers a.images.now))
 
-pub commit_one-requires : goal.commit_one-requires
-commit_one-requires c =
-    let l = c.loop-done in
-    record {
-      n_bound = (omega (arith, c.requires.fits.few), omega (arith, c.requires.fits.inside l.done (omega arith)));
-      images_len = c.requires.images_len;
-    }
-
 pub loop-done-preserved : goal.loop-done-preserved
 loop-done-preserved c =
     let l = c.loop-done in

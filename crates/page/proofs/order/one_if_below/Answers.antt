@@ -11,11 +11,5 @@ quotient a b ha hb = go (dec_lt a b)
     go (yes l) = rw (lt-ltb a b l) (omega arith)
     go (no l) = rw (le-ltb a b (omega arith)) (omega arith)
 
-pub overflow_add-result : goal.overflow_add-result
-overflow_add-result c = omega arith
-
-pub overflow_sub-result : goal.overflow_sub-result
-overflow_sub-result c = omega arith
-
 pub returns : goal.returns
 returns c = quotient c.args.a c.args.b c.requires.0 c.requires.1

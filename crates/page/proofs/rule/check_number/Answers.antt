@@ -1,9 +1,6 @@
-use Rattle.std.proofs.Common.{ap, arith, leb, ℕ}
+use Rattle.std.proofs.Common.{ap, leb, ℕ}
 use Rattle.page.specs.Rule.{number_ok}
 use Rattle.page.proofs.rule.check_number.Goals as goal
-
-pub count_entries-requires : goal.count_entries-requires
-count_entries-requires c = omega arith
 
 pub returns : goal.returns
 unfolding number_ok

@@ -1,38 +1,8 @@
-use Rattle.std.proofs.Common.{List, ap, ap₂, arith, ℕ, ◌*◌, ◌+◌, ◌∙◌}
+use Rattle.std.proofs.Common.{List, ap, ap₂, ℕ, ◌*◌, ◌+◌, ◌∙◌}
 use lib.Seq.{sets}
 use Rattle.endian.specs.Endian.{le16, le32}
 use Rattle.page.specs.EntryLaws.{sets-encode_entry}
 use Rattle.page.proofs.slots.put_entry.Goals as goal
-
-pub overflow_mul-at : goal.overflow_mul-at
-overflow_mul-at c = omega arith
-
-pub overflow_add-at : goal.overflow_add-at
-overflow_add-at c = omega arith
-
-pub put_u32-requires : goal.put_u32-requires
-put_u32-requires c = omega arith
-
-pub overflow_add-at-2 : goal.overflow_add-at-2
-overflow_add-at-2 c = omega arith
-
-pub put_u32-requires-2 : goal.put_u32-requires-2
-put_u32-requires-2 c = omega arith
-
-pub overflow_add-at-3 : goal.overflow_add-at-3
-overflow_add-at-3 c = omega arith
-
-pub put_u16-requires : goal.put_u16-requires
-put_u16-requires c = omega arith
-
-pub overflow_add-at-4 : goal.overflow_add-at-4
-overflow_add-at-4 c = omega arith
-
-pub entry_flags-requires : goal.entry_flags-requires
-entry_flags-requires c = omega arith
-
-pub put_u16-requires-2 : goal.put_u16-requires-2
-put_u16-requires-2 c = omega arith
 
 pub returns : goal.returns
 returns c =

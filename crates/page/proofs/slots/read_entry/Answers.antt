@@ -1,27 +1,6 @@
-use Rattle.std.proofs.Common.{arith, eqb}
+use Rattle.std.proofs.Common.{eqb}
 use Rattle.page.specs.Entries.{read_entry}
 use Rattle.page.proofs.slots.read_entry.Goals as goal
-
-pub get_u32-requires : goal.get_u32-requires
-get_u32-requires c = omega arith
-
-pub overflow_add-at : goal.overflow_add-at
-overflow_add-at c = omega arith
-
-pub get_u32-requires-2 : goal.get_u32-requires-2
-get_u32-requires-2 c = omega arith
-
-pub overflow_add-at-2 : goal.overflow_add-at-2
-overflow_add-at-2 c = omega arith
-
-pub get_u16-requires : goal.get_u16-requires
-get_u16-requires c = omega arith
-
-pub overflow_add-at-3 : goal.overflow_add-at-3
-overflow_add-at-3 c = omega arith
-
-pub get_u16-requires-2 : goal.get_u16-requires-2
-get_u16-requires-2 c = omega arith
 
 pub returns : goal.returns
 unfolding read_entry
