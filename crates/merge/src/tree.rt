@@ -1,7 +1,7 @@
 // The winner tree. Page i of n is leaf n + i, the nodes below node k are 2 k and 2 k + 1, and each node has the page
 // that is ahead of the two below it; so node 1 has the page that is ahead of all. Node 0 has the page that comes
 // second, or n where it is not known. Nodes hold the numbers of pages in 16 bits.
-ghost use Rattle.std.specs.Prelude.{◌≡◌, true, cond, ℕ, ◌+◌, ◌*◌, ◌-◌, ◌/◌, ◌≤◌, ◌<◌, length, get_or};
+ghost use Rattle.std.specs.Prelude.{◌≡◌, true, cond, ℕ, ◌+◌, ◌*◌, ◌-◌, ◌/◌, ◌≤◌, ◌<◌, IfSome, length, get_or};
 ghost use Rattle.merge.specs.Tree.{max_pages, ahead, winner, Above, Settled, Won, NextBest, Second};
 
 use crate::Merge;
@@ -88,14 +88,14 @@ impl Merge {
         }
     }
 
-    // Of all pages but page `j` the one that is ahead; `n` where there is no other. Their leaves are below the nodes
-    // next to leaf n + `j` and next to those above it.
-    fn second_best(&self, n: usize, j: usize) -> u16
+    // Of all pages but page `j` the one that is ahead, where there is another. Their leaves are below the nodes next to
+    // leaf n + `j` and next to those above it.
+    fn second_best(&self, n: usize, j: usize) -> Option<u16>
         requires { (j < n) × (n ≤ max_pages) × Won self.now.keys self.now.tails n self.now.tree }
-        ensures { result < n → NextBest self.now.keys self.now.tails n j result }
+        ensures { IfSome result (NextBest self.now.keys self.now.tails n j) }
     {
         if n == 1 {
-            return n as u16;
+            return None;
         }
         let leaf = n + j;
         let mut k = leaf / 2;
@@ -110,7 +110,7 @@ impl Merge {
             }
             k = up;
         }
-        page
+        Some(page)
     }
 
     // Puts node 0. Where page `j`, which was ahead of all, is so again, a run has begun and the second is looked for;
@@ -125,8 +125,8 @@ impl Merge {
             self.tree[0] = n as u16;
             return;
         }
-        let page = self.second_best(n, j);
-        self.tree[0] = page;
+        let second = self.second_best(n, j).unwrap_or(n as u16);
+        self.tree[0] = second;
     }
 
     // Whether page `j` is ahead of the page that comes second, where that is known. Inside a run the keys alone tell it.

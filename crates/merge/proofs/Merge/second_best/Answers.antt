@@ -20,6 +20,6 @@ loop-k-preserved c =
     (sym c.is_ahead.ensures ∙ c.if-not-is_ahead.false)
 
 pub returns : goal.returns
-returns c u =
+returns c =
     climbed c.requires.2 c.args.j c.loop-k.k c.loop-k.page c.loop-k.key (omega (arith, c.loop-k-test.false))
     c.loop-k.invariant

@@ -1,4 +1,4 @@
-use Rattle.std.proofs.Common.{◌≡◌, ap, ◌∙◌}
+use Rattle.std.proofs.Common.{List, ℕ, ◌≡◌, ap, ◌∙◌}
 use Rattle.merge.specs.declared.Merge.{Merge}
 use Rattle.merge.specs.MergingLaws.{merging-upto, taken-settled, taken-moved, taken-kept}
 use Rattle.merge.proofs.Merge.take_first.Goals as goal
@@ -22,15 +22,18 @@ replay-requires c =
     )
 
 -- the heads stay while the tree is put right
-same_heads : (m m' m'' : Merge) → m' ≡ record m { tree = m'.tree } → m'' ≡ record m' { tree = m''.tree }
-    → (m''.keys ≡ m.keys) × (m''.tails ≡ m.tails)
-same_heads m m' m'' e f =
-    (ap (λ (x : Merge). x.keys) f ∙ ap (λ (x : Merge). x.keys) e, ap (λ (x : Merge). x.tails) f ∙ ap (λ (x : Merge). x.tails) e)
+same_heads : (m m' m'' : Merge) (keys tails : List ℕ) → m' ≡ record m { tree = m'.tree }
+    → m'' ≡ record m' { tree = m''.tree } → m.keys ≡ keys → m.tails ≡ tails → (m''.keys ≡ keys) × (m''.tails ≡ tails)
+same_heads m m' m'' keys tails e f k t = (
+  ap (λ (x : Merge). x.keys) f ∙ ap (λ (x : Merge). x.keys) e ∙ k,
+  ap (λ (x : Merge). x.tails) f ∙ ap (λ (x : Merge). x.tails) e ∙ t,
+)
 
 pub returns : goal.returns
 returns c =
     let e = c.advance.ensures in
     let same =
-    same_heads c.advance.new.self c.replay.new.self c.put_second.new.self c.replay.ensures.rest c.put_second.ensures.rest in
-    taken-moved c.requires.underway.0 c.requires.underway.1 c.requires.some_left _ _ (same.0 ∙ e.keys_after)
-    (same.1 ∙ e.tails_after) _ c.put_second.ensures.won c.put_second.ensures.second
+    same_heads c.advance.new.self c.replay.new.self c.put_second.new.self _ _ c.replay.ensures.rest
+    c.put_second.ensures.rest e.keys_after e.tails_after in
+    taken-moved c.requires.underway.0 c.requires.underway.1 c.requires.some_left _ _ same.0 same.1 _
+    c.put_second.ensures.won c.put_second.ensures.second
