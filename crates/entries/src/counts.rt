@@ -12,6 +12,7 @@ ghost use Rattle.reader.specs.Known.{Known2};
 ghost use Rattle.shape.specs.Known.{Known5};
 ghost use Rattle.entries.specs.Counts.{prev_ok, live_in};
 
+use crate::Bucket;
 use address::{bucket_of, last_split};
 use chain::links::zero_walk;
 use image::Meta;
@@ -35,40 +36,43 @@ fn check_prevs(store: &[u8], m: Meta) -> bool
     true
 }
 
-// Whether an entry in the chain of bucket `b` is a held one.
-fn is_live(phase: Phase, max: u32, b: u32, entry: Entry) -> bool
-    ensures { result ≡ live_in phase max b entry }
-{
-    match phase {
-        Phase::None => true,
-        Phase::Copying { old: _, new } => b != new || !entry.moved,
-        Phase::Clearing { old: _, new: _ } => bucket_of(entry.pair.hash, max) == b,
+impl Bucket {
+    // Whether an entry in its chain is a held one.
+    fn is_live(self, entry: Entry) -> bool
+        ensures { result ≡ live_in self.phase self.max self.number entry }
+    {
+        match self.phase {
+            Phase::None => true,
+            Phase::Copying { old: _, new } => self.number != new || !entry.moved,
+            Phase::Clearing { old: _, new: _ } => bucket_of(entry.pair.hash, self.max)
+                == self.number,
+        }
     }
 }
 
-// The number of held entries of a page in the chain of bucket `b`.
-fn count_page(page: &[u8], phase: Phase, max: u32, b: u32) -> u32
+// The number of held entries of a page in the bucket's chain.
+fn count_page(page: &[u8], bucket: Bucket) -> u32
     requires { Sorted page.now }
-    ensures { (result ≡ tally (live_in phase max b) (entries_of page.now)) × (result ≤ 40) }
+    ensures { (result ≡ tally (live_in bucket.phase bucket.max bucket.number) (entries_of page.now)) × (result ≤ 40) }
 {
     let mut live = 0;
     for i in 0..count_entries(page) {
-        if is_live(phase, max, b, get_entry(page, i)) {
+        if bucket.is_live(get_entry(page, i)) {
             live += 1;
         }
     }
     live
 }
 
-// The number of held entries of a walk, that of bucket `b`.
-fn count_walk(store: &[u8], walk: &[u32], phase: Phase, max: u32, b: u32) -> u32
+// The number of held entries of the bucket's walk.
+fn count_walk(store: &[u8], walk: &[u32], bucket: Bucket) -> u32
     requires { (Within store.now walk.now) × (PagesOk store.now walk.now) }
-    ensures { (result ≡ tally (live_in phase max b) (bind walk.now (entries_on store.now)))
+    ensures { (result ≡ tally (live_in bucket.phase bucket.max bucket.number) (bind walk.now (entries_on store.now)))
         × (result ≤ 40 * suc max_blocks) }
 {
     let mut live = 0;
     for block in walk {
-        live += count_page(block_at(store, *block as usize), phase, max, b);
+        live += count_page(block_at(store, *block as usize), bucket);
     }
     live
 }
@@ -83,7 +87,12 @@ fn count_live(store: &[u8], m: Meta) -> u32
     let mut live = 0;
     for b in 0..=m.max {
         let count = walk_bucket(store, &mut blocks, m, b);
-        live += count_walk(store, &blocks[..count], phase, m.max, b);
+        let bucket = Bucket {
+            number: b,
+            max: m.max,
+            phase,
+        };
+        live += count_walk(store, &blocks[..count], bucket);
     }
     live
 }

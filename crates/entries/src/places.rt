@@ -12,6 +12,7 @@ ghost use Rattle.reader.specs.Job.{phase_at};
 ghost use Rattle.shape.specs.Known.{Known5};
 ghost use Rattle.entries.specs.Tests.{stands_in, marked_by, marks_in};
 
+use crate::Bucket;
 use crate::marks::all_marked;
 use address::bucket_of;
 use chain::links::zero_walk;
@@ -22,43 +23,45 @@ use reader::buckets::walk_bucket;
 use reader::job::read_job;
 use store::block_at;
 
-// Whether an entry with this hash code may stand in the chain of bucket `b`.
-fn may_stand(max: u32, phase: Phase, hash: u32, b: u32) -> bool
-    ensures { result ≡ stands_in phase (bucket_of max hash) b }
-{
-    let home = bucket_of(hash, max);
-    if home == b {
-        return true;
-    }
-    match phase {
-        Phase::None => false,
-        Phase::Copying { old, new } => b == old && home == new,
-        Phase::Clearing { old, new } => b == old && home == new,
+impl Bucket {
+    // Whether an entry with this hash code may stand in its chain.
+    fn may_hold(self, hash: u32) -> bool
+        ensures { result ≡ stands_in self.phase (bucket_of self.max hash) self.number }
+    {
+        let home = bucket_of(hash, self.max);
+        if home == self.number {
+            return true;
+        }
+        match self.phase {
+            Phase::None => false,
+            Phase::Copying { old, new } => self.number == old && home == new,
+            Phase::Clearing { old, new } => self.number == old && home == new,
+        }
     }
 }
 
-// Whether each entry of the page may stand in the chain of bucket `b`.
-fn check_page_places(page: &[u8], max: u32, phase: Phase, b: u32) -> bool
+// Whether each entry of the page may stand in the bucket's chain.
+fn check_page_places(page: &[u8], bucket: Bucket) -> bool
     requires { Sorted page.now }
-    ensures { result ≡ all (λ e. stands_in phase (bucket_of max e.pair.hash) b)
+    ensures { result ≡ all (λ e. stands_in bucket.phase (bucket_of bucket.max e.pair.hash) bucket.number)
         (entries_of page.now) }
 {
     for i in 0..count_entries(page) {
-        if !may_stand(max, phase, get_entry(page, i).pair.hash, b) {
+        if !bucket.may_hold(get_entry(page, i).pair.hash) {
             return false;
         }
     }
     true
 }
 
-// Whether each entry of the walk may stand in the chain of bucket `b`.
-fn check_walk_places(store: &[u8], walk: &[u32], max: u32, phase: Phase, b: u32) -> bool
+// Whether each entry of the walk may stand in the bucket's chain.
+fn check_walk_places(store: &[u8], walk: &[u32], bucket: Bucket) -> bool
     requires { (Within store.now walk.now) × (PagesOk store.now walk.now) }
-    ensures { result ≡ all (λ e. stands_in phase (bucket_of max e.pair.hash) b)
+    ensures { result ≡ all (λ e. stands_in bucket.phase (bucket_of bucket.max e.pair.hash) bucket.number)
         (bind walk.now (entries_on store.now)) }
 {
     for block in walk {
-        if !check_page_places(block_at(store, *block as usize), max, phase, b) {
+        if !check_page_places(block_at(store, *block as usize), bucket) {
             return false;
         }
     }
@@ -74,7 +77,12 @@ fn check_chains(store: &[u8], m: Meta, phase: Phase) -> bool
     let mut blocks = zero_walk();
     for b in 0..=m.max {
         let count = walk_bucket(store, &mut blocks, m, b);
-        if !check_walk_places(store, &blocks[..count], m.max, phase, b) {
+        let bucket = Bucket {
+            number: b,
+            max: m.max,
+            phase,
+        };
+        if !check_walk_places(store, &blocks[..count], bucket) {
             return false;
         }
     }

@@ -11,7 +11,7 @@ use Rattle.entries.proofs.counts.count_page.Goals.{else-is_live, then-is_live}
 pub loop-i-init : goal.loop-i-init
 loop-i-init c =
     let a = c.args in
-    (omega arith, omega (arith, ap (tally (live_in a.phase a.max a.b)) (rest-start a.page.now)))
+    (omega arith, omega (arith, ap (tally (live_in a.bucket.phase a.bucket.max a.bucket.number)) (rest-start a.page.now)))
 
 pub get_entry-requires : goal.get_entry-requires
 get_entry-requires c =
@@ -24,7 +24,7 @@ overflow_add-live c =
 pub loop-i-preserved : goal.loop-i-preserved
 loop-i-preserved c =
     let a = c.args in
-    let t = live_in a.phase a.max a.b in
+    let t = live_in a.bucket.phase a.bucket.max a.bucket.number in
     let more : c.loop-i.i < u16_at a.page.now 0 = omega (arith, c.count_entries-i-end.ensures, c.loop-i-test.true) in
     let turn = ap (tally t) (rest-turn a.page.now c.loop-i.i more) in
     let found : t (entry_at a.page.now c.loop-i.i) ≡ c.is_live.result =
@@ -38,7 +38,7 @@ pub returns : goal.returns
 returns c =
     let a = c.args in
     let past : u16_at a.page.now 0 ≤ c.loop-i.i = omega (arith, c.count_entries-i-end.ensures, c.loop-i-test.false) in
-    let none = ap (tally (live_in a.phase a.max a.b)) (rest-done a.page.now c.loop-i.i past) in (
+    let none = ap (tally (live_in a.bucket.phase a.bucket.max a.bucket.number)) (rest-done a.page.now c.loop-i.i past) in (
       omega (arith, c.loop-i.invariant.1, none),
       omega (arith, c.loop-i.invariant.0, c.count_entries-i-end.ensures, number-le a.page.now c.requires.number),
     )

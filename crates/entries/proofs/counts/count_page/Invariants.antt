@@ -8,5 +8,5 @@ use Rattle.entries.proofs.counts.count_page.Given as goal
 abbrev pub invariant-loop-i : goal.invariant-loop-i
 invariant-loop-i l =
     (l.live ≤ l.i)
-    × (l.live + tally (live_in l.phase l.max l.b) (rest l.page l.i)
-    ≡ tally (live_in l.phase l.max l.b) (entries_of l.page))
+    × (l.live + tally (live_in l.bucket.phase l.bucket.max l.bucket.number) (rest l.page l.i)
+    ≡ tally (live_in l.bucket.phase l.bucket.max l.bucket.number) (entries_of l.page))

@@ -20,7 +20,7 @@ overflow_add-live c = omega (arith, c.loop-block.invariant.0, c.count_page-live.
 
 pub loop-block-preserved : goal.loop-block-preserved
 loop-block-preserved c =
-    let t = live_in c.args.phase c.args.max c.args.b in
+    let t = live_in c.args.bucket.phase c.args.bucket.max c.args.bucket.number in
     let turn =
     tally-turn c.args.store.now c.args.walk.now t c.loop-block.block-index c.loop-block-test.true
     c.count_page-live.result
@@ -31,6 +31,6 @@ loop-block-preserved c =
 
 pub returns : goal.returns
 returns c =
-    let t = live_in c.args.phase c.args.max c.args.b in
+    let t = live_in c.args.bucket.phase c.args.bucket.max c.args.bucket.number in
     let none = tally-done c.args.store.now c.args.walk.now t c.loop-block.block-index c.loop-block-test.false in
     (omega (arith, c.loop-block.invariant.1, none), omega (arith, c.loop-block.invariant.0, c.requires.0.few))

@@ -7,5 +7,5 @@ use Rattle.entries.proofs.counts.count_walk.Given as goal
 abbrev pub invariant-loop-block : goal.invariant-loop-block
 invariant-loop-block l =
     (l.live ≤ 40 * l.block-index)
-    × (l.live + tally (live_in l.phase l.max l.b) (bind (drop l.block-index l.walk) (entries_on l.store))
-    ≡ tally (live_in l.phase l.max l.b) (bind l.walk (entries_on l.store)))
+    × (l.live + tally (live_in l.bucket.phase l.bucket.max l.bucket.number) (bind (drop l.block-index l.walk) (entries_on l.store))
+    ≡ tally (live_in l.bucket.phase l.bucket.max l.bucket.number) (bind l.walk (entries_on l.store)))

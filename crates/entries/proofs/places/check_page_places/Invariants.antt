@@ -8,5 +8,5 @@ use Rattle.entries.proofs.places.check_page_places.Given as goal
 
 abbrev pub invariant-loop-i : goal.invariant-loop-i
 invariant-loop-i l =
-    all (λ e. stands_in l.phase (bucket_of l.max e.pair.hash) l.b) (rest l.page l.i)
-    ≡ all (λ e. stands_in l.phase (bucket_of l.max e.pair.hash) l.b) (entries_of l.page)
+    all (λ e. stands_in l.bucket.phase (bucket_of l.bucket.max e.pair.hash) l.bucket.number) (rest l.page l.i)
+    ≡ all (λ e. stands_in l.bucket.phase (bucket_of l.bucket.max e.pair.hash) l.bucket.number) (entries_of l.page)

@@ -4,15 +4,15 @@ use Rattle.address.specs.Address.{bucket_of}
 use Rattle.page.specs.declared.Entry.{Entry}
 use Rattle.page.specs.Allowed.{Sorted}
 use Rattle.page.specs.Entries.{entries_of}
-use Rattle.model.specs.declared.Phase.{Phase}
+use Rattle.entries.specs.declared.Bucket.{Bucket}
 use Rattle.chain.specs.WithinLaws.{block-whole}
 use Rattle.shape.specs.LoopLaws.{passed, failed}
 use Rattle.entries.specs.Tests.{stands_in}
 use Rattle.entries.proofs.Walking.{page-sorted, all-turn, all_done}
 use Rattle.entries.proofs.places.check_walk_places.Goals as goal
 
-abbrev may : ℕ → Phase → ℕ → Entry → Bool
-may max phase b e = stands_in phase (bucket_of max e.pair.hash) b
+abbrev may : Bucket → Entry → Bool
+may b e = stands_in b.phase (bucket_of b.max e.pair.hash) b.number
 
 pub block_at-requires : goal.block_at-requires
 block_at-requires c = omega (arith, block-whole c.requires.0 c.loop-block.block-index c.loop-block-test.true)
@@ -24,7 +24,7 @@ check_page_places-requires c =
 
 pub returns-then-not-check_page_places : goal.returns-then-not-check_page_places
 returns-then-not-check_page_places c =
-    let t = may c.args.max c.args.phase c.args.b in
+    let t = may c.args.bucket in
     let turn =
     all-turn c.args.store.now c.args.walk.now t c.loop-block.block-index c.loop-block-test.true c.check_page_places.result
     (c.check_page_places.ensures ∙ ap (λ (l : List ℕ). all t (entries_of l)) c.block_at.ensures) in
@@ -32,7 +32,7 @@ returns-then-not-check_page_places c =
 
 pub loop-block-preserved : goal.loop-block-preserved
 loop-block-preserved c =
-    let t = may c.args.max c.args.phase c.args.b in
+    let t = may c.args.bucket in
     let turn =
     all-turn c.args.store.now c.args.walk.now t c.loop-block.block-index c.loop-block-test.true c.check_page_places.result
     (c.check_page_places.ensures ∙ ap (λ (l : List ℕ). all t (entries_of l)) c.block_at.ensures) in
@@ -40,6 +40,6 @@ loop-block-preserved c =
 
 pub returns : goal.returns
 returns c =
-    let t = may c.args.max c.args.phase c.args.b in
+    let t = may c.args.bucket in
     sym (sym c.loop-block.invariant
     ∙ all_done c.args.store.now c.args.walk.now t c.loop-block.block-index c.loop-block-test.false)

@@ -7,5 +7,5 @@ use Rattle.entries.proofs.places.check_walk_places.Given as goal
 
 abbrev pub invariant-loop-block : goal.invariant-loop-block
 invariant-loop-block l =
-    all (λ e. stands_in l.phase (bucket_of l.max e.pair.hash) l.b) (bind (drop l.block-index l.walk) (entries_on l.store))
-    ≡ all (λ e. stands_in l.phase (bucket_of l.max e.pair.hash) l.b) (bind l.walk (entries_on l.store))
+    all (λ e. stands_in l.bucket.phase (bucket_of l.bucket.max e.pair.hash) l.bucket.number) (bind (drop l.block-index l.walk) (entries_on l.store))
+    ≡ all (λ e. stands_in l.bucket.phase (bucket_of l.bucket.max e.pair.hash) l.bucket.number) (bind l.walk (entries_on l.store))
