@@ -1,4 +1,4 @@
-use Rattle.std.proofs.Common.{arith, rules}
+use Rattle.std.proofs.Common.{arith}
 use Rattle.address.specs.Limits.{max_blocks}
 use Rattle.meta.specs.Addressed.{bit-inside}
 use Rattle.reader.proofs.bits.home_of_bit.Goals as goal

@@ -1,4 +1,4 @@
-use Rattle.std.proofs.Common.{arith, rules}
+use Rattle.std.proofs.Common.{arith}
 use Rattle.address.specs.OverLaws.{buckets-mono}
 use Rattle.address.specs.Limits.{max_blocks}
 use Rattle.meta.specs.Addressed.{max-under, home-inside}

@@ -1,4 +1,4 @@
-use Rattle.std.proofs.Common.{arith, rules, suc, take, ◌^◌}
+use Rattle.std.proofs.Common.{arith, suc, take, ◌^◌}
 use Rattle.address.specs.AgreeLaws.{spares-wider}
 use Rattle.address.specs.Limits.{max_blocks}
 use Rattle.reader.proofs.roles.role_at.Goals as goal
