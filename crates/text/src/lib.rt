@@ -9,15 +9,13 @@ ghost use Rattle.text.specs.Text.{line_output, store_text, ok_text, refused_text
 ghost use Rattle.text.specs.Wrote.{Wrote};
 ghost use Rattle.text.specs.Text.{two_text, steps_text, place_text, found_text};
 
-use endian::raw::copy_over;
 use endian::{get_u16, get_u32};
 
 // The bytes that one line of output can need: 5,000 matches of 17 bytes, their number, a colon and LF.
 pub const LINE_OUTPUT: usize = 85006;
 
 // Puts the digits of `n` at the end of `space`, and answers where they begin.
-fn spell(n: u64, space: &mut [u8]) -> usize
-    requires { length space.old ≡ 20 }
+fn spell(n: u64, space: &mut [u8; 20]) -> usize
     ensures { (result ≤ 20) × (drop result space.new ≡ digits n) }
 {
     let mut rest = n;
@@ -37,7 +35,7 @@ fn put_bytes(output: &mut [u8], at: usize, bytes: &[u8]) -> usize
     ensures { Wrote output.old at bytes.now output.new result }
 {
     let end = at + bytes.len();
-    copy_over(&mut output[at..end], bytes);
+    output[at..end].copy_from_slice(bytes);
     end
 }
 
@@ -118,10 +116,8 @@ fn put_places(output: &mut [u8], at: usize, places: &[u8], count: usize) -> usiz
     ensures upper_bound { result ≤ at + 17 * count }
 {
     let mut end = at;
-    let mut i = 0;
-    while i < count {
+    for i in 0..count {
         end = put_place(output, end, places, i);
-        i += 1;
     }
     end
 }
