@@ -1,5 +1,5 @@
 -- Calls of feed and finish from a state that a script can have: each is the machine on the bytes that it used.
-use Rattle.std.specs.Prelude.{◌≡◌, ℕ, zero, suc, ◌*◌, ◌≤◌, Bool, true, false, cond, List, [], ◌∷◌, length, take, drop, nat_le, nat_lt, refl}
+use Rattle.std.specs.Prelude.{◌≡◌, ℕ, zero, suc, ◌*◌, ◌≤◌, Bool, true, false, cond, List, [], ◌∷◌, length, take, drop, nat_le, nat_lt, refl, Option, None}
 use Rattle.std.proofs.Common.{sym, ap, ◌∙◌, subst, arith, length-append, length-drop, take_at}
 use Rattle.std.proofs.Math.Seq.{take-append_seam, length-sets}
 use Rattle.lists.specs.Block.{blocks}
@@ -9,13 +9,12 @@ use Rattle.line.specs.Command.{max_line, read_line}
 use Rattle.line.proofs.FitsLaws.{CommandFits, line-fits}
 use Rattle.text.specs.Text.{line_output}
 use Rattle.interpreter.specs.declared.ScriptState.{ScriptState}
-use Rattle.interpreter.specs.declared.Gathered.{Gathered}
 use Rattle.interpreter.specs.Script.{Turn, run_command}
 use Rattle.interpreter.specs.Feed.{gathered, ready, Feeding, still, pending_command, next_line}
 use Rattle.interpreter.specs.Feed.{line_turn, over, next_state, line_ends, feed_outcome, finish_outcome}
 use Rattle.interpreter.specs.Machine.{short, long, command_at, State, Reached, end_line, on_bytes, end_in}
 use Rattle.interpreter.specs.Machine.{at_end, pending_in, state_of, ran_as}
-use Rattle.interpreter.specs.HeldLaws.{up_to, gather-is, line_run, gather-run}
+use Rattle.interpreter.specs.HeldLaws.{Gathered, up_to, gather-is, line_run, gather-run}
 use Rattle.interpreter.specs.FeedLaws.{room-ready, feed-ready, finish-still, finish-ended}
 use Rattle.interpreter.specs.Stores.{ScriptStore, Serves}
 use Rattle.interpreter.specs.StoresLaws.{store-after, store-size}
@@ -29,7 +28,7 @@ ran_in f = ran_as f.fed.state f.store (take f.fed.written f.output)
 pending-command : (c : ScriptState) → pending_command c ≡ command_at (pending_in c)
 pending-command c = go (nat_le c.seen max_line)
   where
-    go : (t : Bool) → cond t (read_line (take c.seen c.line)) Command.Unreadable
+    go : (t : Bool) → cond t (read_line (take c.seen c.line)) None
         ≡ command_at (cond t (short (take c.seen c.line)) long)
     go true = refl
     go false = refl
@@ -37,7 +36,7 @@ pending-command c = go (nat_le c.seen max_line)
 pending-fits : (c : ScriptState) → CommandFits (pending_command c)
 pending-fits c = go (nat_le c.seen max_line)
   where
-    go : (t : Bool) → CommandFits (cond t (read_line (take c.seen c.line)) Command.Unreadable)
+    go : (t : Bool) → CommandFits (cond t (read_line (take c.seen c.line)) None)
     go true = line-fits (take c.seen c.line)
     go false = tt
 
@@ -72,7 +71,7 @@ module _ (c : ScriptState) (store : List ℕ) (v : Serves c store) where
   ended-run n out =
       ap (λ (s : List ℕ). made s (take (length turn.text) (over turn.text out))) standing
       ∙ ap (made turn.store) (take-append_seam turn.text (drop (length turn.text) out))
-      ∙ ap (λ (k : Command). let t = run_command k (next_line c.number) (take (512 * c.blocks) store) in
+      ∙ ap (λ (k : Option Command). let t = run_command k (next_line c.number) (take (512 * c.blocks) store) in
       made t.store t.text) (pending-command c)
     where
       made : List ℕ → List ℕ → Reached

@@ -1,6 +1,6 @@
 -- What start, feed and finish give, for all states and slices: the whole struct, the lent store and the output.
 -- And a script that is run by a list of these calls.
-use Rattle.std.specs.Prelude.{ℕ, suc, ◌+◌, ◌*◌, ◌%◌, ◌^◌, min, Bool, true, false, cond, ◌&&◌, List, [], ◌∷◌, ◌++◌, length, take, drop, replicate, ◌==◌, nat_le, nat_lt}
+use Rattle.std.specs.Prelude.{ℕ, suc, ◌+◌, ◌*◌, ◌%◌, ◌^◌, min, Bool, true, false, cond, ◌&&◌, Option, None, List, [], ◌∷◌, ◌++◌, length, take, drop, replicate, ◌==◌, nat_le, nat_lt}
 use Rattle.std.proofs.lemmas.List.Edits.{sets}
 use Rattle.lists.specs.Block.{blocks}
 use Rattle.line.specs.declared.Command.{Command}
@@ -59,8 +59,8 @@ abbrev pub still : (ready : Bool) → (used : ℕ) → ScriptState → (store ou
 still y n c store out = fed_as (record { ready = y; state = c; used = n; written = 0 }) store out
 
 -- the call of the pending line
-abbrev pub pending_command : ScriptState → Command
-pending_command c = cond (nat_le c.seen max_line) (read_line (take c.seen c.line)) Command.Unreadable
+abbrev pub pending_command : ScriptState → Option Command
+pending_command c = cond (nat_le c.seen max_line) (read_line (take c.seen c.line)) None
 
 -- the number of the line after line n, in the struct's 64 bits
 abbrev pub next_line : ℕ → ℕ

@@ -1,21 +1,24 @@
 -- What the private functions give is feed's and finish's outcome.
-use Rattle.std.specs.Prelude.{◌≡◌, ℕ, suc, ◌≤◌, Bool, true, false, cond, List, length, take, ◌≢◌, nat_le, nat_lt, refl}
-use Rattle.std.proofs.Common.{sym, ap, ◌∙◌, subst, arith}
+use Rattle.std.specs.Prelude.{◌≡◌, ℕ, suc, ◌+◌, ◌≤◌, Bool, true, false, cond, Some, None, List, length, take, ◌==◌, ◌≢◌, nat_le, nat_lt, refl}
+use Rattle.std.proofs.Common.{sym, ap, ◌∙◌, subst, arith, add-one, one-add, ltb-false, take_all}
+use Rattle.std.specs.List.{fold, position, position_or_len}
+use Rattle.std.proofs.lemmas.List.Recursion.{is_position_or_len}
+use Rattle.std.proofs.lemmas.Option.{cond_some}
 use borrow.Author.Tests.{leb-true, le-leb, eq-eqb, ne_eqb}
 use Rattle.lists.specs.ListsLaws.{and_left, and_right}
 use Rattle.lists.specs.Block.{blocks}
 use Rattle.line.specs.Words.{span}
+use Rattle.line.specs.WordsLaws.{span-le}
 use Rattle.text.specs.Text.{line_output}
 use Rattle.text.specs.TextLaws.{wrote-start, wrote_count}
 use Rattle.interpreter.specs.declared.ScriptState.{ScriptState}
 use Rattle.interpreter.specs.declared.Fed.{Fed}
-use Rattle.interpreter.specs.declared.Gathered.{Gathered}
 use Rattle.interpreter.specs.Feed.{too_many, gathered, store_bytes, ready, Feeding, fed_as, still}
 use Rattle.interpreter.specs.Script.{script_blocks}
 use Rattle.interpreter.specs.Feed.{next_line, line_turn, line_ends, feed_outcome, finish_outcome}
 use Rattle.interpreter.specs.Runs.{Runs, Room}
-use Rattle.interpreter.specs.Held.{gather_in}
-use Rattle.interpreter.specs.HeldLaws.{up_to, gather-is}
+use Rattle.interpreter.specs.Held.{kept}
+use Rattle.interpreter.specs.HeldLaws.{kept-gathered}
 
 -- ---- room
 
@@ -77,6 +80,34 @@ ready-next n c store out r new after y e few l m =
 
 -- ---- feed
 
+-- where std's position finds the first LF
+span-position : (input : List ℕ) → span 10 input ≡ position_or_len (λ b. b == 10) input
+span-position input =
+    is_position_or_len (span 10) (λ b. b == 10) refl
+    (λ x xs. step (x == 10) (span 10 xs)) input
+  where
+    step : (t : Bool) (k : ℕ) → Path ℕ (elim t [ true ↦ 0 | false ↦ suc k ]) (cond t 0 (1 + k))
+    step true k = refl
+    step false k = sym (one-add k)
+
+lf-at : (input : List ℕ) (n : ℕ) → position (λ b. b == 10) input ≡ Some n
+    → (span 10 input ≡ n) × (nat_lt (span 10 input) (length input) ≡ true)
+lf-at input n e =
+    let found = cond_some (nat_lt (position_or_len (λ b. b == 10) input) (length input))
+    (position_or_len (λ b. b == 10) input) n e in
+    (span-position input ∙ found.1, ap (λ (k : ℕ). nat_lt k (length input)) (span-position input) ∙ found.0)
+
+lf-none : (input : List ℕ) → position (λ b. b == 10) input ≡ None
+    → (span 10 input ≡ length input) × (nat_lt (span 10 input) (length input) ≡ false)
+lf-none input e =
+    let past : nat_lt (span 10 input) (length input) ≡ false =
+    ap (λ (k : ℕ). nat_lt k (length input)) (span-position input) ∙ go (nat_lt _ (length input)) e in
+    (omega (arith, span-le 10 input, ltb-false (span 10 input) (length input) past), past)
+  where
+    go : (t : Bool) → cond t (Some (position_or_len (λ b. b == 10) input)) None ≡ None → t ≡ false
+    go true q = cc
+    go false q = refl
+
 module _ (c : ScriptState) (store input out : List ℕ) where
   pub feed-unready : ready c store out ≡ false → feed_outcome c store input out ≡ still false 0 c store out
   unfolding feed_outcome
@@ -90,38 +121,42 @@ module _ (c : ScriptState) (store input out : List ℕ) where
   unfolding feed_outcome
   feed-ready e = rw e
 
-  module _ (g : Gathered) (e : g ≡ gather_in c input) (whole : length c.line ≡ 80)
-      (y : ready c store out ≡ true) where
-    to-lf : g ≡ up_to c input (span 10 input)
-    to-lf = e ∙ gather-is c input whole (ready-seen c store out y)
+  module _ (whole : length c.line ≡ 80) (y : ready c store out ≡ true) where
+    held : (bs : List ℕ) → fold kept c bs ≡ gathered c bs
+    held bs = kept-gathered c bs whole (ready-seen c store out y)
 
-    pub held-seen : g.state.seen ≤ too_many
-    held-seen = let q = ap (λ (x : Gathered). x.state.seen) to-lf in omega (arith, q)
+    pub held-room : (bs : List ℕ) → Room (fold kept c bs).blocks store out
+    held-room bs =
+        subst (λ (x : ScriptState). Room x.blocks store out) (sym (held bs)) (ready-room c store out y)
 
-    pub held-blocks : g.state.blocks ≡ c.blocks
-    held-blocks = ap (λ (x : Gathered). x.state.blocks) to-lf
+    pub held-ready : (bs : List ℕ) → ready (fold kept c bs) store out ≡ true
+    held-ready bs =
+        let q = ap (λ (x : ScriptState). x.seen) (held bs) in
+        room-ready (fold kept c bs) store out (omega (arith, q)) (held-room bs)
 
-    pub held-room : Room g.state.blocks store out
-    held-room = subst (λ (m : ℕ). Room m store out) (sym held-blocks) (ready-room c store out y)
+    abbrev by : ℕ → Bool → Feeding
+    by n u =
+        cond u (line_ends (suc n) (gathered c (take n input)) store out)
+        (still true n (gathered c (take n input)) store out)
 
-    abbrev by : Gathered → Feeding
-    by x = cond x.ended (line_ends x.used x.state store out) (still true x.used x.state store out)
+    -- the first LF stands at n
+    pub feed-line : (n : ℕ) → position (λ b. b == 10) input ≡ Some n
+        → feed_outcome c store input out ≡ line_ends (n + 1) (fold kept c (take n input)) store out
+    feed-line n e =
+        let at = lf-at input n e in
+        feed-ready y ∙ ap (by (span 10 input)) at.1 ∙ ap (λ (k : ℕ). by k true) at.0
+        ∙ ap (λ (x : ScriptState). line_ends (suc n) x store out) (sym (held (take n input)))
+        ∙ ap (λ (k : ℕ). line_ends k (fold kept c (take n input)) store out) (sym (add-one n))
 
-    pick : (u : Bool) (n : ℕ) (x : ScriptState)
-        → cond u (line_ends (suc n) x store out) (still true n x store out)
-        ≡ by (record { state = x; used = cond u (suc n) n; ended = u })
-    pick true n x = refl
-    pick false n x = refl
-
-    pub feed-gathered : (t : Bool) → g.ended ≡ t
-        → feed_outcome c store input out
-        ≡ cond t (line_ends g.used g.state store out) (still true g.used g.state store out)
-    feed-gathered t h =
-        let n = span 10 input in
-        feed-ready y ∙ pick (nat_lt n (length input)) n (gathered c (take n input)) ∙ ap by (sym to-lf)
-        ∙ ap (λ (u : Bool).
-        cond u (line_ends g.used g.state store out) (still true g.used g.state store out))
-        h
+    -- there is none
+    pub feed-part : position (λ b. b == 10) input ≡ None
+        → feed_outcome c store input out ≡ still true (length input) (fold kept c input) store out
+    feed-part e =
+        let at = lf-none input e in
+        feed-ready y ∙ ap (by (span 10 input)) at.1 ∙ ap (λ (k : ℕ). by k false) at.0
+        ∙ ap (λ (l : List ℕ). still true (length input) (gathered c l) store out)
+        (take_all (length input) input (omega arith))
+        ∙ ap (λ (x : ScriptState). still true (length input) x store out) (sym (held input))
 
 -- ---- finish
 

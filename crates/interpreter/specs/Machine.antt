@@ -1,7 +1,7 @@
 -- A script run byte by byte: what is kept between bytes, and what each byte writes. It stands in the proof between
 -- script_output and feed, and the program's own contracts cite it: who reads Script.antt and Feed.antt to believe the
 -- theorems need not read it.
-use Rattle.std.specs.Prelude.{ℕ, ◌*◌, cond, List, [], ◌∷◌, ◌++◌, length, take, ◌==◌, nat_le, nat_lt}
+use Rattle.std.specs.Prelude.{ℕ, ◌*◌, cond, Option, None, List, [], ◌∷◌, ◌++◌, length, take, ◌==◌, nat_le, nat_lt}
 use Rattle.line.specs.declared.Command.{Command}
 use Rattle.line.specs.Command.{max_line, read_line}
 use Rattle.interpreter.specs.declared.ScriptState.{ScriptState}
@@ -17,9 +17,9 @@ abbrev pub grow : Pending → ℕ → Pending
 grow (short l) b = cond (nat_lt (length l) max_line) (short (l ++ (b ∷ []))) long
 grow long b = long
 
-abbrev pub command_at : Pending → Command
+abbrev pub command_at : Pending → Option Command
 command_at (short l) = read_line l
-command_at long = Command.Unreadable
+command_at long = None
 
 -- `line` is the number of the last line that ended.
 pub record State : Type 0 where

@@ -1,5 +1,5 @@
 -- The machine in pieces, and against the lines of a script.
-use Rattle.std.specs.Prelude.{◌≡◌, ℕ, ◌+◌, ◌^◌, ◌<◌, Bool, true, false, cond, List, [], ◌∷◌, ◌++◌, length, ◌==◌, nat_le, nat_lt, refl}
+use Rattle.std.specs.Prelude.{◌≡◌, ℕ, ◌+◌, ◌^◌, ◌<◌, Bool, true, false, cond, List, [], ◌∷◌, ◌++◌, length, ◌==◌, nat_le, nat_lt, refl, Option}
 use Rattle.std.proofs.Common.{sym, ap, ◌∙◌, append_assoc, append-nil, arith, ltb-true, ltb-false, leb-false, le-leb, length-append}
 use Rattle.std.proofs.lemmas.Bool.{lt-leb}
 use Rattle.lists.specs.Lists.{bind}
@@ -97,7 +97,7 @@ last : (n : ℕ) (s acc : List ℕ) → n + length acc < 2 ^ 64
 last n s [] h = refl
 last n s (x ∷ xs) h =
     go (nat_le (length (x ∷ xs)) max_line)
-    ∙ ap (λ (c : Command). (run_command c (next_line n) s).text) (pending-command (x ∷ xs))
+    ∙ ap (λ (c : Option Command). (run_command c (next_line n) s).text) (pending-command (x ∷ xs))
     ∙ ap (λ (m : ℕ). (run_command (read_line (x ∷ xs)) m s).text) (next-count n (omega arith))
     ∙ sym (append-nil (run_command (read_line (x ∷ xs)) (n + 1) s).text)
   where
@@ -131,7 +131,7 @@ rest_lines n s acc (b ∷ bs) h =
         t.text ++ rest (within m t.store []) bs) count
         ∙ ap (λ (x : List ℕ). (run_command (command_at (pending_of acc)) (n + 1) s).text ++ x)
         (new (run_command (command_at (pending_of acc)) (n + 1) s).store)
-        ∙ ap (λ (c : Command). let t = run_command c (n + 1) s in
+        ∙ ap (λ (c : Option Command). let t = run_command c (n + 1) s in
         t.text ++ run_lines (n + 1) t.store (ended (parts_from 10 [] bs)))
         (pending-command acc)
         ∙ ap (run_lines n s) (sym (ended-more acc [] bs))

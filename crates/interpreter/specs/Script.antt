@@ -1,5 +1,5 @@
 -- docs/RULES.md 8, "The script": from the bytes of a script to the bytes that it writes.
-use Rattle.std.specs.Prelude.{ℕ, ◌+◌, ◌*◌, Bool, true, false, List, [], ◌∷◌, ◌++◌, replicate, nat_le}
+use Rattle.std.specs.Prelude.{ℕ, ◌+◌, ◌*◌, Bool, true, false, Option, Some, None, List, [], ◌∷◌, ◌++◌, replicate, nat_le}
 use Rattle.line.specs.declared.Command.{Command}
 use Rattle.line.specs.Words.{parts}
 use Rattle.line.specs.Command.{read_line}
@@ -56,21 +56,21 @@ abbrev pub lent : ℕ
 lent = 30000
 
 -- the call of a line on the store that stands; "Anything else .. is refusal 10"
-unfoldable pub run_command : Command → (line : ℕ) → (store : List ℕ) → Turn
-run_command (Command.Format n fill number overwrite) line s =
+unfoldable pub run_command : Option Command → (line : ℕ) → (store : List ℕ) → Turn
+run_command (Some (Command.Format n fill number overwrite)) line s =
     format_line (nat_le n script_blocks) n (order_of fill number overwrite) line s
-run_command (Command.Insert h b o) line s =
+run_command (Some (Command.Insert h b o)) line s =
     let c = insert_outcome s (record { hash = h; block = b; offset = o }) in
     record { text = answer_text line c.answer; store = c.store }
-run_command (Command.Remove h b o) line s =
+run_command (Some (Command.Remove h b o)) line s =
     let c = remove_outcome s (record { hash = h; block = b; offset = o }) in
     record { text = answer_text line c.answer; store = c.store }
-run_command (Command.Lookup h) line s =
+run_command (Some (Command.Lookup h)) line s =
     let c = lookup_outcome s h (replicate lent 0) in
     record { text = lookup_text line c.answer c.output; store = s }
-run_command (Command.Work budget) line s =
+run_command (Some (Command.Work budget)) line s =
     let c = work_outcome s budget in record { text = work_text line c.answer; store = c.store }
-run_command Command.Unreadable line s = record { text = refused_text line 10; store = s }
+run_command None line s = record { text = refused_text line 10; store = s }
 
 -- ---- a script
 

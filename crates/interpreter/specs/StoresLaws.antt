@@ -1,5 +1,5 @@
 -- Each line of a script leaves a store that a script can have.
-use Rattle.std.specs.Prelude.{◌≡◌, ℕ, ◌*◌, ◌≤◌, Bool, true, false, not, ◌&&◌, ◌≢◌, List, [], length, replicate, nat_le, refl}
+use Rattle.std.specs.Prelude.{◌≡◌, ℕ, ◌*◌, ◌≤◌, Bool, true, false, not, ◌&&◌, ◌≢◌, List, [], length, replicate, nat_le, refl, Option, Some, None}
 use Rattle.std.proofs.Common.{sym, ap, ◌∙◌, subst, arith, leb-true}
 use Rattle.std.proofs.lemmas.List.{length-replicate}
 use Rattle.lists.specs.Block.{blocks}
@@ -121,18 +121,18 @@ line_store line n o fits s p = go (nat_le n script_blocks) refl
         (omega (arith, leb-true n script_blocks e, length-replicate {A = ℕ} (512 * n) 0)) p
     go false e = p
 
-pub store-after : (c : Command) → CommandFits c → (line : ℕ) (s : List ℕ)
+pub store-after : (c : Option Command) → CommandFits c → (line : ℕ) (s : List ℕ)
     → ScriptStore s → ScriptStore (run_command c line s).store
 unfolding run_command run_store insert_outcome remove_outcome work_outcome tested length_ok blocks
-store-after (Command.Format n fill number overwrite) f line s p =
+store-after (Some (Command.Format n fill number overwrite)) f line s p =
     line_store line n (order_of fill number overwrite) (f.1, f.2, f.3) s p
-store-after (Command.Insert h b o) f line s p =
+store-after (Some (Command.Insert h b o)) f line s p =
     call-store (inserting (record { hash = h; block = b; offset = o })) f s p refl
-store-after (Command.Remove h b o) f line s p =
+store-after (Some (Command.Remove h b o)) f line s p =
     call-store (removing (record { hash = h; block = b; offset = o })) f s p refl
-store-after (Command.Lookup h) f line s p = p
-store-after (Command.Work budget) f line s p = call-store (working budget) f s p refl
-store-after Command.Unreadable f line s p = p
+store-after (Some (Command.Lookup h)) f line s p = p
+store-after (Some (Command.Work budget)) f line s p = call-store (working budget) f s p refl
+store-after None f line s p = p
 
 -- whole blocks, and no more than a script's
 pub store-size : (s : List ℕ) → ScriptStore s → (length s ≡ 512 * blocks s) × (blocks s ≤ script_blocks)

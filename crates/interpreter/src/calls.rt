@@ -57,7 +57,7 @@ fn run_format(
 ) -> LineEnd
     requires { Room standing store.old output.old }
     ensures { Runs
-        (run_command (command.Format blocks fill number overwrite) line (take (512 * standing) store.old))
+        (run_command (Some (command.Format blocks fill number overwrite)) line (take (512 * standing) store.old))
         store.old store.new result.blocks
         output.old output.new result.written }
 {
@@ -89,47 +89,9 @@ fn run_format(
     }
 }
 
-fn run_insert(
-    hash: u32,
-    block: u32,
-    offset: u32,
-    line: u64,
-    blocks: u32,
-    store: &mut [u8],
-    output: &mut [u8],
-) -> usize
-    requires { Room blocks store.old output.old }
-    ensures { Runs
-        (run_command (command.Insert hash block offset) line (take (512 * blocks) store.old))
-        store.old store.new blocks output.old output.new result }
-{
-    let end = 512 * blocks as usize;
-    let answer = insert_lent(&mut store[..end], hash, block, offset);
-    put_answer(output, line, answer)
-}
-
-fn run_remove(
-    hash: u32,
-    block: u32,
-    offset: u32,
-    line: u64,
-    blocks: u32,
-    store: &mut [u8],
-    output: &mut [u8],
-) -> usize
-    requires { Room blocks store.old output.old }
-    ensures { Runs
-        (run_command (command.Remove hash block offset) line (take (512 * blocks) store.old))
-        store.old store.new blocks output.old output.new result }
-{
-    let end = 512 * blocks as usize;
-    let answer = remove_lent(&mut store[..end], hash, block, offset);
-    put_answer(output, line, answer)
-}
-
 fn run_lookup(hash: u32, line: u64, blocks: u32, store: &[u8], output: &mut [u8]) -> usize
     requires { Room blocks store.now output.old }
-    ensures { Runs (run_command (command.Lookup hash) line (take (512 * blocks) store.now))
+    ensures { Runs (run_command (Some (command.Lookup hash)) line (take (512 * blocks) store.now))
         store.now store.now blocks output.old output.new result }
 {
     let end = 512 * blocks as usize;
@@ -138,18 +100,8 @@ fn run_lookup(hash: u32, line: u64, blocks: u32, store: &[u8], output: &mut [u8]
     put_looked(output, line, answer, &places)
 }
 
-fn run_work(budget: u32, line: u64, blocks: u32, store: &mut [u8], output: &mut [u8]) -> usize
-    requires { Room blocks store.old output.old }
-    ensures { Runs (run_command (command.Work budget) line (take (512 * blocks) store.old))
-        store.old store.new blocks output.old output.new result }
-{
-    let end = 512 * blocks as usize;
-    let answer = work_lent(&mut store[..end], budget);
-    put_worked(output, line, answer)
-}
-
 pub fn run_command(
-    command: Command,
+    command: Option<Command>,
     line: u64,
     blocks: u32,
     store: &mut [u8],
@@ -160,40 +112,39 @@ pub fn run_command(
         store.old store.new result.blocks
         output.old output.new result.written }
 {
-    match command {
+    let Some(command) = command else {
+        let written = put_refused(output, line, 10);
+        return LineEnd { blocks, written };
+    };
+    let end = 512 * blocks as usize;
+    let written = match command {
         Command::Format {
             blocks: n,
             fill,
             number,
             overwrite,
-        } => run_format(n, fill, number, overwrite, line, blocks, store, output),
+        } => return run_format(n, fill, number, overwrite, line, blocks, store, output),
         Command::Insert {
             hash,
             block,
             offset,
         } => {
-            let written = run_insert(hash, block, offset, line, blocks, store, output);
-            LineEnd { blocks, written }
+            let answer = insert_lent(&mut store[..end], hash, block, offset);
+            put_answer(output, line, answer)
         }
         Command::Remove {
             hash,
             block,
             offset,
         } => {
-            let written = run_remove(hash, block, offset, line, blocks, store, output);
-            LineEnd { blocks, written }
+            let answer = remove_lent(&mut store[..end], hash, block, offset);
+            put_answer(output, line, answer)
         }
-        Command::Lookup { hash } => {
-            let written = run_lookup(hash, line, blocks, store, output);
-            LineEnd { blocks, written }
-        }
+        Command::Lookup { hash } => run_lookup(hash, line, blocks, store, output),
         Command::Work { budget } => {
-            let written = run_work(budget, line, blocks, store, output);
-            LineEnd { blocks, written }
+            let answer = work_lent(&mut store[..end], budget);
+            put_worked(output, line, answer)
         }
-        Command::Unreadable => {
-            let written = put_refused(output, line, 10);
-            LineEnd { blocks, written }
-        }
-    }
+    };
+    LineEnd { blocks, written }
 }

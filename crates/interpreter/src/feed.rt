@@ -2,7 +2,7 @@
 ghost use Rattle.std.specs.Prelude.{◌≡◌};
 ghost use Rattle.interpreter.specs.Feed.{start_state, ready, feed_outcome, finish_outcome, fed_as};
 
-use crate::lines::{end_line, gather};
+use crate::lines::{end_line, find_lf, keep};
 use crate::{Fed, SCRIPT_BLOCKS, STORE_BYTES, ScriptState, TOO_MANY};
 use text::LINE_OUTPUT;
 
@@ -22,16 +22,10 @@ pub fn start() -> ScriptState
 fn is_ready(state: ScriptState, store: &[u8], output: &[u8]) -> bool
     ensures { result ≡ ready state store.now output.now }
 {
-    if state.seen > TOO_MANY {
-        return false;
-    }
-    if state.blocks > SCRIPT_BLOCKS {
-        return false;
-    }
-    if store.len() < STORE_BYTES {
-        return false;
-    }
-    output.len() >= LINE_OUTPUT
+    state.seen <= TOO_MANY
+        && state.blocks <= SCRIPT_BLOCKS
+        && store.len() >= STORE_BYTES
+        && output.len() >= LINE_OUTPUT
 }
 
 // Takes the bytes of `input` up to the end of a line, or all if none ends there, and runs the line that ended.
@@ -48,18 +42,17 @@ pub fn feed(state: ScriptState, store: &mut [u8], input: &[u8], output: &mut [u8
             written: 0,
         };
     }
-    let gathered = gather(state, input);
-    let held = gathered.state;
-    let used = gathered.used;
-    if !gathered.ended {
+    let Some(n) = find_lf(input) else {
+        let held = keep(state, input);
         return Fed {
             ready: true,
             state: held,
-            used,
+            used: input.len(),
             written: 0,
         };
-    }
-    end_line(held, used, store, output)
+    };
+    let line = keep(state, &input[..n]);
+    end_line(line, n + 1, store, output)
 }
 
 // Ends the script: a last line that lacks its LF is run.

@@ -41,11 +41,3 @@ struct LineEnd {
     blocks: u32,
     written: usize,
 }
-
-// The state after the bytes up to an LF or the end of a piece, their number, with the LF, and whether it was an LF.
-#[derive(Clone, Copy)]
-struct Gathered {
-    state: ScriptState,
-    used: usize,
-    ended: bool,
-}

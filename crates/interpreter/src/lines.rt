@@ -1,74 +1,57 @@
 // The pending line, and its end.
-ghost use Rattle.std.specs.Prelude.{◌≡◌, ◌≤◌};
+ghost use Rattle.std.specs.Prelude.{◌≡◌, ◌≤◌, ◌==◌, fold, position};
 ghost use Rattle.interpreter.specs.Feed.{pending_command, line_ends, fed_as};
 ghost use Rattle.interpreter.specs.Script.{script_blocks};
 ghost use Rattle.interpreter.specs.Runs.{Room};
-ghost use Rattle.interpreter.specs.Held.{kept, gather_in};
+ghost use Rattle.interpreter.specs.Held.{kept};
 
 use crate::calls::run_command;
-use crate::{Fed, Gathered, ScriptState, TOO_MANY};
+use crate::{Fed, ScriptState, TOO_MANY};
 use line::Command;
 use line::commands::read_line;
-use std::num::wrapping_add_u64;
 
 // One byte more of the pending line.
 fn keep_byte(state: ScriptState, byte: u8) -> ScriptState
     ensures { result ≡ kept state byte }
 {
     let seen = state.seen;
-    let mut line = state.line;
     if seen < 80 {
+        let mut line = state.line;
         line[seen] = byte;
         return ScriptState {
-            number: state.number,
             seen: seen + 1,
             line,
-            blocks: state.blocks,
+            ..state
         };
     }
     ScriptState {
-        number: state.number,
         seen: TOO_MANY,
-        line,
-        blocks: state.blocks,
+        ..state
     }
 }
 
-// Keeps the bytes up to an LF or the end of `input`.
-pub fn gather(state: ScriptState, input: &[u8]) -> Gathered
-    ensures { result ≡ gather_in state input.now }
+// More bytes of the pending line.
+pub fn keep(state: ScriptState, bytes: &[u8]) -> ScriptState
+    ensures { result ≡ fold kept state bytes.now }
 {
-    let mut held = state;
-    let mut i = 0;
-    while i < input.len() {
-        let byte = input[i];
-        if byte == b'\n' {
-            return Gathered {
-                state: held,
-                used: i + 1,
-                ended: true,
-            };
-        }
-        held = keep_byte(held, byte);
-        i += 1;
-    }
-    Gathered {
-        state: held,
-        used: i,
-        ended: false,
-    }
+    bytes
+        .iter()
+        .fold(state, |held, byte| keep_byte(held, *byte))
+}
+
+// Where the first LF stands.
+pub fn find_lf(input: &[u8]) -> Option<usize>
+    ensures { result ≡ position (λ b. b == 10) input.now }
+{
+    input.iter().position(|byte| *byte == b'\n')
 }
 
 // The command of the pending line.
-fn pending_command(state: ScriptState) -> Command
+fn pending_command(state: ScriptState) -> Option<Command>
     ensures { result ≡ pending_command state }
 {
-    let seen = state.seen;
-    if seen > 80 {
-        return Command::Unreadable;
-    }
     let line = state.line;
-    read_line(&line[..seen])
+    read_line(line.get(..state.seen)?)
 }
 
 // Ends the pending line and runs it, after `used` bytes of a piece.
@@ -78,17 +61,16 @@ pub fn end_line(state: ScriptState, used: usize, store: &mut [u8], output: &mut 
         ≡ fed_as result store.new output.new }
     ensures blocks_le_script_blocks { result.state.blocks ≤ script_blocks }
 {
-    let number = wrapping_add_u64(state.number, 1);
+    let number = state.number.wrapping_add(1);
     let command = pending_command(state);
     let ran = run_command(command, number, state.blocks, store, output);
-    let line = state.line;
     Fed {
         ready: true,
         state: ScriptState {
             number,
             seen: 0,
-            line,
             blocks: ran.blocks,
+            ..state
         },
         used,
         written: ran.written,

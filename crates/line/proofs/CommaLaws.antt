@@ -1,52 +1,56 @@
 -- A line with a comma in it, as `+ 0,5 7 1`, is no call.
-use Rattle.std.specs.Prelude.{◌≡◌, refl, Bool, true, false, cond, ◌||◌, List, [], ◌∷◌, ◌++◌, ℕ, ◌+◌, ◌-◌, ◌*◌, eqb, leb, length}
+use Rattle.std.specs.Prelude.{◌≡◌, refl, Bool, true, false, cond, ◌||◌, Option, Some, None, List, [], ◌∷◌, ◌++◌, ℕ, ◌+◌, ◌-◌, ◌*◌, eqb, leb, length}
 use Rattle.std.proofs.Common.{sym, ap, ◌∙◌, arith}
 use Rattle.lists.specs.Lists.{any}
 use Rattle.lists.specs.ListsLaws.{eqb-eq}
-use Rattle.line.specs.declared.Number.{Number}
 use Rattle.line.specs.declared.Fields.{Fields}
 use Rattle.line.specs.declared.Command.{Command}
 use Rattle.line.specs.Words.{parts_from, comma, words, is_digit, value_from, number_of}
-use Rattle.line.specs.Command.{add_number, fields_from, command_of, command_from, max_line, read_line}
-use Rattle.line.specs.CommandLaws.{fields-wrong, cond_same}
+use Rattle.line.specs.Command.{add_number, fields_from, command_with, command_from, max_line, read_line}
+use Rattle.line.specs.CommandLaws.{cond_same, no-call}
 
 none : comma [] ≡ true → ⊥
 none h = let z : ◌≡◌ {A = ℕ} 0 1 = cc in omega arith
 
-value-comma : (v : ℕ) (bs : List ℕ) → comma bs ≡ true → value_from v bs ≡ Number.Wrong
+value-comma : (v : ℕ) (bs : List ℕ) → comma bs ≡ true → value_from v bs ≡ None
 value-comma v [] h = absurd (none h)
 value-comma v (b ∷ bs) h = go (eqb 44 b) refl h (value-comma (10 * v + (b - 48)) bs)
   where
-    digit : (d : Bool) → value_from (10 * v + (b - 48)) bs ≡ Number.Wrong
-        → Path Number (elim d [ true ↦ value_from (10 * v + (b - 48)) bs | false ↦ Number.Wrong ]) Number.Wrong
+    digit : (d : Bool) → value_from (10 * v + (b - 48)) bs ≡ None
+        → Path (Option ℕ) (elim d [ true ↦ value_from (10 * v + (b - 48)) bs | false ↦ None ]) None
     digit true q = q
     digit false q = refl
 
     go : (t : Bool) → eqb 44 b ≡ t → t || comma bs ≡ true
-        → (comma bs ≡ true → value_from (10 * v + (b - 48)) bs ≡ Number.Wrong)
-        → value_from v (b ∷ bs) ≡ Number.Wrong
+        → (comma bs ≡ true → value_from (10 * v + (b - 48)) bs ≡ None)
+        → value_from v (b ∷ bs) ≡ None
     go true e q ih = ap (λ (c : ℕ). value_from v (c ∷ bs)) (sym (eqb-eq 44 b e))
     go false e q ih = digit (is_digit b) (ih q)
 
-number-comma : (w : List ℕ) → comma w ≡ true → number_of w ≡ Number.Wrong
+number-comma : (w : List ℕ) → comma w ≡ true → number_of w ≡ None
 unfolding number_of
 number-comma [] h = refl
 number-comma (b ∷ []) h = value-comma 0 (b ∷ []) h
 number-comma (b ∷ c ∷ bs) h = go (eqb b 48)
   where
-    go : (t : Bool) → Path Number (elim t [ true ↦ Number.Wrong | false ↦ value_from 0 (b ∷ c ∷ bs) ]) Number.Wrong
+    go : (t : Bool) → Path (Option ℕ) (elim t [ true ↦ None | false ↦ value_from 0 (b ∷ c ∷ bs) ]) None
     go true = refl
     go false = value-comma 0 (b ∷ c ∷ bs) h
 
-fields-comma : (f : Fields) (ws : List (List ℕ)) → any comma ws ≡ true → fields_from f ws ≡ Fields.Wrong
+fields-comma : (f : Fields) (ws : List (List ℕ)) → any comma ws ≡ true → fields_from f ws ≡ None
 fields-comma f [] h = let z : ◌≡◌ {A = ℕ} 0 1 = cc in absurd (omega arith)
-fields-comma f (w ∷ ws) h = go (comma w) refl h (fields-comma (add_number f (number_of w)) ws)
+fields-comma f (w ∷ ws) h = go (comma w) refl h (λ g q. fields-comma g ws q)
   where
+    rest : (r : Option Fields) → ((g : Fields) → fields_from g ws ≡ None)
+        → Path (Option Fields) (elim r [ Some g ↦ fields_from g ws | None ↦ None ]) None
+    rest (Some g) ih = ih g
+    rest None ih = refl
+
     go : (t : Bool) → comma w ≡ t → t || any comma ws ≡ true
-        → (any comma ws ≡ true → fields_from (add_number f (number_of w)) ws ≡ Fields.Wrong)
-        → fields_from (add_number f (number_of w)) ws ≡ Fields.Wrong
-    go true e q ih = ap (λ (n : Number). fields_from (add_number f n) ws) (number-comma w e) ∙ fields-wrong ws
-    go false e q ih = ih q
+        → ((g : Fields) → any comma ws ≡ true → fields_from g ws ≡ None) → fields_from f (w ∷ ws) ≡ None
+    go true e q ih =
+        ap (λ (n : Option ℕ). elim (add_number f n) [ Some g ↦ fields_from g ws | None ↦ None ]) (number-comma w e)
+    go false e q ih = rest (add_number f (number_of w)) (λ g. ih g q)
 
 -- ---- the words of a line
 
@@ -100,24 +104,21 @@ words-comma part (b ∷ bs) h = go (eqb b 32) refl (words-comma [] bs) (words-co
 
 -- ---- the line
 
-command-wrong : (kind : ℕ) → command_of kind Fields.Wrong ≡ Command.Unreadable
-command-wrong kind = simp cond_same
-
-command-comma : (ws : List (List ℕ)) → any comma ws ≡ true → command_from ws ≡ Command.Unreadable
+command-comma : (ws : List (List ℕ)) → any comma ws ≡ true → command_from ws ≡ None
 command-comma [] h = refl
 command-comma ([] ∷ ws) h = refl
 command-comma ((kind ∷ []) ∷ ws) h =
     or_cases _ (comma (kind ∷ [])) (any comma ws) h
-    (λ e. ap (λ (k : ℕ). command_of k (fields_from Fields.None ws)) (sym (own e)))
-    (λ e. ap (command_of kind) (fields-comma Fields.None ws e) ∙ command-wrong kind)
+    (λ e. ap (λ (k : ℕ). command_with k (fields_from Fields.None ws)) (sym (own e)) ∙ no-call 44 (λ f. refl) (fields_from Fields.None ws))
+    (λ e. ap (command_with kind) (fields-comma Fields.None ws e))
   where
     own : eqb 44 kind || false ≡ true → 44 ≡ kind
     own e = or_cases _ (eqb 44 kind) false e (λ q. eqb-eq 44 kind q) (λ q. absurd (none q))
 command-comma ((kind ∷ b ∷ bs) ∷ ws) h = refl
 
-pub comma-unreadable : (l : List ℕ) → comma l ≡ true → read_line l ≡ Command.Unreadable
+pub comma-unreadable : (l : List ℕ) → comma l ≡ true → read_line l ≡ None
 unfolding read_line
 comma-unreadable l h =
-    ap (λ (c : Command). cond (leb (length l) max_line) c Command.Unreadable)
+    ap (λ (c : Option Command). cond (leb (length l) max_line) c None)
     (command-comma (words l) (words-comma [] l h))
-    ∙ cond_same (leb (length l) max_line) Command.Unreadable
+    ∙ cond_same (leb (length l) max_line) None

@@ -1,7 +1,6 @@
 -- docs/RULES.md 8.2: the parts of a list of bytes between separators, and a word read as a number.
-use Rattle.std.specs.Prelude.{Bool, true, false, ◌&&◌, List, [], ◌∷◌, ◌++◌, ℕ, suc, ◌+◌, ◌-◌, ◌*◌, eqb, leb}
+use Rattle.std.specs.Prelude.{Bool, true, false, ◌&&◌, Option, Some, None, List, [], ◌∷◌, ◌++◌, ℕ, suc, ◌+◌, ◌-◌, ◌*◌, eqb, leb}
 use Rattle.lists.specs.Lists.{any}
-use Rattle.line.specs.declared.Number.{Number}
 
 -- the parts of bs between the bytes sep, of which the first begins with `part`
 abbrev pub parts_from : (sep : ℕ) → (part bs : List ℕ) → List (List ℕ)
@@ -33,16 +32,16 @@ is_digit b = leb 48 b && leb b 57
 abbrev pub max_number : ℕ
 max_number = 4294967295
 
-abbrev pub bounded : ℕ → Number
-bounded v = elim (leb v max_number) [ true ↦ Number.Value v | false ↦ Number.Wrong ]
+abbrev pub bounded : ℕ → Option ℕ
+bounded v = elim (leb v max_number) [ true ↦ Some v | false ↦ None ]
 
 -- the value of digits, after those whose value is v
-abbrev pub value_from : ℕ → List ℕ → Number
+abbrev pub value_from : ℕ → List ℕ → Option ℕ
 value_from v [] = bounded v
-value_from v (b ∷ bs) = elim (is_digit b) [ true ↦ value_from (10 * v + (b - 48)) bs | false ↦ Number.Wrong ]
+value_from v (b ∷ bs) = elim (is_digit b) [ true ↦ value_from (10 * v + (b - 48)) bs | false ↦ None ]
 
 -- "no sign, no leading zero but 0 itself"
-unfoldable pub number_of : List ℕ → Number
-number_of [] = Number.Wrong
+unfoldable pub number_of : List ℕ → Option ℕ
+number_of [] = None
 number_of (b ∷ []) = value_from 0 (b ∷ [])
-number_of (b ∷ c ∷ bs) = elim (eqb b 48) [ true ↦ Number.Wrong | false ↦ value_from 0 (b ∷ c ∷ bs) ]
+number_of (b ∷ c ∷ bs) = elim (eqb b 48) [ true ↦ None | false ↦ value_from 0 (b ∷ c ∷ bs) ]

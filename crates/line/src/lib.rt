@@ -4,14 +4,7 @@
 pub mod words; // words.rt: the words of a line, numbers
 pub mod commands; // commands.rt: a line as a command
 
-// A word read as a number.
-#[derive(Clone, Copy)]
-pub enum Number {
-    Value(u32),
-    Wrong,
-}
-
-// The numbers of a line, in its order.
+// The numbers of a line, in its order; no call has more than four.
 #[derive(Clone, Copy)]
 pub enum Fields {
     None,
@@ -19,10 +12,9 @@ pub enum Fields {
     Two(u32, u32),
     Three(u32, u32, u32),
     Four(u32, u32, u32, u32),
-    Wrong,
 }
 
-// A line of the script.
+// The call of a line of the script. A line that cannot be read has none.
 #[derive(Clone, Copy)]
 pub enum Command {
     Format {
@@ -47,5 +39,4 @@ pub enum Command {
     Work {
         budget: u32,
     },
-    Unreadable,
 }
