@@ -1,9 +1,8 @@
 // Cases that a program reads from its input, one on a line, with bytes in hexadecimal; every input is taken.
 #![tactic(auto)]
 
-ghost use Rattle.std.specs.Prelude.{◌≡◌, ◌+◌, ◌≤◌, ◌<◌, IfOk, length};
+ghost use Rattle.std.specs.Prelude.{◌≡◌, ◌<◌, IfOk, IfSome, length};
 ghost use Rattle.cases.specs.Counts.{IsPrefixLen};
-ghost use Rattle.cases.specs.Within.{Within};
 
 use std::io;
 use std::io::Read;
@@ -30,64 +29,47 @@ pub fn read_full<R: Read>(input: &mut R, out: &mut [u8]) -> io::Result<usize>
     Ok(done)
 }
 
-// Where the line that starts at `at` ends.
-pub fn line_end(text: &[u8], at: usize) -> usize
-    requires { at ≤ length text.now }
-    ensures { Within at result text.now }
+// Shows each line of `text`, without its LF, which the last may lack.
+pub fn each_line<F: FnMut(&[u8]) -> io::Result<()>>(text: &[u8], mut show: F) -> io::Result<()>
+    requires { F.IsAlwaysCallable show }
 {
-    let mut end = at;
-    while end < text.len() {
-        if text[end] == b'\n' {
-            return end;
-        }
-        end += 1;
+    for line in text.split_inclusive(|byte| *byte == b'\n') {
+        show(line.strip_suffix(b"\n").unwrap_or(line))?;
     }
-    end
+    Ok(())
 }
 
-// The value of a hexadecimal digit in lower case; 16 for any other byte.
-pub fn digit_of(byte: u8) -> u32
-    ensures { result ≤ 16 }
+// The value of a hexadecimal digit in lower case.
+pub fn digit_of(byte: u8) -> Option<u8>
+    ensures { IfSome result (λ digit. digit < 16) }
 {
     match byte {
-        b'0'..=b'9' => (byte - b'0') as u32,
-        b'a'..=b'f' => (byte - b'a' + 10) as u32,
-        _ => 16,
+        b'0'..=b'9' => Some(byte - b'0'),
+        b'a'..=b'f' => Some(byte - b'a' + 10),
+        _ => None,
     }
 }
 
-// The byte whose two hexadecimal digits stand at `at`; 256 if they do not stand there.
-fn byte_at(line: &[u8], at: usize) -> u32
-    requires { at ≤ length line.now }
-    ensures { (result ≤ 256) × (result < 256 → at + 2 ≤ length line.now) }
-{
-    if line.len() - at < 2 {
-        return 256;
-    }
-    let high = digit_of(line[at]);
-    let low = digit_of(line[at + 1]);
-    if high > 15 || low > 15 {
-        return 256;
-    }
-    high * 16 + low
+// Takes the byte whose two hexadecimal digits `rest` begins with.
+fn take_byte(rest: &mut &[u8]) -> Option<u8> {
+    let [high, low, more @ ..] = *rest else {
+        return None;
+    };
+    let byte = 16 * digit_of(*high)? + digit_of(*low)?;
+    *rest = more;
+    Some(byte)
 }
 
-// Puts the bytes of the line from `at` on into `out`, as many as it has room for, and answers
-// their number.
-pub fn read_bytes(line: &[u8], at: usize, out: &mut [u8]) -> usize
-    requires { at ≤ length line.now }
+// Puts the bytes that `digits` begins with into `out`, as many as it has room for, and answers their number.
+pub fn read_bytes(digits: &[u8], out: &mut [u8]) -> usize
     ensures { IsPrefixLen result out.new }
 {
-    let mut next = at;
-    let mut n = 0;
-    while n < out.len() {
-        let byte = byte_at(line, next);
-        if byte > 255 {
-            break;
-        }
-        out[n] = byte as u8;
-        next += 2;
-        n += 1;
+    let mut rest = digits;
+    for (n, place) in out.iter_mut().enumerate() {
+        let Some(byte) = take_byte(&mut rest) else {
+            return n;
+        };
+        *place = byte;
     }
-    n
+    out.len()
 }

@@ -1,64 +1,43 @@
-// Decimal numbers and spares; every input is taken.
-ghost use Rattle.std.specs.Prelude.{◌+◌, ◌≤◌, ◌<◌, length};
-ghost use Rattle.cases.specs.Within.{Within};
+// Decimal numbers and spares, taken from the front of the rest of a line; every input is taken.
+ghost use Rattle.std.specs.Prelude.{◌≡◌, ◌<◌, ◌≤◌, MatchOption, length};
 ghost use Rattle.vectors.specs.Small.{Small};
 
-use cases::digit_of;
-
-// Past `byte` if it stands at `at`.
-pub fn skip_byte(line: &[u8], at: usize, byte: u8) -> usize
-    requires { at ≤ length line.now }
-    ensures { Within at result line.now }
+// Takes `byte` if `rest` begins with it.
+pub fn skip_byte(rest: &mut &[u8], byte: u8)
+    ensures { length rest.new.now ≤ length rest.old.now }
 {
-    if at < line.len() {
-        if line[at] == byte {
-            return at + 1;
+    if let [first, more @ ..] = *rest {
+        if *first == byte {
+            *rest = more;
         }
     }
-    at
 }
 
-#[derive(Clone, Copy)]
-pub struct Number {
-    pub value: u32,
-    pub next: usize,
-}
-
-// The decimal number at `at`, and where the first byte stands that is not taken for a digit of it.
-pub fn read_number(line: &[u8], at: usize) -> Number
-    requires { at ≤ length line.now }
-    ensures { (result.value < 65536) × Within at result.next line.now }
+// Takes the decimal number that `rest` begins with, up to the first byte that is not taken for a digit of it.
+pub fn read_number(rest: &mut &[u8]) -> Option<u32>
+    ensures { MatchOption result (rest.new.now ≡ rest.old.now)
+        (λ value. (value < 65536) × (length rest.new.now < length rest.old.now)) }
 {
-    let mut value: u32 = 0;
-    let mut next = at;
-    while next < line.len() {
-        let digit = digit_of(line[next]);
-        if digit > 9 || value > 6000 {
+    let mut value = None;
+    while let [byte, more @ ..] = *rest {
+        let before = value.unwrap_or(0);
+        if !byte.is_ascii_digit() || before > 6000 {
             break;
         }
-        value = value * 10 + digit;
-        next += 1;
+        value = Some(before * 10 + (*byte - b'0') as u32);
+        *rest = more;
     }
-    Number { value, next }
+    value
 }
 
-#[derive(Clone, Copy)]
-pub struct Spares {
-    pub values: [u32; 16],
-    pub next: usize,
-}
-
-// The spares from `at` on, with a space between them; those that are not there are 0.
-pub fn read_spares(line: &[u8], at: usize) -> Spares
-    requires { at ≤ length line.now }
-    ensures { Small result.values × Within at result.next line.now }
+// Takes 16 spares with a space between them; those that are not there are 0.
+pub fn read_spares(rest: &mut &[u8]) -> [u32; 16]
+    ensures { Small result }
 {
-    let mut values = [0u32; 16];
-    let mut next = at;
-    for i in 0..16usize {
-        let number = read_number(line, next);
-        values[i] = number.value;
-        next = skip_byte(line, number.next, b' ');
+    let mut spares = [0u32; 16];
+    for spare in spares.iter_mut() {
+        *spare = read_number(rest).unwrap_or(0);
+        skip_byte(rest, b' ');
     }
-    Spares { values, next }
+    spares
 }

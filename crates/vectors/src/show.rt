@@ -1,18 +1,15 @@
 // What the crates compute for an example, on a line of standard output.
-ghost use Rattle.std.specs.Prelude.{◌≤◌, ◌<◌, IfOk, length};
-ghost use Rattle.cases.specs.Within.{Within};
+ghost use Rattle.std.specs.Prelude.{◌≤◌};
 ghost use Rattle.vectors.specs.Small.{Small};
 
 use crate::parse::{read_number, read_spares, skip_byte};
 use cases::read_bytes;
 use std::io;
 
-// The check of a line's bytes.
-fn show_check(rt: &impl Print, line: &[u8]) -> io::Result<()>
-    requires { 2 ≤ length line.now }
-{
+// The check of bytes in hexadecimal.
+fn show_check(rt: &impl Print, digits: &[u8]) -> io::Result<()> {
     let mut bytes = [0u8; 64];
-    let n = read_bytes(line, 2, &mut bytes);
+    let n = read_bytes(digits, &mut bytes);
     let check = crc32c::crc32c(&bytes[..n]);
     println!(rt; "check {check:08x}")
 }
@@ -20,92 +17,61 @@ fn show_check(rt: &impl Print, line: &[u8]) -> io::Result<()>
 // Buckets in all at point 16: 16 spares place those below it.
 const PLACED_BUCKETS: u32 = 1792;
 
-// Block and previous field of each bucket from `at` on. Answers where the buckets end; the end of the line where one
-// is not placed.
-fn show_buckets(
-    rt: &impl Print,
-    line: &[u8],
-    at: usize,
-    max: u32,
-    spares: [u32; 16],
-) -> io::Result<usize>
-    requires { (at ≤ length line.now) × Small spares }
-    ensures { IfOk result (λ end. Within at end line.now) }
+// Block and previous field of each bucket that `rest` begins with. Takes the whole rest where one is not placed.
+fn show_buckets(rt: &impl Print, rest: &mut &[u8], max: u32, spares: [u32; 16]) -> io::Result<()>
+    requires { Small spares }
 {
-    let mut next = at;
-    while next < line.len() {
-        let bucket = read_number(line, next);
-        if bucket.next == next {
-            return Ok(next);
+    while let Some(bucket) = read_number(rest) {
+        if PLACED_BUCKETS <= bucket {
+            *rest = &[];
+            break;
         }
-        if PLACED_BUCKETS <= bucket.value {
-            return Ok(line.len());
-        }
-        let block = address::bucket_block(spares, bucket.value);
-        let previous = address::last_split(max, bucket.value);
+        let block = address::bucket_block(spares, bucket);
+        let previous = address::last_split(max, bucket);
         print!(rt; " {block}/{previous}")?;
-        next = skip_byte(line, bucket.next, b' ');
+        skip_byte(rest, b' ');
     }
-    Ok(next)
+    Ok(())
 }
 
-// The block of each overflow bit from `at` on.
-fn show_bits(
-    rt: &impl Print,
-    line: &[u8],
-    at: usize,
-    point: u32,
-    spares: [u32; 16],
-) -> io::Result<()>
-    requires { (at ≤ length line.now) × (point ≤ 15) }
+// The block of each overflow bit that `rest` begins with.
+fn show_bits(rt: &impl Print, mut rest: &[u8], point: u32, spares: [u32; 16]) -> io::Result<()>
+    requires { point ≤ 15 }
 {
-    let mut next = at;
-    while next < line.len() {
-        let bit = read_number(line, next);
-        if bit.next == next {
-            return Ok(());
-        }
-        let block = address::bit_block(spares, point, bit.value);
+    while let Some(bit) = read_number(&mut rest) {
+        let block = address::bit_block(spares, point, bit);
         print!(rt; " {block}")?;
-        next = skip_byte(line, bit.next, b' ');
+        skip_byte(&mut rest, b' ');
     }
     Ok(())
 }
 
 // A moment of an index: masks, overflow point, made blocks, buckets and overflow bits.
-fn show_moment(rt: &impl Print, line: &[u8]) -> io::Result<()>
-    requires { 2 ≤ length line.now }
-{
-    let max = read_number(line, 2);
-    let point = address::point_of(max.value);
+fn show_moment(rt: &impl Print, moment: &[u8]) -> io::Result<()> {
+    let mut rest = moment;
+    let max = read_number(&mut rest).unwrap_or(0);
+    let point = address::point_of(max);
     if point > 15 {
         return Ok(());
     }
-    let spares = read_spares(line, skip_byte(line, max.next, b';'));
-    let values = spares.values;
-    let high = address::high_mask(max.value);
-    let low = address::low_mask(max.value);
-    let made = address::made_blocks(values, point);
+    skip_byte(&mut rest, b';');
+    let spares = read_spares(&mut rest);
+    let high = address::high_mask(max);
+    let low = address::low_mask(max);
+    let made = address::made_blocks(spares, point);
     print!(rt; "masks {high} {low} point {point} made {made} buckets")?;
-    let end = show_buckets(
-        rt,
-        line,
-        skip_byte(line, spares.next, b';'),
-        max.value,
-        values,
-    )?;
+    skip_byte(&mut rest, b';');
+    show_buckets(rt, &mut rest, max, spares)?;
     print!(rt; " bits")?;
-    show_bits(rt, line, skip_byte(line, end, b';'), point, values)?;
+    skip_byte(&mut rest, b';');
+    show_bits(rt, rest, point, spares)?;
     println!(rt; "")
 }
 
 pub fn show_line(rt: &impl Print, line: &[u8]) -> io::Result<()> {
-    if line.len() < 2 {
-        return Ok(());
-    }
-    match line[0] {
-        b'c' => show_check(rt, line),
-        b'a' => show_moment(rt, line),
-        _ => Ok(())
+    match line {
+        [b'c', _, digits @ ..] => show_check(rt, digits),
+        [b'a', _, moment @ ..] => show_moment(rt, moment),
+        _ => Ok(()),
     }
 }

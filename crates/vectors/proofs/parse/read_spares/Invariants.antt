@@ -1,0 +1,6 @@
+-- The spares that were taken are small, and so are the zeros after them.
+use Rattle.vectors.specs.Small.{Small}
+use Rattle.vectors.proofs.parse.read_spares.Given as goal
+
+abbrev pub invariant-loop-spare : goal.invariant-loop-spare
+invariant-loop-spare l = Small l.spare-items
