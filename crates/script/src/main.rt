@@ -2,8 +2,9 @@
 // where a read or a write fails: a line that a failed read cut is not run.
 #![tactic(auto)]
 
-ghost use Rattle.std.specs.Prelude.{◌≡◌, true, ◌+◌, ◌≤◌, length, take};
+ghost use Rattle.std.specs.Prelude.{◌≡◌, ◌+◌, ◌≤◌, IfOk, length, take};
 ghost use Rattle.text.specs.Text.{line_output};
+ghost use Rattle.interpreter.specs.Feed.{store_bytes};
 ghost use Rattle.interpreter.specs.Machine.{on_bytes, state_of, ran_as};
 ghost use Rattle.interpreter.specs.Stores.{Serves};
 
@@ -23,19 +24,11 @@ struct Lines {
     written: usize,
 }
 
-// The state after a piece, and whether all that it wrote went out.
+// What failed, so that a run of the script ended before the script's end.
 #[derive(Clone, Copy)]
-struct Piece {
-    state: ScriptState,
-    out: bool,
-}
-
-// The state after some reads, whether another read follows, and whether the input has ended and nothing failed.
-#[derive(Clone, Copy)]
-struct Run {
-    state: ScriptState,
-    more: bool,
-    ended: bool,
+enum Failure {
+    Reading,
+    Writing,
 }
 
 // Runs the lines of a piece, as long as the next one is sure to fit into `output`.
@@ -57,8 +50,7 @@ fn run_lines(state: ScriptState, store: &mut [u8], piece: &[u8], output: &mut [u
             break;
         }
         let fed = feed(held, store, &piece[used..], &mut output[written..]);
-        let next = fed.state;
-        held = next;
+        held = fed.state;
         used += fed.used;
         written += fed.written;
     }
@@ -69,18 +61,9 @@ fn run_lines(state: ScriptState, store: &mut [u8], piece: &[u8], output: &mut [u
     }
 }
 
-// Says on standard error that something failed. Where that fails too, nobody is left to be told.
-fn complain(rt: &HostRuntime, text: &[u8]) {
-    let _ = rt.stderr().write_all(text);
-}
-
-// Writes to standard output, or says that it failed.
-fn put(rt: &HostRuntime, text: &[u8]) -> bool {
-    if rt.stdout().write_all(text).is_ok() {
-        return true;
-    }
-    complain(rt, b"script: writing failed\n");
-    false
+// Writes to standard output.
+fn put(rt: &HostRuntime, text: &[u8]) -> Result<(), Failure> {
+    rt.stdout().write_all(text).map_err(|_| Failure::Writing)
 }
 
 // Runs a piece of the script and writes what it writes.
@@ -90,94 +73,65 @@ fn run_piece(
     store: &mut [u8],
     piece: &[u8],
     output: &mut [u8],
-) -> Piece
+) -> Result<ScriptState, Failure>
     requires serves { Serves state store.old }
     requires line_output_in_bounds { line_output ≤ length output.old }
-    ensures serves_2 { Serves result.state store.new }
-    ensures store_after { result.out ≡ true → state_of result.state store.new
-        ≡ (on_bytes (state_of state store.old) piece.now).state }
+    ensures serves_2 { IfOk result (λ after. Serves after store.new) }
+    ensures store_after { IfOk result (λ after. state_of after store.new
+        ≡ (on_bytes (state_of state store.old) piece.now).state) }
 {
     let mut held = state;
     let mut at = 0;
     while at < piece.len() {
         let ran = run_lines(held, store, &piece[at..], output);
-        let written = ran.written;
-        let next = ran.state;
-        held = next;
-        if !put(rt, &output[..written]) {
-            return Piece {
-                state: held,
-                out: false,
-            };
-        }
+        held = ran.state;
+        put(rt, &output[..ran.written])?;
         at += ran.used;
     }
-    Piece {
-        state: held,
-        out: true,
-    }
+    Ok(held)
 }
 
-// Runs what one read gives.
-fn run_read(rt: &HostRuntime, state: ScriptState, store: &mut [u8], output: &mut [u8]) -> Run
-    requires serves { Serves state store.old }
-    requires line_output_in_bounds { line_output ≤ length output.old }
-    ensures { Serves result.state store.new }
-{
-    let mut piece = [0u8; 65536];
-    match rt.stdin().read(&mut piece) {
-        Err(_) => {
-            complain(rt, b"script: reading failed\n");
-            Run {
-                state,
-                more: false,
-                ended: false,
-            }
-        }
-        Ok(n) => {
-            let ran = run_piece(rt, state, store, &piece[..n], output);
-            let next = ran.state;
-            Run {
-                state: next,
-                more: ran.out && n > 0,
-                ended: ran.out && n == 0,
-            }
-        }
-    }
+// Ends the script: writes what a last line that lacks its LF writes.
+fn end_script(
+    rt: &HostRuntime,
+    state: ScriptState,
+    store: &mut [u8],
+    output: &mut [u8],
+) -> Result<(), Failure> {
+    let fed = finish(state, store, output);
+    put(rt, &output[..fed.written])
 }
 
-// A proved loop ends: this one counts its reads down from a number that no run uses up.
-fn run_reads(rt: &HostRuntime, state: ScriptState, store: &mut [u8], output: &mut [u8]) -> Run
-    requires serves { Serves state store.old }
+// Runs the script of standard input. A proved loop ends: no run uses up the reads of this one.
+fn run_script(rt: &HostRuntime, store: &mut [u8], output: &mut [u8]) -> Result<(), Failure>
+    requires store_in_bounds { store_bytes ≤ length store.old }
     requires line_output_in_bounds { line_output ≤ length output.old }
-    ensures { Serves result.state store.new }
 {
-    let mut held = state;
-    let mut left = u64::MAX;
-    while left > 0 {
-        let run = run_read(rt, held, store, output);
-        if !run.more {
-            return run;
+    let mut state = start();
+    for _ in 0..u64::MAX {
+        let mut piece = [0u8; 65536];
+        let n = rt.stdin().read(&mut piece).map_err(|_| Failure::Reading)?;
+        if n == 0 {
+            return end_script(rt, state, store, output);
         }
-        let next = run.state;
-        held = next;
-        left -= 1;
+        state = run_piece(rt, state, store, &piece[..n], output)?;
     }
-    Run {
-        state: held,
-        more: false,
-        ended: false,
-    }
+    Ok(())
+}
+
+// Says on standard error what failed. Where that fails too, nobody is left to be told.
+fn complain(rt: &HostRuntime, failure: Failure) {
+    let text: &[u8] = match failure {
+        Failure::Reading => b"script: reading failed\n",
+        Failure::Writing => b"script: writing failed\n",
+    };
+    let _ = rt.stderr().write_all(text);
 }
 
 fn main(rt: HostRuntime) {
     let mut store = [0u8; STORE_BYTES];
     let mut output = [0u8; BUFFER];
-    let last = run_reads(&rt, start(), &mut store, &mut output);
-    if last.ended {
-        let state = last.state;
-        let fed = finish(state, &mut store, &mut output);
-        let written = fed.written;
-        put(&rt, &output[..written]);
+    if let Err(failure) = run_script(&rt, &mut store, &mut output) {
+        complain(&rt, failure);
     }
 }

@@ -19,11 +19,11 @@ returns-then-blocks-gt-SCRIPT_BLOCKS c =
     let a = c.args in
     runs_as
     (sym ((line-is-format a.line a.blocks (order_of a.fill a.number a.overwrite)
-    (take (512 * a.standing) a.store.now)).1 c.if-blocks-gt-SCRIPT_BLOCKS.true))
+    (take (512 * a.standing) a.store.now)).1 (omega arith)))
     (record { store = stands-kept c.requires; text = c.put_refused-written.ensures })
 
 pub format_standing-answer-requires : goal.format_standing-answer-requires
-format_standing-answer-requires c = (c.if-blocks-gt-SCRIPT_BLOCKS.false, c.requires.few, c.requires.store)
+format_standing-answer-requires c = (omega arith, c.requires.few, c.requires.store)
 
 pub returns-in-Done : goal.returns-in-Done
 unfolding run_command
@@ -31,7 +31,7 @@ returns-in-Done c =
     let a = c.args in
     let now = a.store.now in
     let f = c.format_standing-answer in
-    let few = c.if-blocks-gt-SCRIPT_BLOCKS.false in
+    let few : a.blocks ≤ script_blocks = omega arith in
     runs_as
     (format-done (take (512 * a.standing) now) (take (512 * a.blocks) now) a.line a.blocks
     (order_of a.fill a.number a.overwrite) (part now a.blocks few c.requires.store) few (sym f.ensures.value ∙ c.in-Done.is))
@@ -49,7 +49,7 @@ returns-in-Refused c =
     let new = take (512 * a.blocks) now in
     let o = order_of a.fill a.number a.overwrite in
     let f = c.format_standing-answer in
-    let few = c.if-blocks-gt-SCRIPT_BLOCKS.false in
+    let few : a.blocks ≤ script_blocks = omega arith in
     let no = sym f.ensures.value ∙ c.in-Refused.is in
     let kept : f.new.store ≡ now =
     f.ensures.store_after
