@@ -6,6 +6,11 @@ use Rattle.page.specs.Pair.{PairFits, bad_pair, ascending}
 use Rattle.page.specs.Rule.{number_ok, order_ok}
 use Rattle.page.specs.Places.{run_entries}
 
+-- a page whose number of entries may be
+pub record Numbered (l : List ℕ) : Type 0 where
+  pub whole : length l ≡ 512
+  pub number : number_ok l ≡ true
+
 -- a page in which a search by bisection finds its way
 pub record Sorted (l : List ℕ) : Type 0 where
   pub whole : length l ≡ 512

@@ -1,8 +1,9 @@
 // The page rule as a test on 512 bytes, part by part.
-ghost use Rattle.std.specs.Prelude.{◌≡◌, true, not, ◌&&◌, ◌<◌, length};
+ghost use Rattle.std.specs.Prelude.{◌≡◌, not, ◌&&◌, ◌<◌, length};
 ghost use Rattle.page.specs.Pair.{bad_pair};
 ghost use Rattle.page.specs.Entries.{entry_at};
 ghost use Rattle.page.specs.Rule.{number_ok, flags_ok, numbers_ok, order_ok, rest_zero, page_ok};
+ghost use Rattle.page.specs.Allowed.{Numbered};
 
 use crate::order::{is_bad, is_before};
 use crate::slots::{count_entries, get_entry};
@@ -19,7 +20,7 @@ fn check_number(p: &[u8]) -> bool
 
 // Whether the bytes of the page that no entry uses are zero.
 fn check_rest(p: &[u8]) -> bool
-    requires { (length p.now ≡ 512) × (number_ok p.now ≡ true) }
+    requires { Numbered p.now }
     ensures { result ≡ rest_zero p.now }
 {
     get_u16(p, 2) == 0 && is_zero(p, 4 + 12 * count_entries(p), 492)
@@ -36,7 +37,7 @@ fn check_slot(p: &[u8], k: usize) -> bool
 
 // Whether every entry may have its numbers and flags.
 fn check_numbers(p: &[u8]) -> bool
-    requires { (length p.now ≡ 512) × (number_ok p.now ≡ true) }
+    requires { Numbered p.now }
     ensures { result ≡ numbers_ok p.now }
 {
     for k in 0..count_entries(p) {
@@ -49,7 +50,7 @@ fn check_numbers(p: &[u8]) -> bool
 
 // Whether each entry stands before the next.
 fn check_order(p: &[u8]) -> bool
-    requires { (length p.now ≡ 512) × (number_ok p.now ≡ true) }
+    requires { Numbered p.now }
     ensures { result ≡ order_ok p.now }
 {
     for k in 1..count_entries(p) {

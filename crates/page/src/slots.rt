@@ -12,7 +12,7 @@ pub fn count_entries(p: &[u8]) -> usize
     requires { length p.now ≡ 512 }
     ensures { result ≡ u16_at p.now 0 }
 {
-    get_u16(p, 0) as usize
+    usize::from(get_u16(p, 0))
 }
 
 // The entry whose twelve bytes begin at place `at`.

@@ -7,7 +7,7 @@ pub loop-k-init : goal.loop-k-init
 loop-k-init c = numbers-start c.args.p.now c.count_entries-k-end.result c.count_entries-k-end.ensures
 
 pub check_slot-requires : goal.check_slot-requires
-check_slot-requires c = omega (arith, number-le c.args.p.now c.requires.1)
+check_slot-requires c = omega (arith, number-le c.args.p.now c.requires.number)
 
 pub returns-then-not-check_slot : goal.returns-then-not-check_slot
 returns-then-not-check_slot c =

@@ -10,10 +10,10 @@ pub loop-k-init : goal.loop-k-init
 loop-k-init c = order-start c.args.p.now c.count_entries-k-end.result c.count_entries-k-end.ensures
 
 pub get_entry-requires : goal.get_entry-requires
-get_entry-requires c = omega (arith, number-le c.args.p.now c.requires.1)
+get_entry-requires c = omega (arith, number-le c.args.p.now c.requires.number)
 
 pub get_entry-requires-in-loop-k : goal.get_entry-requires-in-loop-k
-get_entry-requires-in-loop-k c = omega (arith, number-le c.args.p.now c.requires.1)
+get_entry-requires-in-loop-k c = omega (arith, number-le c.args.p.now c.requires.number)
 
 -- what the code asked of two entries that it read
 asked : (l : List ℕ) (j k : ℕ) {e f : Entry} {r : Bool} → r ≡ before e.pair f.pair → e ≡ entry_at l j → f ≡ entry_at l k
