@@ -4,8 +4,8 @@ ghost use Rattle.page.specs.Entries.{encode_page};
 ghost use Rattle.page.specs.Places.{remove_at, insert_at};
 ghost use Rattle.page.specs.Gap.{opened, closed, Room, Held};
 
+use crate::Entry;
 use crate::slots::{count_entries, put_entry};
-use crate::{Entry, Pair};
 use endian::put_u16;
 
 // Moves the bytes from `from` up to `to` twelve places up.
@@ -45,14 +45,6 @@ pub fn remove_entry(p: &mut [u8], k: usize)
     let n = count_entries(p);
     let last = n - 1;
     close_gap(p, 4 + 12 * k, 4 + 12 * n);
-    let blank = Entry {
-        pair: Pair {
-            hash: 0,
-            block: 0,
-            offset: 0,
-        },
-        moved: false,
-    };
-    put_entry(p, last, blank);
+    put_entry(p, last, Entry::default());
     put_u16(p, 0, last as u16);
 }

@@ -9,14 +9,14 @@ pub mod search; // search.rt: the run of a hash code in a page, the sorted place
 pub mod edit; // edit.rt: an entry put into a slot or taken out of one
 pub mod rule; // rule.rt: the page rule as a test
 
-#[derive(Clone, Copy, PartialEq, Eq, PartialOrd, Ord)]
+#[derive(Clone, Copy, Default, PartialEq, Eq, PartialOrd, Ord)]
 pub struct Pair {
     pub hash: u32,
     pub block: u32,
     pub offset: u16,
 }
 
-#[derive(Clone, Copy, PartialEq, Eq)]
+#[derive(Clone, Copy, Default, PartialEq, Eq)]
 pub struct Entry {
     pub pair: Pair,
     pub moved: bool,
