@@ -18,7 +18,10 @@ module _ (c : ℕ) (s x t : List ℕ) (n m : ℕ) where
   chunk bytes e four next =
       let inside : n + 4 ≤ length s = omega (arith, length-drop n s, ap length e, length-append x t) in
       let number : u32_at s n ≡ u32_at x 0 =
-      ap (u32_at s) (sym (add-zero n)) ∙ sym (u32_at-drop n s 0) ∙ ap (λ (l : List ℕ). u32_at l 0) e ∙ u32_at-front x t 0 (omega arith) in
+      ap (u32_at s) (sym (add-zero n))
+      ∙ sym (u32_at-drop n s 0)
+      ∙ ap (λ (l : List ℕ). u32_at l 0) e
+      ∙ u32_at-front x t 0 (omega arith) in
       record {
         inside = omega arith;
         place = sym (ap (λ (k : ℕ). drop k s) next ∙ sym (drop-drop 4 n s) ∙ ap (drop 4) e ∙ drop_at x t 4 four);

@@ -74,7 +74,8 @@ pub order-turn : (l : List ℕ) (n k : ℕ) → 1 ≤ k → k < n
 unfolding order_from
 order-turn l n k pos h =
     let back : k - 1 + 1 ≡ k = omega arith in
-    let first = entries_from-cons l (k - 1) n (omega arith) ∙ ap (λ (j : ℕ). entry_at l (k - 1) ∷ entries_from l j (n - j)) back in
+    let first = entries_from-cons l (k - 1) n (omega arith)
+    ∙ ap (λ (j : ℕ). entry_at l (k - 1) ∷ entries_from l j (n - j)) back in
     let next = entries_from-cons l k n h in
     ap (ascending pair_of) (first ∙ ap (λ (x : List Entry). entry_at l (k - 1) ∷ x) next)
     ∙ ap (λ (x : List Entry). before (entry_at l (k - 1)).pair (entry_at l k).pair && ascending pair_of x) (sym next)

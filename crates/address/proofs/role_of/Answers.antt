@@ -27,7 +27,7 @@ returns-then-place-buckets c =
     sym (ap role_case
     (bucket-in c.args.spares c.args.s _ c.requires.1 (l.point - 1) c.args.block (omega arith) (omega arith)
     l.invariant
-    (omega (arith, c.if-place-buckets.true, c.buckets_at-buckets.ensures, ap buckets_at (after l.point c.loop-point.auto.point)))))
+    (omega (arith, c.if-place-buckets.true, c.buckets_at-buckets.ensures, ap buckets_at (after l.point l.auto.point)))))
 
 pub overflow_add-buckets-in-loop-point : goal.overflow_add-buckets-in-loop-point
 overflow_add-buckets-in-loop-point c =

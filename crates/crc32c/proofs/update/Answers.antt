@@ -1,4 +1,4 @@
-use Rattle.std.proofs.Common.{ℕ, ◌+◌, ◌*◌, [], ◌∷◌, ◌++◌, ap, sym, ◌∙◌, arith, drop, length, length-append}
+use Rattle.std.proofs.Common.{◌≡◌, ℕ, ◌+◌, ◌*◌, [], ◌∷◌, ◌++◌, ap, sym, ◌∙◌, arith, drop, length, length-append}
 use Rattle.std.specs.Slice.Iter.{chunks_exact_rest}
 use Rattle.lists.specs.Bytes.{Bytes}
 use Rattle.crc32c.specs.Crc.{crc_byte, crc_bytes}
@@ -13,8 +13,11 @@ loop-four-preserved c =
     let x = c.in-Some.four in
     let bytes : Bytes s = λ i. omega (arith, c.type_inv.s i) in
     let steps = c.in-Some.ensures.steps in
-    let turn = chunk l.state s x.now (chunks_exact_rest c.next.new.self) (4 * length l.yielded) (4 * length (l.yielded ++ x ∷ [])) bytes
-    (sym l.invariant.place ∙ steps.1.0) (steps.1.1 ∙ l.invariant.size) (omega (arith, length-append l.yielded (x ∷ []))) in
+    let n : ℕ = 4 * length l.yielded in
+    let m : ℕ = 4 * length (l.yielded ++ x ∷ []) in
+    let next : m ≡ n + 4 = omega (arith, length-append l.yielded (x ∷ [])) in
+    let turn = chunk l.state s x.now (chunks_exact_rest c.next.new.self) n m bytes
+    (sym l.invariant.place ∙ steps.1.0) (steps.1.1 ∙ l.invariant.size) next in
     record {
       size = steps.0 ∙ l.invariant.size;
       inside = turn.inside;

@@ -24,7 +24,8 @@ pub returns-then-not-is_before : goal.returns-then-not-is_before
 returns-then-not-is_before c =
     let k = c.loop-k in
     let turn = order-turn c.args.p.now c.count_entries-k-end.result k.k k.auto.k c.loop-k-test.true in
-    sym (sym k.invariant ∙ failed _ _ _ turn (asked c.args.p.now (k.k - 1) k.k c.is_before.ensures c.get_entry.ensures c.get_entry-in-loop-k.ensures ∙ c.if-not-is_before.true))
+    let test = asked c.args.p.now (k.k - 1) k.k c.is_before.ensures c.get_entry.ensures c.get_entry-in-loop-k.ensures in
+    sym (sym k.invariant ∙ failed _ _ _ turn (test ∙ c.if-not-is_before.true))
 
 pub loop-k-preserved : goal.loop-k-preserved
 loop-k-preserved c =
@@ -32,7 +33,8 @@ loop-k-preserved c =
     let n = c.count_entries-k-end.result in
     let turn = order-turn c.args.p.now n k.k k.auto.k c.loop-k-test.true in
     let next : k.k + 1 - 1 ≡ k.k = omega arith in
-    ap (order_from c.args.p.now n) next ∙ passed _ _ _ turn (asked c.args.p.now (k.k - 1) k.k c.is_before.ensures c.get_entry.ensures c.get_entry-in-loop-k.ensures ∙ c.if-not-is_before.false) ∙ k.invariant
+    let test = asked c.args.p.now (k.k - 1) k.k c.is_before.ensures c.get_entry.ensures c.get_entry-in-loop-k.ensures in
+    ap (order_from c.args.p.now n) next ∙ passed _ _ _ turn (test ∙ c.if-not-is_before.false) ∙ k.invariant
 
 pub returns : goal.returns
 returns c =
