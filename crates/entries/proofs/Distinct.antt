@@ -21,7 +21,7 @@ use Rattle.merge.specs.MergingLaws.{merging-upto, first-below}
 use Rattle.entries.specs.Next.{next_is}
 use Rattle.entries.specs.TakenLaws.{ascending-distinct, taken-distinct}
 use Rattle.merge.specs.MergingLaws.{next-key, next-offset, next_fits}
-use Rattle.entries.proofs.Walking.{page-sorted}
+use Rattle.chain.specs.WithinLaws.{block-sorted}
 use Rattle.entries.specs.NextLaws.{next-least, next-any}
 
 -- a walk of one page, or none
@@ -31,7 +31,7 @@ unfolding order_ok
 one-page s [] ok pages few = refl
 one-page s (b ∷ []) ok pages few =
     ap distinct (append-nil (entries_on s b))
-    ∙ ascending-distinct (entries_on s b) (page-sorted ok pages 0 (omega arith)).order
+    ∙ ascending-distinct (entries_on s b) (block-sorted ok 0 (omega arith) pages).order
 one-page s (b ∷ c ∷ walk) ok pages few = absurd (omega arith)
 
 module _ {s ks : List ℕ} {n : ℕ} {keys tails tree keys' tails' tree' : List ℕ} (m : Merging s ks n keys tails tree)

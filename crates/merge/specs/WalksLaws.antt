@@ -1,47 +1,35 @@
 -- Walks whose blocks are pages, merged: their pages, and their entries by number.
-use Rattle.std.specs.Prelude.{◌≡◌, refl, true, Bool, cond, List, [], ◌∷◌, ◌++◌, ℕ, suc, ◌+◌, ◌≤◌, ◌<◌, length, get_or, drop}
+use Rattle.std.specs.Prelude.{◌≡◌, refl, true, Bool, cond, List, [], ◌∷◌, ◌++◌, ℕ, suc, ◌+◌, ◌<◌, length, get_or, drop}
 use Rattle.std.proofs.Common.{ap, ap₂, ◌∙◌, add-zero, arith, le-ltb}
 use Rattle.std.proofs.lemmas.List.{get_or_append_left, get_or-append-add}
-use Rattle.lists.specs.Lists.{bind, Each}
+use Rattle.lists.specs.Lists.{bind}
 use Rattle.lists.specs.Bytes.{Bytes}
-use Rattle.lists.specs.Block.{blocks, block}
-use Rattle.lists.specs.BlockLaws.{Bytes-block, length-block}
+use Rattle.lists.specs.Block.{block}
+use Rattle.lists.specs.BlockLaws.{Bytes-block}
 use Rattle.page.specs.declared.Entry.{Entry}
 use Rattle.page.specs.PairLaws.{before-hash}
 use Rattle.page.specs.SublistLaws.{each-get_or, all-each}
 use Rattle.page.specs.Places.{place_of}
 use Rattle.page.specs.Rule.{page_ok}
-use Rattle.page.proofs.RuleLaws.{page_ok-allowed, page_ok-sorted}
-use Rattle.chain.specs.Within.{entries_on, PagesOk}
-use Rattle.merge.specs.Tree.{max_pages}
+use Rattle.page.proofs.RuleLaws.{page_ok-allowed}
+use Rattle.chain.specs.Within.{entries_on, PagesOk, Within}
+use Rattle.chain.specs.WithinLaws.{block_inside, block-sorted}
 use Rattle.merge.specs.Merge.{joined}
 use Rattle.merge.specs.MergeLaws.{joined_same}
 use Rattle.merge.specs.Heads.{page_at, Pages, left_of, CursorsAt}
 
 -- ---- the blocks of a walk that pass the page rule are pages
 
-module _ (s ks : List ℕ) (bytes : Bytes s) (few : length ks ≤ max_pages) (inside : Each (λ k. k < blocks s) ks)
-    (fine : PagesOk s ks) where
-  within : (i : ℕ) → i < length ks → get_or ks i 0 < blocks s
-  within i h = each-get_or (λ k. k < blocks s) ks i 0 inside h
-
-  ok : (i : ℕ) → i < length ks → page_ok (block s (get_or ks i 0)) ≡ true
-  ok i h =
-      each-get_or (λ k. page_ok (block s k) ≡ true) ks i 0 (all-each (λ k. page_ok (block s k)) ks fine) h
-
-  whole : (i : ℕ) → i < length ks → length (block s (get_or ks i 0)) ≡ 512
-  unfolding blocks
-  whole i h = length-block s (get_or ks i 0) (omega (arith, within i h))
-
-  pub walk-pages : Pages s ks (length ks)
-  walk-pages =
-      record {
-        few = few;
-        inside = within;
-        sorted = λ i h. page_ok-sorted (block s (get_or ks i 0)) (whole i h) (ok i h);
-        allowed = λ i h.
-            page_ok-allowed (block s (get_or ks i 0)) (Bytes-block s (get_or ks i 0) bytes) (ok i h);
-      }
+pub merge-pages : {s walk : List ℕ} → Bytes s → Within s walk → PagesOk s walk → Pages s walk (length walk)
+merge-pages {s} {walk} bytes w fine =
+    record {
+      few = omega (arith, w.few);
+      inside = λ i h. block_inside w i h;
+      sorted = λ i h. block-sorted w i h fine;
+      allowed = λ i h.
+          page_ok-allowed (block s (get_or walk i 0)) (Bytes-block s (get_or walk i 0) bytes)
+          (each-get_or (λ k. page_ok (block s k) ≡ true) walk i 0 (all-each (λ k. page_ok (block s k)) walk fine) h);
+    }
 
 -- ---- their entries
 

@@ -2,9 +2,9 @@ use Rattle.std.proofs.Common.{List, ℕ, ap, subst, sym, ◌∙◌, arith}
 use Rattle.lists.specs.Lists.{tally}
 use Rattle.page.specs.Allowed.{Sorted}
 use Rattle.page.specs.Entries.{entries_of}
-use Rattle.chain.specs.WithinLaws.{block-whole}
+use Rattle.chain.specs.WithinLaws.{block-whole, block-sorted}
 use Rattle.entries.specs.Counts.{live_in}
-use Rattle.entries.proofs.Walking.{page-sorted, tally-turn, tally-done}
+use Rattle.entries.proofs.Walking.{tally-turn, tally-done}
 use Rattle.entries.proofs.counts.count_walk.Goals as goal
 
 pub block_at-requires : goal.block_at-requires
@@ -13,7 +13,7 @@ block_at-requires c = omega (arith, block-whole c.requires.0 c.loop-block.block-
 pub count_page-live-requires : goal.count_page-live-requires
 count_page-live-requires c =
     subst Sorted (sym c.block_at.ensures)
-    (page-sorted c.requires.0 c.requires.1 c.loop-block.block-index c.loop-block-test.true)
+    (block-sorted c.requires.0 c.loop-block.block-index c.loop-block-test.true c.requires.1)
 
 pub overflow_add-live : goal.overflow_add-live
 overflow_add-live c = omega (arith, c.loop-block.invariant.0, c.count_page-live.ensures.1, c.requires.0.few)

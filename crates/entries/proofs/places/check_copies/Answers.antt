@@ -3,10 +3,10 @@ use Rattle.lists.specs.Lists.{all}
 use Rattle.lists.specs.Bytes.{Bytes}
 use Rattle.page.specs.declared.Entry.{Entry}
 use Rattle.image.specs.Decode.{max_at}
+use Rattle.merge.specs.WalksLaws.{merge-pages}
 use Rattle.reader.specs.KnownLaws.{max-is}
 use Rattle.entries.specs.Tests.{marked_by}
 use Rattle.entries.specs.WalkedLaws.{walk-within, walk-some, walk-pages, walk-merged}
-use Rattle.entries.proofs.Walking.{walk-merge}
 use Rattle.entries.proofs.places.check_copies.Goals as goal
 
 pub all_marked-requires-clause-new_pages : goal.all_marked-requires-clause-new_pages
@@ -15,7 +15,7 @@ all_marked-requires-clause-new_pages c =
     let bytes : Bytes c.args.store.now = λ i. omega (arith, c.type_inv.store i) in
     let made : c.args.new ≤ max_at c.args.store.now = omega (arith, c.requires.1, max-is k.known.known.known) in
     let walked = c.walk_bucket-n.ensures in (
-      walk-merge bytes (walk-within c.args.new made walked k.known) (walk-pages c.args.new made walked k),
+      merge-pages bytes (walk-within c.args.new made walked k.known) (walk-pages c.args.new made walked k),
       walk-some c.args.new made walked,
     )
 
@@ -25,7 +25,7 @@ all_marked-requires-clause-old_pages c =
     let bytes : Bytes c.args.store.now = λ i. omega (arith, c.type_inv.store i) in
     let made : c.args.old ≤ max_at c.args.store.now = omega (arith, c.requires.2, max-is k.known.known.known) in
     let walked = c.walk_bucket-k.ensures in (
-      walk-merge bytes (walk-within c.args.old made walked k.known) (walk-pages c.args.old made walked k),
+      merge-pages bytes (walk-within c.args.old made walked k.known) (walk-pages c.args.old made walked k),
       walk-some c.args.old made walked,
     )
 

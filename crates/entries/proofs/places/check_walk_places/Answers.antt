@@ -5,10 +5,10 @@ use Rattle.page.specs.declared.Entry.{Entry}
 use Rattle.page.specs.Allowed.{Sorted}
 use Rattle.page.specs.Entries.{entries_of}
 use Rattle.entries.specs.declared.Bucket.{Bucket}
-use Rattle.chain.specs.WithinLaws.{block-whole}
+use Rattle.chain.specs.WithinLaws.{block-whole, block-sorted}
 use Rattle.shape.specs.LoopLaws.{passed, failed}
 use Rattle.entries.specs.Tests.{stands_in}
-use Rattle.entries.proofs.Walking.{page-sorted, all-turn, all_done}
+use Rattle.entries.proofs.Walking.{all-turn, all_done}
 use Rattle.entries.proofs.places.check_walk_places.Goals as goal
 
 abbrev may : Bucket → Entry → Bool
@@ -20,7 +20,7 @@ block_at-requires c = omega (arith, block-whole c.requires.0 c.loop-block.block-
 pub check_page_places-requires : goal.check_page_places-requires
 check_page_places-requires c =
     subst Sorted (sym c.block_at.ensures)
-    (page-sorted c.requires.0 c.requires.1 c.loop-block.block-index c.loop-block-test.true)
+    (block-sorted c.requires.0 c.loop-block.block-index c.loop-block-test.true c.requires.1)
 
 pub returns-then-not-check_page_places : goal.returns-then-not-check_page_places
 returns-then-not-check_page_places c =

@@ -7,7 +7,8 @@ use Rattle.merge.proofs.Merge.build_tree.Goals as goal
 pub loop-k-init : goal.loop-k-init
 loop-k-init c =
     let s = c.put_leaves.new.self in
-    (c.put_leaves.ensures.rest, leaves-settled s.keys s.tails c.args.n s.tree c.put_leaves.ensures.size c.put_leaves.ensures.leaves)
+    let e = c.put_leaves.ensures in
+    (e.rest, leaves-settled s.keys s.tails c.args.n s.tree e.size e.leaves)
 
 pub loop-k-preserved : goal.loop-k-preserved
 loop-k-preserved c =

@@ -12,7 +12,7 @@ use Rattle.chain.specs.Along.{pairs_along}
 use Rattle.merge.specs.Tree.{max_pages}
 use Rattle.merge.specs.Merge.{joined}
 use Rattle.merge.specs.Heads.{page_at, Pages}
-use Rattle.merge.specs.WalksLaws.{walk-pages, alone-entries, first-entries, second-entries}
+use Rattle.merge.specs.WalksLaws.{merge-pages, alone-entries, first-entries, second-entries}
 use Rattle.view.specs.Left.{pairs_left}
 use Rattle.view.specs.Lookup.{written, Listable}
 use Rattle.view.proofs.lookup.put_matches.Goals as goal
@@ -37,8 +37,11 @@ module _ (s own old : List ℕ) where
   together-pages : Bytes s → Within s own → PagesOk s own → Within s old → PagesOk s old
       → length own + length old ≤ max_pages → Pages s (own ++ old) (length (own ++ old))
   together-pages bytes w fine v fine' few =
-      walk-pages s (own ++ old) bytes (simp length-append (omega arith))
-      (each_append (λ k. k < blocks s) own old w.inside v.inside)
+      merge-pages bytes
+      (record {
+        few = simp length-append (omega arith);
+        inside = each_append (λ k. k < blocks s) own old w.inside v.inside;
+      })
       (all_append (λ k. page_ok (block s k)) own old fine fine')
 
   together : (h : ℕ) (fresh : Bool)
@@ -55,7 +58,7 @@ put_pages-requires c =
     let bytes : Bytes a.store.now = λ i. omega (arith, c.type_inv.store i) in
     let none : length a.old.now ≡ 0 = search rules in
     let w = c.requires.own_walk in (
-      walk-pages a.store.now a.own.now bytes (omega (arith, w.0.few)) w.0.inside w.1,
+      merge-pages bytes w.0 w.1,
       c.requires.sizes.0,
       omega arith,
       subst (λ (ps : List Pair). Listable ps a.output.now)
