@@ -2,10 +2,7 @@
 use mathlib.Core.Path.{◌≡◌, sym, ap, ◌∙◌}
 use mathlib.Core.List.{List}
 use Prim.Native.Nat.{ℕ}
-use Rattle.model.specs.declared.Answer.{Answer}
-use Rattle.model.specs.declared.WorkAnswer.{WorkAnswer}
-use Rattle.model.specs.declared.PlaceAnswer.{PlaceAnswer}
-use Rattle.model.specs.declared.PlanAnswer.{PlanAnswer}
+use Rattle.model.specs.Answers.{Answer, WorkAnswer, PlaceAnswer, PlanAnswer}
 use Rattle.journal.specs.Journal.{Disk}
 use Rattle.cuts.specs.Journalled.{Journalled, WorkJournalled, Wiped}
 use Rattle.cuts.specs.Halves.{Planned, Stored}

@@ -1,10 +1,10 @@
 -- What standing (docs/RULES.md 6.6) writes: 28 bytes, little-endian, and nothing when it is refused; what the gauge
 -- (6.15) writes: two numbers, also when it is refused.
 use Rattle.std.specs.Prelude.{Bool, true, false, List, [], ◌∷◌, ◌++◌, ℕ, suc, ◌-◌, ◌/◌, ◌%◌, ◌^◌, ltb, Float, ℤ, pos, negsuc, length, drop}
+use Rattle.std.specs.Prelude.{Ok, Err}
 use Rattle.endian.specs.Endian.{le32}
 use Rattle.model.specs.declared.Standing.{Standing}
-use Rattle.model.specs.declared.StandingAnswer.{StandingAnswer}
-use Rattle.model.specs.Answers.{phase_no, phase_old, phase_new}
+use Rattle.model.specs.Answers.{StandingAnswer, phase_no, phase_old, phase_new}
 use Rattle.outcomes.specs.Outcomes.{standing_outcome}
 use Rattle.gauge.specs.declared.Gauge.{Gauge}
 use Rattle.amiqsovik.specs.Words.{standing_word, short_word}
@@ -26,8 +26,8 @@ standing_bytes s =
 
 -- the result afterwards: what stands, and later bytes stay; "Every refusal leaves store and output untouched"
 abbrev pub shown : StandingAnswer → List ℕ → List ℕ
-shown (StandingAnswer.Stands s) out = standing_bytes s ++ drop 28 out
-shown (StandingAnswer.Refused r) out = out
+shown (Ok s) out = standing_bytes s ++ drop 28 out
+shown (Err r) out = out
 
 -- A word and the result slice afterwards.
 pub record Told : Type 0 where

@@ -1,5 +1,6 @@
 -- The bytes that standing writes, one number after the other; a refused standing writes none.
 use Rattle.std.specs.Prelude.{◌≡◌, refl, ◌≢◌, Bool, true, false, List, ◌++◌, ℕ, ◌/◌, ◌%◌, ◌≤◌, ltb, ℤ, pos, negsuc, length, drop}
+use Rattle.std.specs.Prelude.{Ok, Err}
 use Rattle.std.proofs.Common.{◌∙◌, of_z}
 use Rattle.std.proofs.lemmas.List.Edits.{sets}
 use Rattle.std.proofs.Math.Seq.{sets-eq}
@@ -7,8 +8,7 @@ use Rattle.std.specs.Int.{w64}
 use Rattle.lists.specs.BytesLaws.{sets-append}
 use Rattle.endian.specs.Endian.{le32}
 use Rattle.model.specs.declared.Standing.{Standing}
-use Rattle.model.specs.declared.StandingAnswer.{StandingAnswer}
-use Rattle.model.specs.Answers.{phase_no, phase_old, phase_new}
+use Rattle.model.specs.Answers.{StandingAnswer, phase_no, phase_old, phase_new}
 use Rattle.outcomes.specs.Outcomes.{standing_outcome}
 use Rattle.amiqsovik.specs.Result.{twos_complement, slack_bytes, standing_bytes, told_in, standing_told}
 
@@ -46,5 +46,5 @@ standing-output s out refused = go (ltb (length out) 28) (standing_outcome s) re
   where
     go : (short : Bool) (a : StandingAnswer) → (told_in short a out).word % 256 ≢ 0 → (told_in short a out).result ≡ out
     go true a n = refl
-    go false (StandingAnswer.Stands x) n = absurd (n refl)
-    go false (StandingAnswer.Refused r) n = refl
+    go false (Ok x) n = absurd (n refl)
+    go false (Err r) n = refl

@@ -1,20 +1,17 @@
 -- A word is taken apart as include/amiqsovik.h does it, and gives back what it was made of.
-use Rattle.std.specs.Prelude.{◌≡◌, refl, Bool, true, false, List, ℕ, ◌/◌, ◌%◌, ◌≤◌, ◌<◌, ltb, length}
+use Rattle.model.specs.declared.Listing.{Listing}
+use Rattle.model.specs.declared.LentError.{LentError}
+use Rattle.model.specs.declared.Place.{Place}
+use Rattle.std.specs.Prelude.{◌≡◌, refl, Bool, true, false, List, ℕ, ◌/◌, ◌%◌, ◌≤◌, ◌<◌, ltb, length, Ok, Err}
 use Rattle.std.proofs.Common.{arith, lt-ltb, le-ltb, ltb-true, ltb-false}
-use Rattle.lists.specs.Lists.{b2n}
 use Rattle.model.specs.declared.Refusal.{Refusal}
 use Rattle.model.specs.declared.Refusal.TheVariants.{Length, Number, Damaged, NotIndex}
 use Rattle.model.specs.declared.Refusal.TheVariants.{HeldAlready, NotHeld, NoRoom, OutputShort, Busy, InUse}
 use Rattle.model.specs.declared.Refusal.TheVariants.{JournalLength, Pending}
-use Rattle.model.specs.declared.Answer.{Answer}
-use Rattle.model.specs.declared.LookupAnswer.{LookupAnswer}
+use Rattle.model.specs.Answers.{Answer, LookupAnswer, WorkAnswer, StandingAnswer, PlaceAnswer, PlanAnswer, refusal_no}
+use Rattle.model.specs.Answers.{refusal_gives, answer_no, answer_gives, lookup_no, lookup_gives, stop_no, work_no}
+use Rattle.model.specs.Answers.{work_gives, work_steps, work_stop, standing_no, standing_gives}
 use Rattle.model.specs.declared.Stop.{Stop}
-use Rattle.model.specs.declared.WorkAnswer.{WorkAnswer}
-use Rattle.model.specs.declared.StandingAnswer.{StandingAnswer}
-use Rattle.model.specs.declared.PlaceAnswer.{PlaceAnswer}
-use Rattle.model.specs.declared.PlanAnswer.{PlanAnswer}
-use Rattle.model.specs.Answers.{refusal_no, refusal_gives, answer_no, answer_gives, lookup_no, lookup_gives, stop_no}
-use Rattle.model.specs.Answers.{work_no, work_gives, work_steps, work_stop, standing_no, standing_gives}
 use Rattle.outcomes.specs.Outcomes.{standing_outcome}
 use Rattle.journal.specs.Journal.{Disk}
 use Rattle.journal.specs.Planned.{plan_size}
@@ -64,26 +61,25 @@ refusal-parts : (r : Refusal) → Parts (refusal_word r) (refusal_no r) 0 0 (ref
 refusal-parts r = plain (refusal_no r) (refusal_gives r) (omega (arith, refusal-small r))
 
 pub answer-parts : (a : Answer) → Parts (answer_word a) (answer_no a) 0 0 (answer_gives a)
-answer-parts Answer.Done = plain 0 0 (omega arith)
-answer-parts (Answer.Refused r) = refusal-parts r
+answer-parts (Ok done) = plain 0 0 (omega arith)
+answer-parts (Err r) = refusal-parts r
 
 pub lookup-parts : (a : LookupAnswer) → Parts (lookup_word a) (lookup_no a) 0 0 (lookup_gives a)
-lookup-parts (LookupAnswer.Found matches) = plain 0 matches (omega arith)
-lookup-parts (LookupAnswer.Refused r) = refusal-parts r
+lookup-parts (Ok matches) = plain 0 matches (omega arith)
+lookup-parts (Err r) = refusal-parts r
 
 pub standing-parts : (a : StandingAnswer) → Parts (standing_word a) (standing_no a) 0 0 (standing_gives a)
-standing-parts (StandingAnswer.Stands s) = plain 0 0 (omega arith)
-standing-parts (StandingAnswer.Refused r) = refusal-parts r
+standing-parts (Ok s) = plain 0 0 (omega arith)
+standing-parts (Err r) = refusal-parts r
 
 standing-small : (a : StandingAnswer) → standing_no a < result_short
-standing-small (StandingAnswer.Stands s) = omega arith
-standing-small (StandingAnswer.Refused r) = refusal-small r
+standing-small (Ok s) = omega arith
+standing-small (Err r) = refusal-small r
 
 work-answer-parts : (a : WorkAnswer) → work_steps a ≤ 65535
     → Parts (work_word a) (work_no a) (work_stop a) (work_steps a) (work_gives a)
-work-answer-parts (WorkAnswer.Worked steps stop) h =
-    packed-parts 0 (stop_no stop) steps 0 (omega arith) (stop-small stop) h
-work-answer-parts (WorkAnswer.Refused r) h = refusal-parts r
+work-answer-parts (Ok w) h = packed-parts 0 (stop_no w.stop) w.steps 0 (omega arith) (stop-small w.stop) h
+work-answer-parts (Err r) h = refusal-parts r
 
 -- the word of a work call
 pub work-parts : (d : Disk) (budget : ℕ)
@@ -99,28 +95,31 @@ squeeze-parts d b budget = work-answer-parts (squeeze_journalled d b budget).ans
 
 -- the word of a look and of a block store: a refusal, a short plan, or in which of the two and which block
 abbrev pub PlaceParts : PlaceAnswer → Type 0
-PlaceParts (PlaceAnswer.At journal block) = Parts (place_word (PlaceAnswer.At journal block)) 0 (b2n journal) 0 block
-PlaceParts PlaceAnswer.Short = Parts (place_word PlaceAnswer.Short) result_short 0 0 plan_size
-PlaceParts (PlaceAnswer.Refused r) = Parts (place_word (PlaceAnswer.Refused r)) (refusal_no r) 0 0 (refusal_gives r)
+PlaceParts (Ok (Place.Journal block)) = Parts (place_word (Ok (Place.Journal block))) 0 1 0 block
+PlaceParts (Ok (Place.Store block)) = Parts (place_word (Ok (Place.Store block))) 0 0 0 block
+PlaceParts (Err LentError.Short) = Parts (place_word (Err LentError.Short)) result_short 0 0 plan_size
+PlaceParts (Err (LentError.Refused r)) =
+    Parts (place_word (Err (LentError.Refused r))) (refusal_no r) 0 0 (refusal_gives r)
 
 pub place-parts : (a : PlaceAnswer) → PlaceParts a
-place-parts (PlaceAnswer.At true block) = packed-parts 0 1 0 block (omega arith) (omega arith) (omega arith)
-place-parts (PlaceAnswer.At false block) = plain 0 block (omega arith)
-place-parts PlaceAnswer.Short = plain result_short plan_size (omega arith)
-place-parts (PlaceAnswer.Refused r) = refusal-parts r
+place-parts (Ok (Place.Journal block)) = packed-parts 0 1 0 block (omega arith) (omega arith) (omega arith)
+place-parts (Ok (Place.Store block)) = plain 0 block (omega arith)
+place-parts (Err LentError.Short) = plain result_short plan_size (omega arith)
+place-parts (Err (LentError.Refused r)) = refusal-parts r
 
 -- the word of a plan: a refusal, a short plan, a stop, or the number of its block stores
 abbrev pub PlanParts : PlanAnswer → Type 0
-PlanParts (PlanAnswer.Planned stores) = Parts (plan_word (PlanAnswer.Planned stores)) 0 0 0 stores
-PlanParts (PlanAnswer.Stopped s) = Parts (plan_word (PlanAnswer.Stopped s)) 0 (stop_no s) 0 0
-PlanParts PlanAnswer.Short = Parts (plan_word PlanAnswer.Short) result_short 0 0 plan_size
-PlanParts (PlanAnswer.Refused r) = Parts (plan_word (PlanAnswer.Refused r)) (refusal_no r) 0 0 (refusal_gives r)
+PlanParts (Ok (Listing.Stores stores)) = Parts (plan_word (Ok (Listing.Stores stores))) 0 0 0 stores
+PlanParts (Ok (Listing.Stopped s)) = Parts (plan_word (Ok (Listing.Stopped s))) 0 (stop_no s) 0 0
+PlanParts (Err LentError.Short) = Parts (plan_word (Err LentError.Short)) result_short 0 0 plan_size
+PlanParts (Err (LentError.Refused r)) =
+    Parts (plan_word (Err (LentError.Refused r))) (refusal_no r) 0 0 (refusal_gives r)
 
 pub plan-parts : (a : PlanAnswer) → PlanParts a
-plan-parts (PlanAnswer.Planned stores) = plain 0 stores (omega arith)
-plan-parts (PlanAnswer.Stopped s) = packed-parts 0 (stop_no s) 0 0 (omega arith) (stop-small s) (omega arith)
-plan-parts PlanAnswer.Short = plain result_short plan_size (omega arith)
-plan-parts (PlanAnswer.Refused r) = refusal-parts r
+plan-parts (Ok (Listing.Stores stores)) = plain 0 stores (omega arith)
+plan-parts (Ok (Listing.Stopped s)) = packed-parts 0 (stop_no s) 0 0 (omega arith) (stop-small s) (omega arith)
+plan-parts (Err LentError.Short) = plain result_short plan_size (omega arith)
+plan-parts (Err (LentError.Refused r)) = refusal-parts r
 
 -- the word of a standing: 255 with 28 besides exactly when the result is short
 module _ (s out : List ℕ) where

@@ -1,17 +1,13 @@
 -- The 64-bit word that each call answers: its parts, and the word of each answer. The numbers of the cases
 -- (docs/RULES.md 2.1) are definitions of crate `model`.
-use Rattle.std.specs.Prelude.{ℕ, ◌+◌, ◌*◌}
-use Rattle.lists.specs.Lists.{b2n}
+use Rattle.model.specs.declared.Listing.{Listing}
+use Rattle.model.specs.declared.LentError.{LentError}
+use Rattle.model.specs.declared.Place.{Place}
+use Rattle.std.specs.Prelude.{ℕ, ◌+◌, ◌*◌, Ok, Err}
 use Rattle.model.specs.declared.Refusal.{Refusal}
-use Rattle.model.specs.declared.Answer.{Answer}
-use Rattle.model.specs.declared.LookupAnswer.{LookupAnswer}
-use Rattle.model.specs.declared.WorkAnswer.{WorkAnswer}
-use Rattle.model.specs.declared.StandingAnswer.{StandingAnswer}
-use Rattle.model.specs.declared.PlaceAnswer.{PlaceAnswer}
-use Rattle.model.specs.declared.PlanAnswer.{PlanAnswer}
-use Rattle.model.specs.Answers.{refusal_no, refusal_gives, answer_no, answer_gives, lookup_no, lookup_gives}
-use Rattle.model.specs.Answers.{stop_no, work_no, work_gives, work_steps, work_stop, standing_no}
-use Rattle.model.specs.Answers.{standing_gives}
+use Rattle.model.specs.Answers.{Answer, LookupAnswer, WorkAnswer, StandingAnswer, PlaceAnswer, PlanAnswer, refusal_no}
+use Rattle.model.specs.Answers.{refusal_gives, answer_no, answer_gives, lookup_no, lookup_gives, stop_no, work_no}
+use Rattle.model.specs.Answers.{work_gives, work_steps, work_stop, standing_no, standing_gives}
 use Rattle.image.specs.declared.Verdict.{Verdict}
 use Rattle.journal.specs.Planned.{plan_size}
 
@@ -45,26 +41,29 @@ result_short = 255
 abbrev pub short_word : ℕ
 short_word = packed result_short 0 0 28
 
--- look and do store: bits 8..15 are 1 for a block of the journal and 0 for one of the store, bits 32..63 its number. A
--- plan of less than eleven blocks gets the number of a short result, and their bytes besides.
+-- a plan of less than eleven blocks gets the number of a short result, and their bytes besides
+abbrev pub lent_word : LentError → ℕ
+lent_word LentError.Short = packed result_short 0 0 plan_size
+lent_word (LentError.Refused r) = refusal_word r
+
+-- look and do store: bits 8..15 are 1 for a block of the journal and 0 for one of the store, bits 32..63 its number
 abbrev pub place_word : PlaceAnswer → ℕ
-place_word (PlaceAnswer.At journal block) = packed 0 (b2n journal) 0 block
-place_word PlaceAnswer.Short = packed result_short 0 0 plan_size
-place_word (PlaceAnswer.Refused r) = refusal_word r
+place_word (Ok (Place.Journal block)) = packed 0 1 0 block
+place_word (Ok (Place.Store block)) = packed 0 0 0 block
+place_word (Err e) = lent_word e
 
 -- the first half of a change: the number of its block stores; or a step's stop
 abbrev pub plan_word : PlanAnswer → ℕ
-plan_word (PlanAnswer.Planned stores) = packed 0 0 0 stores
-plan_word (PlanAnswer.Stopped s) = packed 0 (stop_no s) 0 0
-plan_word PlanAnswer.Short = packed result_short 0 0 plan_size
-plan_word (PlanAnswer.Refused r) = refusal_word r
+plan_word (Ok (Listing.Stores stores)) = packed 0 0 0 stores
+plan_word (Ok (Listing.Stopped s)) = packed 0 (stop_no s) 0 0
+plan_word (Err e) = lent_word e
 
 -- a verdict as the answer of a call that tests the store and does nothing
 abbrev pub verdict_answer : Verdict → Answer
-verdict_answer Verdict.BadLength = Answer.Refused Refusal.Length
-verdict_answer (Verdict.Damaged block) = Answer.Refused (Refusal.Damaged block)
-verdict_answer (Verdict.NotIndex rule) = Answer.Refused (Refusal.NotIndex rule)
-verdict_answer Verdict.Sound = Answer.Done
+verdict_answer Verdict.BadLength = Err Refusal.Length
+verdict_answer (Verdict.Damaged block) = Err (Refusal.Damaged block)
+verdict_answer (Verdict.NotIndex rule) = Err (Refusal.NotIndex rule)
+verdict_answer Verdict.Sound = Ok tt
 
 abbrev pub verdict_word : Verdict → ℕ
 verdict_word v = answer_word (verdict_answer v)

@@ -7,33 +7,14 @@ ghost use Rattle.amiqsovik.specs.Result.{twos_complement, slack_bytes, standing_
 use endian::put_u32;
 use model::{Phase, Standing, StandingAnswer};
 
-fn phase_no(phase: Phase) -> u32
-    ensures { result ≡ phase_no phase }
+// The phase's number and its two bucket numbers.
+fn phase_numbers(phase: Phase) -> (u32, u32, u32)
+    ensures { result ≡ (phase_no phase, phase_old phase, phase_new phase) }
 {
     match phase {
-        Phase::None => 0,
-        Phase::Copying { .. } => 1,
-        Phase::Clearing { .. } => 2,
-    }
-}
-
-fn phase_old(phase: Phase) -> u32
-    ensures { result ≡ phase_old phase }
-{
-    match phase {
-        Phase::None => 0,
-        Phase::Copying { old, .. } => old,
-        Phase::Clearing { old, .. } => old,
-    }
-}
-
-fn phase_new(phase: Phase) -> u32
-    ensures { result ≡ phase_new phase }
-{
-    match phase {
-        Phase::None => 0,
-        Phase::Copying { new, .. } => new,
-        Phase::Clearing { new, .. } => new,
+        Phase::None => (0, 0, 0),
+        Phase::Copying { old, new } => (1, old, new),
+        Phase::Clearing { old, new } => (2, old, new),
     }
 }
 
@@ -60,14 +41,13 @@ fn put_standing(res: &mut [u8], standing: Standing)
     requires { 28 ≤ length res.old }
     ensures { res.new ≡ standing_bytes standing ++ drop 28 res.old }
 {
-    let phase = standing.phase;
+    let (number, old, new) = phase_numbers(standing.phase);
     put_u32(res, 0, standing.count);
     put_u32(res, 4, standing.buckets);
-    put_u32(res, 8, phase_no(phase));
-    put_u32(res, 12, phase_old(phase));
-    put_u32(res, 16, phase_new(phase));
-    let slack = standing.slack;
-    put_slack(res, slack);
+    put_u32(res, 8, number);
+    put_u32(res, 12, old);
+    put_u32(res, 16, new);
+    put_slack(res, standing.slack);
 }
 
 // Writes what stands; a refusal leaves the slice as it was.
@@ -75,8 +55,7 @@ pub fn show(res: &mut [u8], answer: StandingAnswer)
     requires { 28 ≤ length res.old }
     ensures { res.new ≡ shown answer res.old }
 {
-    let StandingAnswer::Stands(standing) = answer else {
-        return;
-    };
-    put_standing(res, standing);
+    if let Ok(standing) = answer {
+        put_standing(res, standing);
+    }
 }

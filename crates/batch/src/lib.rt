@@ -12,12 +12,6 @@ ghost use Rattle.batch.specs.Batch.{call_of, call_at, lent_at, Batched, runs};
 use amiqsovik::changes::{amiqsovik_insert, amiqsovik_remove, amiqsovik_squeeze, amiqsovik_work};
 use amiqsovik::{amiqsovik_format, amiqsovik_lookup, amiqsovik_standing};
 
-fn smaller(a: usize, b: usize) -> usize
-    ensures { result ≡ min a b }
-{
-    if a <= b { a } else { b }
-}
-
 // Looks a hash code up, and lends the first `lent` bytes of the output.
 fn run_lookup(store: &[u8], hash: u32, lent: u32, output: &mut [u8]) -> u64
     ensures value { result ≡ lookup_word
@@ -26,7 +20,7 @@ fn run_lookup(store: &[u8], hash: u32, lent: u32, output: &mut [u8]) -> u64
         ≡ (lookup_outcome store.now hash (take lent output.old)).output
         ++ drop lent output.old }
 {
-    let n = smaller(lent as usize, output.len());
+    let n = (lent as usize).min(output.len());
     amiqsovik_lookup(store, hash, &mut output[..n])
 }
 
@@ -37,7 +31,7 @@ fn run_standing(store: &[u8], lent: u32, output: &mut [u8]) -> u64
         ≡ (standing_told store.now (take lent output.old)).result
         ++ drop lent output.old }
 {
-    let n = smaller(lent as usize, output.len());
+    let n = (lent as usize).min(output.len());
     amiqsovik_standing(store, &mut output[..n])
 }
 
@@ -105,11 +99,9 @@ pub fn run_batch(
           words = words.old;
         }) }
 {
-    let n = smaller(calls.len() / 4, words.len());
-    let mut i = 0;
-    while i < n {
+    let n = (calls.len() / 4).min(words.len());
+    for i in 0..n {
         words[i] = run_at(store, journal, calls, i, output);
-        i += 1;
     }
     n
 }

@@ -1,9 +1,9 @@
 -- A call made with the head wiped answers as it does without a journal, leaves the store that it leaves there, and
 -- leaves the head wiped.
-use Rattle.std.specs.Prelude.{◌≡◌, refl, List, ℕ}
+use Rattle.std.specs.Prelude.{◌≡◌, refl, List, ℕ, Ok}
 use Rattle.std.proofs.Common.{sym, ◌∙◌, subst}
 use Rattle.lists.specs.Bytes.{Bytes}
-use Rattle.model.specs.declared.WorkAnswer.{WorkAnswer}
+use Rattle.model.specs.Answers.{work_of}
 use Rattle.model.specs.Index.{Index}
 use Rattle.model.specs.Steps.{Step, next, stopped, iterate}
 use Rattle.model.specs.Calls.{Result, done, refused, pair_ok, budget_ok, insert, remove}
@@ -94,7 +94,7 @@ work-same k budget {d} {x} r e (passed y) =
     let a = iterate-alike Stands (step_journalled k) (step_store k) (step_same k) budget d d.store
     (record { same = refl; ready = r; index = x; encodes = e }) in
     record {
-      reply = λ i. worked (WorkAnswer.Worked (a.steps i) (a.stop i));
+      reply = λ i. worked (Ok (work_of (a.steps i) (a.stop i)));
       store = a.state.same;
       ready = a.state.ready;
     }

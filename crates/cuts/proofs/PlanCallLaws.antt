@@ -1,12 +1,13 @@
 -- A plan that a call works out: its block stores, in order, are the call.
-use Rattle.std.specs.Prelude.{◌≡◌, Bool, false, cond, leb, length}
+use Rattle.model.specs.declared.Listing.{Listing}
+use Rattle.model.specs.declared.LentError.{LentError}
+use Rattle.std.specs.Prelude.{◌≡◌, Bool, false, cond, leb, length, Ok, Err}
 use Rattle.std.proofs.Math.Path.{refl, subst}
 use Rattle.std.proofs.Common.{sym, ap, ◌∙◌, leb-true}
 use Rattle.std.proofs.Math.Bool.{true}
 use mathlib.Core.List.{List}
 use Prim.Native.Nat.{ℕ, ◌≤◌}
 use Rattle.lists.specs.Bytes.{Bytes}
-use Rattle.model.specs.declared.PlanAnswer.{PlanAnswer}
 use Rattle.model.specs.declared.Refusal.{Refusal}
 use Rattle.model.specs.Index.{Index}
 use Rattle.model.specs.Steps.{Step, next, stopped, iterate}
@@ -39,13 +40,13 @@ step_tested of_splits t = t
 step_tested (of_squeeze b) t = bucket_tested t b
 
 -- a buffer that was long enough
-long-enough : (b : List ℕ) (p : Planned) (n : ℕ) → (unless_short b p).answer ≡ PlanAnswer.Planned n
+long-enough : (b : List ℕ) (p : Planned) (n : ℕ) → (unless_short b p).answer ≡ Ok (Listing.Stores n)
     → (plan_size ≤ length b) × (unless_short b p ≡ p)
 long-enough b p n e = go (leb plan_size (length b)) refl e
   where
     go : (l : Bool) → leb plan_size (length b) ≡ l
-        → (cond l p (answering b PlanAnswer.Short)).answer ≡ PlanAnswer.Planned n
-        → (plan_size ≤ length b) × (cond l p (answering b PlanAnswer.Short) ≡ p)
+        → (cond l p (answering b (Err LentError.Short))).answer ≡ Ok (Listing.Stores n)
+        → (plan_size ≤ length b) × (cond l p (answering b (Err LentError.Short)) ≡ p)
     go true h e = (leb-true plan_size (length b) h, refl)
     go false h e = never (cc)
 
@@ -68,7 +69,7 @@ module _ {d : Disk} (bytes : Bytes d.store) (b : List ℕ) (n : ℕ) where
   pub change-in-order : (c : Call) → CallFits c → OneChange c → (a : Bool) (change : Index → Result)
       → ((x : Index) → tested a d.store ≡ passed x
       → (run_store c d.store).state ≡ (changed d.store (change x)).store)
-      → (unless_short b (plan_change (tested_with a d) change d b)).answer ≡ PlanAnswer.Planned n
+      → (unless_short b (plan_change (tested_with a d) change d b)).answer ≡ Ok (Listing.Stores n)
       → InOrder d (unless_short b (plan_change (tested_with a d) change d b)).plan n (run_store c d.store).state
       (change_on (tested_with a d) change d).disk
   change-in-order c fits o a change does e =
@@ -80,7 +81,7 @@ module _ {d : Disk} (bytes : Bytes d.store) (b : List ℕ) (n : ℕ) where
       t = (run_store c d.store).state
 
       to : (x : Index) (q : Result) → Passed a d x → change x ≡ q → plan_size ≤ length b
-          → (planned_as d b q).answer ≡ PlanAnswer.Planned n
+          → (planned_as d b q).answer ≡ Ok (Listing.Stores n)
           → InOrder d (planned_as d b q).plan n t (journalled d q).disk
       to x (done y) g i long e =
           let r = sound bytes a g in
@@ -91,7 +92,7 @@ module _ {d : Disk} (bytes : Bytes d.store) (b : List ℕ) (n : ℕ) where
           (planned bytes a g (becomes-call r c fits o) (change-touches d.store x r c fits o) b long))
       to x (refused q) g i long e = never (cc)
 
-      go : (v : Tested) → tested_with a d ≡ v → (plan_change v change d b).answer ≡ PlanAnswer.Planned n
+      go : (v : Tested) → tested_with a d ≡ v → (plan_change v change d b).answer ≡ Ok (Listing.Stores n)
           → plan_size ≤ length b
           → InOrder d (plan_change v change d b).plan n t (change_on v change d).disk
       go (failed q) i e long = never (cc)
@@ -100,7 +101,7 @@ module _ {d : Disk} (bytes : Bytes d.store) (b : List ℕ) (n : ℕ) where
   -- ---- one step of work or squeeze
 
   pub step-in-order : (k : Kind)
-      → (unless_short b (plan_step (step_tested k (tested_with true d)) k d b)).answer ≡ PlanAnswer.Planned n
+      → (unless_short b (plan_step (step_tested k (tested_with true d)) k d b)).answer ≡ Ok (Listing.Stores n)
       → InOrder d (unless_short b (plan_step (step_tested k (tested_with true d)) k d b)).plan n
       (work_store (step_tested k (tested true d.store)) d.store (iterate (step_store k) 1 d.store)).store
       (work_on (step_tested k (tested_with true d)) d (iterate (step_journalled k) 1 d)).disk
@@ -116,7 +117,7 @@ module _ {d : Disk} (bytes : Bytes d.store) (b : List ℕ) (n : ℕ) where
       s = d.store
 
       to : {x : Index} → Passed true d x → (a : Step (List ℕ)) → step_store k s ≡ a → plan_size ≤ length b
-          → (planned_step d b a).answer ≡ PlanAnswer.Planned n
+          → (planned_step d b a).answer ≡ Ok (Listing.Stores n)
           → InOrder d (planned_step d b a).plan n (iterate (step_store k) 1 s).state
           (iterate (step_journalled k) 1 d).state
       to {x} g (next t) i long e =
@@ -129,7 +130,7 @@ module _ {d : Disk} (bytes : Bytes d.store) (b : List ℕ) (n : ℕ) where
 
       -- the tests passed, or did not
       by : {x : Index} → Passed true d x → (u v : Tested) → v ≡ u → plan_size ≤ length b
-          → (plan_step u k d b).answer ≡ PlanAnswer.Planned n
+          → (plan_step u k d b).answer ≡ Ok (Listing.Stores n)
           → InOrder d (plan_step u k d b).plan n (work_store v s (iterate (step_store k) 1 s)).store
           (work_on u d (iterate (step_journalled k) 1 d)).disk
       by g (failed q) v i long e = never (cc)
@@ -138,11 +139,11 @@ module _ {d : Disk} (bytes : Bytes d.store) (b : List ℕ) (n : ℕ) where
           (work_store v s (iterate (step_store k) 1 s)).store (iterate (step_journalled k) 1 d).state) (sym i)
           (to g (step_store k s) refl long e)
 
-      refuses : (k j : Kind) (q : Refusal) → (plan_step (step_tested k (failed q)) j d b).answer ≡ PlanAnswer.Refused q
+      refuses : (k j : Kind) (q : Refusal) → (plan_step (step_tested k (failed q)) j d b).answer ≡ Err (LentError.Refused q)
       refuses of_splits j q = refl
       refuses (of_squeeze c) j q = refl
 
-      go : (v : Tested) → tested_with true d ≡ v → (plan_step (step_tested k v) k d b).answer ≡ PlanAnswer.Planned n
+      go : (v : Tested) → tested_with true d ≡ v → (plan_step (step_tested k v) k d b).answer ≡ Ok (Listing.Stores n)
           → plan_size ≤ length b
           → InOrder d (plan_step (step_tested k v) k d b).plan n
           (work_store (step_tested k (tested true s)) s (iterate (step_store k) 1 s)).store

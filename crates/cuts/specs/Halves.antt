@@ -1,12 +1,14 @@
 -- A change in two halves, for a host that flushes between block stores: the list of block stores worked out into a lent
 -- buffer, and its n-th one done. docs/RULES.md 11.9.
-use Rattle.std.specs.Prelude.{Bool, true, false, cond, ◌&&◌, List, ℕ, ◌+◌, ◌*◌, leb, ltb, length}
+use Rattle.model.specs.declared.Listing.{Listing}
+use Rattle.model.specs.declared.LentError.{LentError}
+use Rattle.model.specs.declared.Place.{Place}
+use Rattle.std.specs.Prelude.{Bool, true, false, cond, ◌&&◌, List, ℕ, ◌+◌, ◌*◌, leb, ltb, length, Ok, Err}
 use Rattle.lists.specs.Block.{blocks}
 use Rattle.store.specs.Store.{number_at}
 use Rattle.page.specs.declared.Pair.{Pair}
 use Rattle.model.specs.declared.Refusal.{Refusal}
-use Rattle.model.specs.declared.PlaceAnswer.{PlaceAnswer}
-use Rattle.model.specs.declared.PlanAnswer.{PlanAnswer}
+use Rattle.model.specs.Answers.{PlaceAnswer, PlanAnswer}
 use Rattle.model.specs.Index.{Index}
 use Rattle.model.specs.Steps.{Step, next, stopped}
 use Rattle.model.specs.Calls.{Result, done, refused, pair_ok, insert, remove}
@@ -33,29 +35,29 @@ answering b a = record { answer = a; plan = b }
 abbrev pub planned_to : Disk → (buffer t : List ℕ) → Planned
 planned_to d b t =
     record {
-      answer = PlanAnswer.Planned (length (change_stores d t));
+      answer = Ok (Listing.Stores (length (change_stores d t)));
       plan = plan_over (plan_to (number_at d.store) d.store t) b;
     }
 
 abbrev pub planned_as : Disk → (buffer : List ℕ) → Result → Planned
 planned_as d b (done y) = planned_to d b (encode y)
-planned_as d b (refused r) = answering b (PlanAnswer.Refused r)
+planned_as d b (refused r) = answering b (Err (LentError.Refused r))
 
 abbrev pub plan_change : Tested → (change : Index → Result) → Disk → (buffer : List ℕ) → Planned
-plan_change (failed r) f d b = answering b (PlanAnswer.Refused r)
+plan_change (failed r) f d b = answering b (Err (LentError.Refused r))
 plan_change (passed x) f d b = planned_as d b (f x)
 
 abbrev pub planned_step : Disk → (buffer : List ℕ) → Step (List ℕ) → Planned
 planned_step d b (next t) = planned_to d b t
-planned_step d b (stopped r) = answering b (PlanAnswer.Stopped r)
+planned_step d b (stopped r) = answering b (Ok (Listing.Stopped r))
 
 abbrev pub plan_step : Tested → Kind → Disk → (buffer : List ℕ) → Planned
-plan_step (failed r) k d b = answering b (PlanAnswer.Refused r)
+plan_step (failed r) k d b = answering b (Err (LentError.Refused r))
 plan_step (passed x) k d b = planned_step d b (step_store k d.store)
 
 -- a buffer of less than eleven blocks is refused before anything is looked at
 abbrev pub unless_short : (buffer : List ℕ) → Planned → Planned
-unless_short b p = cond (leb plan_size (length b)) p (answering b PlanAnswer.Short)
+unless_short b p = cond (leb plan_size (length b)) p (answering b (Err LentError.Short))
 
 unfoldable pub plan_insert : Disk → Pair → (buffer : List ℕ) → Planned
 plan_insert d p b = unless_short b (plan_change (tested_with (pair_ok p) d) (λ x. insert x p) d b)
@@ -78,10 +80,10 @@ pub record Stored : Type 0 where
   pub disk : Disk
 
 -- where a block store writes
-abbrev pub place_of : BlockStore → PlaceAnswer
-place_of (image at b) = PlaceAnswer.At true at
-place_of (mark at b) = PlaceAnswer.At true at
-place_of (page k b) = PlaceAnswer.At false k
+abbrev pub place_of : BlockStore → Place
+place_of (image at b) = Place.Journal at
+place_of (mark at b) = Place.Journal at
+place_of (page k b) = Place.Store k
 
 -- a block of the store is below N
 abbrev pub place_ok : BlockStore → (size : ℕ) → Bool
@@ -96,11 +98,11 @@ store_ok d p n =
     && (leb (plan_count p) 8 && (ltb n (2 * plan_count p + 3) && place_ok (plan_store p n) (blocks d.store)))
 
 abbrev pub store_in : (long length sixteen ok : Bool) → Disk → (plan : List ℕ) → (n : ℕ) → Stored
-store_in false l j o d p n = record { answer = PlaceAnswer.Short; disk = d }
-store_in true false j o d p n = record { answer = PlaceAnswer.Refused Refusal.Length; disk = d }
-store_in true true false o d p n = record { answer = PlaceAnswer.Refused Refusal.JournalLength; disk = d }
-store_in true true true false d p n = record { answer = PlaceAnswer.Refused Refusal.Number; disk = d }
-store_in true true true true d p n = record { answer = place_of (plan_store p n); disk = do_store (plan_store p n) d }
+store_in false l j o d p n = record { answer = Err LentError.Short; disk = d }
+store_in true false j o d p n = record { answer = Err (LentError.Refused Refusal.Length); disk = d }
+store_in true true false o d p n = record { answer = Err (LentError.Refused Refusal.JournalLength); disk = d }
+store_in true true true false d p n = record { answer = Err (LentError.Refused Refusal.Number); disk = d }
+store_in true true true true d p n = record { answer = Ok (place_of (plan_store p n)); disk = do_store (plan_store p n) d }
 
 unfoldable pub store_outcome : Disk → (plan : List ℕ) → (n : ℕ) → Stored
 store_outcome d p n =

@@ -1,5 +1,5 @@
 -- The block stores of a plan, done one after the other, are those of the change that it was made of.
-use Rattle.std.specs.Prelude.{◌≡◌, ◌&&◌, length, get_or}
+use Rattle.std.specs.Prelude.{◌≡◌, ◌&&◌, length, get_or, Ok}
 use Rattle.std.proofs.Math.Path.{refl, ap, subst}
 use Rattle.std.proofs.Common.{sym, ◌∙◌, arith}
 use Rattle.std.proofs.Math.Bool.{true}
@@ -39,14 +39,14 @@ module _ (p : List ℕ) (m : ℕ) (long : 5632 ≤ length p) (legal : size_ok m 
     (few : plan_count p ≤ 8) where
   -- one of them
   one : (i : ℕ) (q : BlockStore) → i < 2 * plan_count p + 3 → plan_store p i ≡ q → place_ok q m ≡ true → (g : Disk)
-      → Whole m g → store_outcome g p i ≡ record { answer = place_of q; disk = do_store q g }
+      → Whole m g → store_outcome g p i ≡ record { answer = Ok (place_of q); disk = do_store q g }
   unfolding store_outcome
   one i q l e ok g w =
       let a = le-leb 5632 (length p) long in
       let b = legal-is g.store m w.store ∙ legal in
       let c = eq-eqb (length g.journal) 8192 w.journal in
       (λ j. store_in (a j) (b j) (c j) (fine j) g p i)
-      ∙ ap (λ (q : BlockStore). record { answer = place_of q; disk = do_store q g }) e
+      ∙ ap (λ (q : BlockStore). record { answer = Ok (place_of q); disk = do_store q g }) e
     where
       fine : store_ok g p i ≡ true
       fine =
@@ -77,7 +77,7 @@ module _ (p : List ℕ) (m : ℕ) (long : 5632 ≤ length p) (legal : size_ok m 
       here : plan_store p i ≡ q
       here = let z : i ≡ i + 0 = omega arith in ap (plan_store p) z ∙ at 0
 
-      first : store_outcome g p i ≡ record { answer = place_of q; disk = do_store q g }
+      first : store_outcome g p i ≡ record { answer = Ok (place_of q); disk = do_store q g }
       first = one i q (omega arith) here ok.0 g (w 0 g between)
 
       disk : (store_outcome g p i).disk ≡ do_store q g
@@ -108,7 +108,7 @@ module _ (p : List ℕ) (m : ℕ) (long : 5632 ≤ length p) (legal : size_ok m 
       next rest =
           record {
             each = (
-              ap (λ (s : Stored). s.answer) first ∙ ap place_of (sym here),
+              ap (λ (s : Stored). s.answer) first ∙ ap (λ (q : BlockStore). Ok (place_of q)) (sym here),
               subst (AllDone p (suc i) (length qs)) (sym disk) rest.each,
             );
             leaves = ap (do_stores p (suc i) (length qs)) disk ∙ rest.leaves;

@@ -1,5 +1,5 @@
 -- All block stores of a plan, each by the call that does the n-th one. docs/RULES.md 11.9.
-use Rattle.std.specs.Prelude.{◌≡◌, List, ℕ, zero, suc, ◌≤◌, ◌<◌, length}
+use Rattle.std.specs.Prelude.{◌≡◌, List, ℕ, zero, suc, ◌≤◌, ◌<◌, length, Ok}
 use Rattle.journal.specs.Journal.{Disk, write}
 use Rattle.journal.specs.Altered.{change_stores}
 use Rattle.journal.specs.Cut.{Cut, Torn}
@@ -15,7 +15,7 @@ do_stores p i (suc n) d = do_stores p (suc i) n (store_outcome d p i).disk
 abbrev pub AllDone : (plan : List ℕ) → (i n : ℕ) → Disk → Type 0
 AllDone p i zero d = Unit {0}
 AllDone p i (suc n) d =
-    ((store_outcome d p i).answer ≡ place_of (plan_store p i)) × AllDone p (suc i) n (store_outcome d p i).disk
+    ((store_outcome d p i).answer ≡ Ok (place_of (plan_store p i))) × AllDone p (suc i) n (store_outcome d p i).disk
 
 -- The n block stores of a plan are those of the change of d's store to t; in order, from 0 on, they leave e, and
 -- the first k of them what the change leaves that is cut when k are done.

@@ -1,14 +1,14 @@
 -- What the calls that change a store do to it and its journal, and the calls on a journal. docs/RULES.md 11.2: "A
 -- journal of another length gets 13, right after 1; an insert, remove, work or squeeze while the head isn't wiped gets
 -- 14, pending, just before 3, whether or not it would change anything."
-use Rattle.std.specs.Prelude.{Bool, true, false, cond, List, [], ℕ, suc, ltb}
+use Rattle.model.specs.declared.LentError.{LentError}
+use Rattle.model.specs.declared.Place.{Place}
+use Rattle.std.specs.Prelude.{Bool, true, false, cond, List, [], ℕ, suc, ltb, Ok, Err}
 use Rattle.std.proofs.Math.Option.{Option, none, some}
 use Rattle.lists.specs.Block.{blocks, set_block}
 use Rattle.page.specs.declared.Pair.{Pair}
 use Rattle.model.specs.declared.Refusal.{Refusal}
-use Rattle.model.specs.declared.Answer.{Answer}
-use Rattle.model.specs.declared.WorkAnswer.{WorkAnswer}
-use Rattle.model.specs.declared.PlaceAnswer.{PlaceAnswer}
+use Rattle.model.specs.Answers.{Answer, WorkAnswer, PlaceAnswer, work_of}
 use Rattle.model.specs.Index.{Index}
 use Rattle.model.specs.Steps.{Step, next, stopped, Worked, iterate}
 use Rattle.model.specs.Calls.{Result, done, refused, pair_ok, budget_ok, insert, remove}
@@ -42,11 +42,11 @@ pub record Journalled : Type 0 where
 
 -- an accepted change is written as the list of its block stores
 abbrev pub journalled : Disk → Result → Journalled
-journalled d (done y) = record { answer = Answer.Done; disk = written d (encode y) }
-journalled d (refused r) = record { answer = Answer.Refused r; disk = d }
+journalled d (done y) = record { answer = Ok tt; disk = written d (encode y) }
+journalled d (refused r) = record { answer = Err r; disk = d }
 
 abbrev pub change_on : Tested → (change : Index → Result) → Disk → Journalled
-change_on (failed r) f d = record { answer = Answer.Refused r; disk = d }
+change_on (failed r) f d = record { answer = Err r; disk = d }
 change_on (passed x) f d = journalled d (f x)
 
 unfoldable pub insert_journalled : Disk → Pair → Journalled
@@ -69,10 +69,10 @@ pub record WorkJournalled : Type 0 where
   pub disk : Disk
 
 abbrev pub worked_by : Worked Disk → WorkJournalled
-worked_by w = record { answer = WorkAnswer.Worked w.steps w.stop; disk = w.state }
+worked_by w = record { answer = Ok (work_of w.steps w.stop); disk = w.state }
 
 abbrev pub work_on : Tested → Disk → Worked Disk → WorkJournalled
-work_on (failed r) d w = record { answer = WorkAnswer.Refused r; disk = d }
+work_on (failed r) d w = record { answer = Err r; disk = d }
 work_on (passed x) d w = worked_by w
 
 -- 14 is tested once, before the first step
@@ -89,9 +89,9 @@ squeeze_journalled d b budget =
 unfoldable pub recover_outcome : Disk → Journalled
 recover_outcome d =
     cond (length_ok d.store)
-    (cond (sixteen d.journal) (record { answer = Answer.Done; disk = recover d })
-    (record { answer = Answer.Refused Refusal.JournalLength; disk = d }))
-    (record { answer = Answer.Refused Refusal.Length; disk = d })
+    (cond (sixteen d.journal) (record { answer = Ok tt; disk = recover d })
+    (record { answer = Err Refusal.JournalLength; disk = d }))
+    (record { answer = Err Refusal.Length; disk = d })
 
 -- An answer, and the journal afterwards.
 pub record Wiped : Type 0 where
@@ -101,18 +101,18 @@ pub record Wiped : Type 0 where
 -- "A call of its own wipes a new journal's head": any head
 unfoldable pub wipe_outcome : (journal : List ℕ) → Wiped
 wipe_outcome j =
-    cond (sixteen j) (record { answer = Answer.Done; journal = set_block j 0 wiped })
-    (record { answer = Answer.Refused Refusal.JournalLength; journal = j })
+    cond (sixteen j) (record { answer = Ok tt; journal = set_block j 0 wiped })
+    (record { answer = Err Refusal.JournalLength; journal = j })
 
 unfoldable pub wiped_outcome : (journal : List ℕ) → Answer
 wiped_outcome j =
-    cond (sixteen j) (cond (head_wiped j) Answer.Done (Answer.Refused Refusal.Pending))
-    (Answer.Refused Refusal.JournalLength)
+    cond (sixteen j) (cond (head_wiped j) (Ok tt) (Err Refusal.Pending))
+    (Err Refusal.JournalLength)
 
 -- where look's part lies: image i is block 1 + i of the journal
 abbrev pub look_place : Option ℕ → (k : ℕ) → PlaceAnswer
-look_place (some i) k = PlaceAnswer.At true (suc i)
-look_place none k = PlaceAnswer.At false k
+look_place (some i) k = Ok (Place.Journal (suc i))
+look_place none k = Ok (Place.Store k)
 
 -- "a number not below N gets 2"
 abbrev pub look_in : {A : Type 0} → (length sixteen below : Bool) → (Refusal → A) → A → A
@@ -123,7 +123,7 @@ look_in true true true refuse found = found
 
 unfoldable pub look_outcome : Disk → (k : ℕ) → PlaceAnswer
 look_outcome d k =
-    look_in (length_ok d.store) (sixteen d.journal) (ltb k (blocks d.store)) PlaceAnswer.Refused
+    look_in (length_ok d.store) (sixteen d.journal) (ltb k (blocks d.store)) (λ r. Err (LentError.Refused r))
     (look_place (image_for (holds d) d.journal k) k)
 
 -- the part itself; a refused look has none

@@ -1,9 +1,8 @@
 -- What the gauge shows of an index: the exact cases, and between which numbers it lies.
-use Rattle.std.specs.Prelude.{◌≡◌, refl, true, false, List, ℕ, suc, ◌*◌, ◌<◌, negsuc, Float}
+use Rattle.std.specs.Prelude.{◌≡◌, refl, true, false, List, ℕ, suc, ◌*◌, ◌<◌, negsuc, Float, Err}
 use Rattle.std.proofs.Common.{ap, ap₂, ◌∙◌, arith}
 use Rattle.std.specs.Float.{fin, binary64}
 use Rattle.std.specs.Float.Ieee.{round, of_bits, le}
-use Rattle.model.specs.declared.Answer.{Answer}
 use Rattle.model.specs.declared.Refusal.{Refusal}
 use Rattle.model.specs.Index.{Index}
 use Rattle.model.specs.Held.{count}
@@ -70,10 +69,10 @@ gauge-range x w =
     }
 
 -- "then both are 0"
-pub refused-zero : (s : List ℕ) (r : Refusal) → (gauge_outcome s).answer ≡ Answer.Refused r → (gauge_outcome s).gauge ≡ zeros
+pub refused-zero : (s : List ℕ) (r : Refusal) → (gauge_outcome s).answer ≡ Err r → (gauge_outcome s).gauge ≡ zeros
 unfolding gauge_outcome
 refused-zero s r e = go (tested true s) e
   where
-    go : (t : Tested) → (gauge_on t).answer ≡ Answer.Refused r → (gauge_on t).gauge ≡ zeros
+    go : (t : Tested) → (gauge_on t).answer ≡ Err r → (gauge_on t).gauge ≡ zeros
     go (failed q) e = refl
     go (passed x) e = never (cc)

@@ -1,7 +1,7 @@
 -- THE FILL GAUGE OF STORES (docs/RULES.md 6.15): what it shows of sound stores, which are just the bytes of well-formed
 -- indexes (`sound-iff-encoding`), and what it shows by the book of demand 3, at every moment of every list of calls and
 -- with power cuts.
-use Rattle.std.specs.Prelude.{◌≡◌, refl, true, List, [], ◌∷◌, ℕ, suc, ◌+◌, ◌*◌, length}
+use Rattle.std.specs.Prelude.{◌≡◌, refl, true, List, [], ◌∷◌, ℕ, suc, ◌+◌, ◌*◌, length, Ok}
 use Rattle.std.proofs.Common.{ap₂, ◌∙◌}
 use Rattle.std.proofs.Math.Path.{ap}
 use Rattle.std.proofs.Math.IntN.{sub_ℕ}
@@ -9,7 +9,6 @@ use Rattle.lists.specs.Lists.{Each}
 use Rattle.lists.specs.Block.{blocks}
 use Rattle.model.specs.declared.Order.{Order}
 use Rattle.model.specs.declared.Standing.{Standing}
-use Rattle.model.specs.declared.StandingAnswer.{StandingAnswer}
 use Rattle.model.specs.Index.{Index}
 use Rattle.model.specs.Held.{count}
 use Rattle.model.specs.Calls.{format, standing}
@@ -31,7 +30,7 @@ use Rattle.outcomes.proofs.Demand3Theorem.{demand3-stores}
 use Rattle.journal.specs.Journal.{Disk}
 use Rattle.journal.specs.Cut.{Ready}
 use Rattle.cuts.proofs.Demand3Theorem.{Covered}
-use Rattle.gauge.specs.declared.GaugeAnswer.{GaugeAnswer}
+use Rattle.gauge.specs.Gauge.{GaugeAnswer}
 use Rattle.gauge.specs.Gauge.{quotient, pages, gauge_of, zeros, shows, gauge_on, gauge_outcome}
 use Rattle.gauge.proofs.GaugeLaws.{half, half_full, empty-zero}
 
@@ -76,12 +75,12 @@ moment-gauge : (t : Moment on_store) → Holds on_store decode t → gauge_outco
 unfolding run_store standing_outcome standing gauge_outcome gauge_of
 moment-gauge t h = go (tested true t.state) refl h.0.standing
   where
-    told : (a b : Standing) → stands (StandingAnswer.Stands a) ≡ stands (StandingAnswer.Stands b) → a ≡ b
+    told : (a b : Standing) → stands (Ok a) ≡ stands (Ok b) → a ≡ b
     told a b e = cc
 
     go : (k : Tested) → tested true t.state ≡ k
         → stands (standing_on k)
-        ≡ stands (StandingAnswer.Stands (record {
+        ≡ stands (Ok (record {
           count = length t.book;
           buckets = 2 + t.begins;
           phase = phase_at on_store t.state;

@@ -16,10 +16,8 @@ fn count_ones(map: &[u8], top: u32) -> u32
     ensures { result ≡ ones_in map.now top }
 {
     let mut ones: u32 = 0;
-    let mut n = 0;
-    while n < top {
+    for n in 0..top {
         ones += bit_of(map, n) as u32;
-        n += 1;
     }
     ones
 }

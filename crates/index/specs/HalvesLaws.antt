@@ -1,13 +1,14 @@
 -- What the first half of a call answers, by what its tests find; where the n-th block store of a plan writes.
+use Rattle.model.specs.declared.LentError.{LentError}
+use Rattle.model.specs.declared.Place.{Place}
 use Rattle.std.specs.Prelude.{◌≡◌, refl, Bool, true, false, cond, ◌&&◌, List, [], ℕ, ◌+◌, ◌*◌, ◌≤◌, ◌<◌, leb, ltb, length}
+use Rattle.std.specs.Prelude.{Ok, Err}
 use Rattle.std.proofs.Common.{sym, ap, ◌∙◌, subst, arith, leb-true, ltb-true, le-leb, lt-ltb, le-ltb, eq-eqb}
 use Rattle.std.proofs.lemmas.Bool.{lt-leb}
 use Rattle.lists.specs.ListsLaws.{and_left, and_right}
 use Rattle.lists.specs.Block.{blocks}
 use Rattle.page.specs.declared.Pair.{Pair}
 use Rattle.model.specs.declared.Refusal.{Refusal}
-use Rattle.model.specs.declared.PlaceAnswer.{PlaceAnswer}
-use Rattle.model.specs.declared.PlanAnswer.{PlanAnswer}
 use Rattle.model.specs.Index.{Index}
 use Rattle.model.specs.Steps.{Step, next, stopped}
 use Rattle.model.specs.Machine.{Kind}
@@ -16,27 +17,26 @@ use Rattle.model.proofs.MachineLaws.{never}
 use Rattle.image.specs.Decode.{decode}
 use Rattle.image.specs.Rules.{length_ok}
 use Rattle.outcomes.specs.Outcomes.{Tested, passed, step_store}
-use Rattle.journal.specs.Journal.{Disk, BlockStore, image, mark, page, disk, do_store}
+use Rattle.journal.specs.Journal.{Disk, BlockStore, disk, do_store}
 use Rattle.journal.specs.Planned.{plan_count, plan_name, plan_store}
 use Rattle.journal.specs.NthLaws.{nth-image, nth-head, nth_end, nth-page, nth-wipe}
 use Rattle.cuts.specs.Journalled.{tested_with}
 use Rattle.cuts.specs.Halves.{Planned, answering, planned_as, plan_change, planned_step, plan_step, unless_short}
 use Rattle.cuts.specs.Halves.{place_of, place_ok, store_ok, store_in, store_outcome}
-use Rattle.index.specs.declared.Test.{Test}
-use Rattle.index.specs.declared.PairTest.{PairTest}
-use Rattle.index.specs.Tested.{test_of}
+use Rattle.index.specs.Tested.{test_of, PairAnswer}
+use Rattle.index.specs.Halves.{PlaceFound, planned_place}
 use Rattle.index.specs.TestedLaws.{failed-is}
 use Rattle.index.specs.Ready.{PairReady}
 
 -- ---- the buffer's length
 
 pub too_short : (b : List ℕ) (p : Planned) → length b < 5632
-    → unless_short b p ≡ record { answer = PlanAnswer.Short; plan = b }
-too_short b p h = ap (λ (t : Bool). cond t p (answering b PlanAnswer.Short)) (lt-leb 5632 (length b) h)
+    → unless_short b p ≡ record { answer = Err LentError.Short; plan = b }
+too_short b p h = ap (λ (t : Bool). cond t p (answering b (Err LentError.Short))) (lt-leb 5632 (length b) h)
 
 module _ (b : List ℕ) (long : 5632 ≤ length b) where
   long-enough : (p : Planned) → unless_short b p ≡ p
-  long-enough p = ap (λ (t : Bool). cond t p (answering b PlanAnswer.Short)) (le-leb 5632 (length b) long)
+  long-enough p = ap (λ (t : Bool). cond t p (answering b (Err LentError.Short))) (le-leb 5632 (length b) long)
 
   -- ---- a call with a pair
 
@@ -44,18 +44,18 @@ module _ (b : List ℕ) (long : 5632 ≤ length b) where
       → unless_short b (plan_change (tested_with n d) f d b) ≡ plan_change u f d b
   tested-is f d n e = long-enough _ ∙ ap (λ (u : Tested). plan_change u f d b) e
 
-  module _ (f : Index → Pair → Result) (s j : List ℕ) (p : Pair) {t : PairTest} (found : PairReady (disk s j) p t) where
-    pub call-refused : {r : Refusal} → t ≡ PairTest.Failed r
+  module _ (f : Index → Pair → Result) (s j : List ℕ) (p : Pair) {t : PairAnswer} (found : PairReady (disk s j) p t) where
+    pub call-refused : {r : Refusal} → t ≡ Err r
         → unless_short b (plan_change (tested_with (pair_ok p) (disk s j)) (λ x. f x p) (disk s j) b)
-        ≡ record { answer = PlanAnswer.Refused r; plan = b }
+        ≡ record { answer = Err (LentError.Refused r); plan = b }
     call-refused e = tested-is (λ x. f x p) (disk s j) (pair_ok p) (subst (PairReady (disk s j) p) e found)
 
     -- the journal is not looked at any more
-    pub call-passed : {q : Pair} → t ≡ PairTest.Passed q → {r : Planned}
+    pub call-passed : {q : Pair} → t ≡ Ok q → {r : Planned}
         → planned_as (disk s []) b (f (decode s) q) ≡ r
         → unless_short b (plan_change (tested_with (pair_ok p) (disk s j)) (λ x. f x p) (disk s j) b) ≡ r
     call-passed {q} e h =
-        let g : PairReady (disk s j) p (PairTest.Passed q) = subst (PairReady (disk s j) p) e found in
+        let g : PairReady (disk s j) p (Ok q) = subst (PairReady (disk s j) p) e found in
         tested-is (λ x. f x p) (disk s j) (pair_ok p) g.4
         ∙ ap (λ (q : Pair). planned_as (disk s j) b (f (decode s) q)) (sym g.0)
         ∙ any (f (decode s) q)
@@ -68,8 +68,8 @@ module _ (b : List ℕ) (long : 5632 ≤ length b) where
   -- ---- a step
 
   module _ (k : Kind) (s j : List ℕ) (t : Tested) where
-    pub step-refused : (r : Refusal) → test_of t ≡ Test.Failed r
-        → unless_short b (plan_step t k (disk s j) b) ≡ record { answer = PlanAnswer.Refused r; plan = b }
+    pub step-refused : (r : Refusal) → test_of t ≡ Err r
+        → unless_short b (plan_step t k (disk s j) b) ≡ record { answer = Err (LentError.Refused r); plan = b }
     step-refused r e =
         long-enough _ ∙ ap (λ (u : Tested). plan_step u k (disk s j) b) (failed-is t r e)
 
@@ -85,87 +85,66 @@ module _ (b : List ℕ) (long : 5632 ≤ length b) where
 -- ---- where the n-th block store of a plan of m images writes
 
 module _ (s p : List ℕ) (n m : ℕ) (e : m ≡ plan_count p) where
-  abbrev answer_in : (some few below : Bool) → BlockStore → PlaceAnswer
+  abbrev answer_in : (some few below : Bool) → BlockStore → PlaceFound
   answer_in a b c q =
-      cond (a && (b && (c && place_ok q (blocks s)))) (place_of q) (PlaceAnswer.Refused Refusal.Number)
+      cond (a && (b && (c && place_ok q (blocks s)))) (Ok (place_of q)) (Err Refusal.Number)
 
   answer-is : {a b c : Bool} {q : BlockStore} → leb 1 (plan_count p) ≡ a → leb (plan_count p) 8 ≡ b
       → ltb n (2 * plan_count p + 3) ≡ c → plan_store p n ≡ q
-      → answer_in a b c q
-      ≡ cond (store_ok (disk s []) p n) (place_of (plan_store p n)) (PlaceAnswer.Refused Refusal.Number)
+      → answer_in a b c q ≡ planned_place s p n
   answer-is ea eb ec eq = λ i. answer_in (sym ea i) (sym eb i) (sym ec i) (sym eq i)
 
-  pub place_none : m ≡ 0
-      → PlaceAnswer.Refused Refusal.Number
-      ≡ cond (store_ok (disk s []) p n) (place_of (plan_store p n)) (PlaceAnswer.Refused Refusal.Number)
+  pub place_none : m ≡ 0 → Err Refusal.Number ≡ planned_place s p n
   place_none z = answer-is (lt-leb 1 (plan_count p) (omega arith)) refl refl refl
 
   module _ (some : 1 ≤ m) where
     one : leb 1 (plan_count p) ≡ true
     one = le-leb 1 (plan_count p) (omega arith)
 
-    pub place-many : 8 < m
-        → PlaceAnswer.Refused Refusal.Number
-        ≡ cond (store_ok (disk s []) p n) (place_of (plan_store p n)) (PlaceAnswer.Refused Refusal.Number)
+    pub place-many : 8 < m → Err Refusal.Number ≡ planned_place s p n
     place-many h = answer-is one (lt-leb (plan_count p) 8 (omega arith)) refl refl
 
     module _ (few : m ≤ 8) where
       eight : leb (plan_count p) 8 ≡ true
       eight = le-leb (plan_count p) 8 (omega arith)
 
-      pub place-past : 2 * m + 3 ≤ n
-          → PlaceAnswer.Refused Refusal.Number
-          ≡ cond (store_ok (disk s []) p n) (place_of (plan_store p n)) (PlaceAnswer.Refused Refusal.Number)
+      pub place-past : 2 * m + 3 ≤ n → Err Refusal.Number ≡ planned_place s p n
       place-past h = answer-is one eight (le-ltb n (2 * plan_count p + 3) (omega arith)) refl
 
       module _ (below : n < 2 * m + 3) where
         there : {q : BlockStore} → plan_store p n ≡ q
-            → answer_in true true true q
-            ≡ cond (store_ok (disk s []) p n) (place_of (plan_store p n)) (PlaceAnswer.Refused Refusal.Number)
+            → answer_in true true true q ≡ planned_place s p n
         there = answer-is one eight (lt-ltb n (2 * plan_count p + 3) (omega arith))
 
-        pub place-image : n < m
-            → PlaceAnswer.At true (n + 1)
-            ≡ cond (store_ok (disk s []) p n) (place_of (plan_store p n)) (PlaceAnswer.Refused Refusal.Number)
+        pub place-image : n < m → Ok (Place.Journal (n + 1)) ≡ planned_place s p n
         place-image h =
             let z : n + 1 ≡ 1 + n = omega arith in
-            ap (λ (i : ℕ). PlaceAnswer.At true i) z ∙ there (nth-image p n (omega arith))
+            ap (λ (i : ℕ). Ok (Place.Journal i)) z ∙ there (nth-image p n (omega arith))
 
-        pub place-head : n ≡ m
-            → PlaceAnswer.At true 0
-            ≡ cond (store_ok (disk s []) p n) (place_of (plan_store p n)) (PlaceAnswer.Refused Refusal.Number)
+        pub place-head : n ≡ m → Ok (Place.Journal 0) ≡ planned_place s p n
         place-head h = there (nth-head p n (h ∙ e))
 
-        pub place_end : n ≡ m + 1
-            → PlaceAnswer.At true 15
-            ≡ cond (store_ok (disk s []) p n) (place_of (plan_store p n)) (PlaceAnswer.Refused Refusal.Number)
+        pub place_end : n ≡ m + 1 → Ok (Place.Journal 15) ≡ planned_place s p n
         place_end h = there (nth_end p n (omega arith))
 
-        pub place-wipe : n ≡ 2 * m + 2
-            → PlaceAnswer.At true 0
-            ≡ cond (store_ok (disk s []) p n) (place_of (plan_store p n)) (PlaceAnswer.Refused Refusal.Number)
+        pub place-wipe : n ≡ 2 * m + 2 → Ok (Place.Journal 0) ≡ planned_place s p n
         place-wipe h = there (nth-wipe p n (omega arith))
 
         -- a block of the store, named k
         module _ (l k : ℕ) (at : n ≡ m + (2 + l)) (name : k ≡ plan_name p l) (inside : l < m) where
           page-is : {t : Bool} → ltb k (blocks s) ≡ t
-              → cond t (PlaceAnswer.At false k) (PlaceAnswer.Refused Refusal.Number)
-              ≡ cond (store_ok (disk s []) p n) (place_of (plan_store p n)) (PlaceAnswer.Refused Refusal.Number)
+              → cond t (Ok (Place.Store k)) (Err Refusal.Number) ≡ planned_place s p n
           page-is h =
-              ap (λ (t : Bool). cond t (PlaceAnswer.At false k) (PlaceAnswer.Refused Refusal.Number)) (sym h)
+              ap (λ (t : Bool). cond t (Ok (Place.Store k)) (Err Refusal.Number)) (sym h)
               ∙ ap
-              (λ (k : ℕ). cond (ltb k (blocks s)) (PlaceAnswer.At false k) (PlaceAnswer.Refused Refusal.Number))
+              (λ (k : ℕ). cond (ltb k (blocks s)) (Ok (Place.Store k)) (Err Refusal.Number))
               name
               ∙ there (nth-page p n l (omega arith) (omega arith))
 
-          pub place-outside : blocks s ≤ k
-              → PlaceAnswer.Refused Refusal.Number
-              ≡ cond (store_ok (disk s []) p n) (place_of (plan_store p n)) (PlaceAnswer.Refused Refusal.Number)
+          pub place-outside : blocks s ≤ k → Err Refusal.Number ≡ planned_place s p n
           place-outside h = page-is (le-ltb k (blocks s) h)
 
-          pub place-page : k < blocks s
-              → PlaceAnswer.At false k
-              ≡ cond (store_ok (disk s []) p n) (place_of (plan_store p n)) (PlaceAnswer.Refused Refusal.Number)
+          pub place-page : k < blocks s → Ok (Place.Store k) ≡ planned_place s p n
           place-page h = page-is (lt-ltb k (blocks s) h)
 
 -- ---- the second half
@@ -173,12 +152,10 @@ module _ (s p : List ℕ) (n m : ℕ) (e : m ≡ plan_count p) where
 module _ (s j p : List ℕ) (n : ℕ) where
   -- a place that was found: the n-th block store is there, and inside
 
-  pub place-there : {r : PlaceAnswer} {a : Bool} {b : ℕ}
-      → r ≡ cond (store_ok (disk s []) p n) (place_of (plan_store p n)) (PlaceAnswer.Refused Refusal.Number)
-      → r ≡ PlaceAnswer.At a b → store_ok (disk s j) p n ≡ true
-  place-there {r} {a} {b} f e = go (store_ok (disk s j) p n) f
+  pub place-there : {r : PlaceFound} {a : Place} → r ≡ planned_place s p n → r ≡ Ok a → store_ok (disk s j) p n ≡ true
+  place-there {r} {a} f e = go (store_ok (disk s j) p n) f
     where
-      go : (t : Bool) → r ≡ cond t (place_of (plan_store p n)) (PlaceAnswer.Refused Refusal.Number) → t ≡ true
+      go : (t : Bool) → r ≡ cond t (Ok (place_of (plan_store p n))) (Err Refusal.Number) → t ≡ true
       go true f = refl
       go false f = never (cc)
 
@@ -213,37 +190,24 @@ module _ (s j p : List ℕ) (n : ℕ) where
     outcome-is f =
         λ i. store_in (le-leb 5632 (length p) long i) (legal i) (eq-eqb (length j) 8192 sixteen i) (f i) (disk s j) p n
 
-    module _ {r : PlaceAnswer}
-        (found : r
-        ≡ cond (store_ok (disk s []) p n) (place_of (plan_store p n)) (PlaceAnswer.Refused Refusal.Number)) where
-      pub store-done : (a : Bool) (b : ℕ) → r ≡ PlaceAnswer.At a b → {d : Disk} → do_store (plan_store p n) (disk s j) ≡ d
-          → store_outcome (disk s j) p n ≡ record { answer = PlaceAnswer.At a b; disk = d }
-      store-done a b e {d} f =
+    module _ {r : PlaceFound} (found : r ≡ planned_place s p n) where
+      pub store-done : {a : Place} → r ≡ Ok a → {d : Disk} → do_store (plan_store p n) (disk s j) ≡ d
+          → store_outcome (disk s j) p n ≡ record { answer = Ok a; disk = d }
+      store-done {a} e {d} f =
           let ok = place-there found e in
-          let is : place_of (plan_store p n) ≡ PlaceAnswer.At a b =
-          sym (found
-          ∙ ap (λ (t : Bool). cond t (place_of (plan_store p n)) (PlaceAnswer.Refused Refusal.Number)) ok) ∙ e in
-          outcome-is ok ∙ (λ i. record { answer = is i; disk = f i })
+          let made : Ok (place_of (plan_store p n)) ≡ r =
+          sym (found ∙ ap (λ (t : Bool). cond t (Ok (place_of (plan_store p n))) (Err Refusal.Number)) ok) in
+          let is : place_of (plan_store p n) ≡ a = cc in
+          outcome-is ok ∙ (λ i. record { answer = Ok (is i); disk = f i })
 
-      pub store-refused : (u : Refusal) → r ≡ PlaceAnswer.Refused u
-          → store_outcome (disk s j) p n ≡ record { answer = PlaceAnswer.Refused u; disk = disk s j }
-      store-refused u e = go (store_ok (disk s j) p n) refl (plan_store p n) found
+      pub store-refused : {u : Refusal} → r ≡ Err u
+          → store_outcome (disk s j) p n ≡ record { answer = Err (LentError.Refused u); disk = disk s j }
+      store-refused {u} e = go (store_ok (disk s j) p n) refl found
         where
-          go : (t : Bool) → store_ok (disk s j) p n ≡ t → (q : BlockStore)
-              → r ≡ cond t (place_of q) (PlaceAnswer.Refused Refusal.Number)
-              → store_outcome (disk s j) p n ≡ record { answer = PlaceAnswer.Refused u; disk = disk s j }
-          go false o q f =
-              let same : PlaceAnswer.Refused Refusal.Number ≡ PlaceAnswer.Refused u = sym f ∙ e in
-              outcome-is o ∙ (λ i. record { answer = same i; disk = disk s j })
-          go true o (image at b) f = never (cc)
-          go true o (mark at b) f = never (cc)
-          go true o (page k b) f = never (cc)
-
-      pub store-never : {A : Type 0} → r ≡ PlaceAnswer.Short → A
-      store-never {A} e = go (store_ok (disk s j) p n) (plan_store p n) found
-        where
-          go : (t : Bool) (q : BlockStore) → r ≡ cond t (place_of q) (PlaceAnswer.Refused Refusal.Number) → A
-          go false q f = never (cc)
-          go true (image at b) f = never (cc)
-          go true (mark at b) f = never (cc)
-          go true (page k b) f = never (cc)
+          go : (t : Bool) → store_ok (disk s j) p n ≡ t
+              → r ≡ cond t (Ok (place_of (plan_store p n))) (Err Refusal.Number)
+              → store_outcome (disk s j) p n ≡ record { answer = Err (LentError.Refused u); disk = disk s j }
+          go false o f =
+              let same : Refusal.Number ≡ u = cc in
+              outcome-is o ∙ (λ i. record { answer = Err (LentError.Refused (same i)); disk = disk s j })
+          go true o f = never (cc)

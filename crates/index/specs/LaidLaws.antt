@@ -1,13 +1,14 @@
 -- A planned change laid into a lent buffer answers what the first half of a call does.
-use Rattle.std.specs.Prelude.{◌≡◌, List, [], ℕ, length}
+use Rattle.model.specs.declared.Listing.{Listing}
+use Rattle.model.specs.declared.LentError.{LentError}
+use Rattle.std.specs.Prelude.{◌≡◌, List, [], ℕ, length, Ok, Err}
 use Rattle.std.proofs.Common.{sym, ap, ◌∙◌}
 use Rattle.store.specs.declared.Change.{Change}
 use Rattle.store.specs.Store.{number_at}
 use Rattle.store.specs.Finish.{finished}
 use Rattle.model.specs.declared.Refusal.{Refusal}
 use Rattle.model.specs.declared.Stop.{Stop}
-use Rattle.model.specs.declared.Answer.{Answer}
-use Rattle.model.specs.declared.PlanAnswer.{PlanAnswer}
+use Rattle.model.specs.Answers.{Answer, PlanAnswer}
 use Rattle.model.specs.Index.{Index}
 use Rattle.model.specs.Steps.{Step}
 use Rattle.model.specs.Machine.{Kind, step_index}
@@ -31,27 +32,27 @@ module _ (s : List ℕ) (c : Change) (images buffer after : List ℕ) (n : ℕ)
     (many : n ≡ length (stores_to (number_at s) s (finished s c images)))
     (laid : after ≡ plan_over (plan_to (number_at s) s (finished s c images)) buffer) where
   made : {y : Index} → Plans s c images y
-      → planned_to (disk s []) buffer (encode y) ≡ record { answer = PlanAnswer.Planned n; plan = after }
+      → planned_to (disk s []) buffer (encode y) ≡ record { answer = Ok (Listing.Stores n); plan = after }
   made p =
       ap (planned_to (disk s []) buffer) (sym p.makes)
-      ∙ (λ i. record { answer = PlanAnswer.Planned (sym many i); plan = sym laid i })
+      ∙ (λ i. record { answer = Ok (Listing.Stores (sym many i)); plan = sym laid i })
 
   kept : c.count ≡ 0 → (a : PlanAnswer) → answering buffer a ≡ record { answer = a; plan = after }
   kept z a = ap (λ (b : List ℕ). answering b a) (none-lays s c images z buffer ∙ sym laid)
 
   -- a call
 
-  pub settles-laid : {q : Result} {a : Answer} → Settles s c images q a → a ≡ Answer.Done
-      → planned_as (disk s []) buffer q ≡ record { answer = PlanAnswer.Planned n; plan = after }
+  pub settles-laid : {q : Result} {a : Answer} → Settles s c images q a → a ≡ Ok tt
+      → planned_as (disk s []) buffer q ≡ record { answer = Ok (Listing.Stores n); plan = after }
   settles-laid (accepted p) e = made p
   settles-laid (declined z) e = never (cc)
 
-  pub settles-declined : {q : Result} {a : Answer} → Settles s c images q a → (r : Refusal) → a ≡ Answer.Refused r
-      → planned_as (disk s []) buffer q ≡ record { answer = PlanAnswer.Refused r; plan = after }
+  pub settles-declined : {q : Result} {a : Answer} → Settles s c images q a → (r : Refusal) → a ≡ Err r
+      → planned_as (disk s []) buffer q ≡ record { answer = Err (LentError.Refused r); plan = after }
   settles-declined (accepted p) r e = never (cc)
   settles-declined (declined {r = u} z) r e =
       let same : u ≡ r = cc in
-      kept z (PlanAnswer.Refused u) ∙ (λ i. record { answer = PlanAnswer.Refused (same i); plan = after })
+      kept z (Err (LentError.Refused u)) ∙ (λ i. record { answer = Err (LentError.Refused (same i)); plan = after })
 
   -- a step
 
@@ -60,21 +61,21 @@ module _ (s : List ℕ) (c : Change) (images buffer after : List ℕ) (n : ℕ)
     step_is = ap (planned_step (disk s []) buffer) (step-read k s ∙ ap step_on is)
 
     pub advances-laid : {a : Advance} → Advances s c images q a → a ≡ Advance.Next
-        → planned_step (disk s []) buffer (step_store k s) ≡ record { answer = PlanAnswer.Planned n; plan = after }
+        → planned_step (disk s []) buffer (step_store k s) ≡ record { answer = Ok (Listing.Stores n); plan = after }
     advances-laid h e = step_is ∙ go h e
       where
         go : {q : Step Index} {a : Advance} → Advances s c images q a → a ≡ Advance.Next
-            → planned_step (disk s []) buffer (step_on q) ≡ record { answer = PlanAnswer.Planned n; plan = after }
+            → planned_step (disk s []) buffer (step_on q) ≡ record { answer = Ok (Listing.Stores n); plan = after }
         go (advanced p) e = made p
         go (halted z) e = never (cc)
 
     pub advances-stopped : {a : Advance} → Advances s c images q a → (r : Stop) → a ≡ Advance.Stopped r
-        → planned_step (disk s []) buffer (step_store k s) ≡ record { answer = PlanAnswer.Stopped r; plan = after }
+        → planned_step (disk s []) buffer (step_store k s) ≡ record { answer = Ok (Listing.Stopped r); plan = after }
     advances-stopped h r e = step_is ∙ go h e
       where
         go : {q : Step Index} {a : Advance} → Advances s c images q a → a ≡ Advance.Stopped r
-            → planned_step (disk s []) buffer (step_on q) ≡ record { answer = PlanAnswer.Stopped r; plan = after }
+            → planned_step (disk s []) buffer (step_on q) ≡ record { answer = Ok (Listing.Stopped r); plan = after }
         go (advanced p) e = never (cc)
         go (halted {r = u} z) e =
             let same : u ≡ r = cc in
-            kept z (PlanAnswer.Stopped u) ∙ (λ i. record { answer = PlanAnswer.Stopped (same i); plan = after })
+            kept z (Ok (Listing.Stopped u)) ∙ (λ i. record { answer = Ok (Listing.Stopped (same i)); plan = after })

@@ -2,6 +2,7 @@ pub mod Tested
 pub mod Sound
 pub mod Ready
 pub mod Written
+pub mod Halves
 pub mod TestedLaws
 pub mod SoundLaws
 pub mod WrittenLaws

@@ -8,9 +8,8 @@ use Rattle.store.specs.declared.Change.{Change}
 use Rattle.store.specs.Change.{Fits}
 use Rattle.store.specs.Finish.{finished}
 use Rattle.store.proofs.FinishLaws.{finished-none}
-use Rattle.model.specs.declared.Answer.{Answer}
+use Rattle.model.specs.Answers.{Answer, work_of}
 use Rattle.model.specs.declared.Stop.{Stop}
-use Rattle.model.specs.declared.WorkAnswer.{WorkAnswer}
 use Rattle.model.specs.Index.{Index}
 use Rattle.model.specs.Steps.{Step, next, stopped, Worked, iterate}
 use Rattle.model.specs.Machine.{Kind, step_index}
@@ -58,9 +57,9 @@ module _ {s : List ℕ} {c : Change} {images : List ℕ} where
   pub settles-changed : {q : Result} {a : Answer} → Settles s c images q a → (t : List ℕ) → t ≡ finished s c images
       → changed s q ≡ record { answer = a; store = t }
   settles-changed (accepted p) t e =
-      ap (λ (u : List ℕ). record { answer = Answer.Done; store = u }) (sym p.makes ∙ sym e)
+      ap (λ (u : List ℕ). record { answer = Ok tt; store = u }) (sym p.makes ∙ sym e)
   settles-changed (declined {r} n) t e =
-      ap (λ (u : List ℕ). record { answer = Answer.Refused r; store = u }) (sym (finished-none s c images n) ∙ sym e)
+      ap (λ (u : List ℕ). record { answer = Err r; store = u }) (sym (finished-none s c images n) ∙ sym e)
 
   pub settles-alters : {q : Result} {a : Answer} → Settles s c images q a → Alters s c images
   settles-alters (accepted p) = plans-alters p
@@ -70,10 +69,10 @@ module _ {s : List ℕ} {c : Change} {images : List ℕ} where
   pub settles-journalled : {q : Result} {a : Answer} → Settles s c images q a → (j : List ℕ) (e : Disk)
       → written (disk s j) (finished s c images) ≡ e → journalled (disk s j) q ≡ record { answer = a; disk = e }
   settles-journalled (accepted p) j e f =
-      ap (λ (u : Disk). record { answer = Answer.Done; disk = u })
+      ap (λ (u : Disk). record { answer = Ok tt; disk = u })
       (ap (written (disk s j)) (sym p.makes) ∙ f)
   settles-journalled (declined {r} n) j e f =
-      ap (λ (u : Disk). record { answer = Answer.Refused r; disk = u })
+      ap (λ (u : Disk). record { answer = Err r; disk = u })
       (sym (idle (disk s j)) ∙ ap (written (disk s j)) (sym (finished-none s c images n)) ∙ f)
 
   -- ---- a step
@@ -158,22 +157,22 @@ module _ (k : Kind) (budget n : ℕ) where
       one = omega arith
 
   pub left-stop : (s : Disk) (r : Stop) → n < budget → step_journalled k s ≡ stopped r
-      → worked_by (left k budget n s) ≡ record { answer = WorkAnswer.Worked n r; disk = s }
+      → worked_by (left k budget n s) ≡ record { answer = Ok (work_of n r); disk = s }
   left-stop s r h e =
       ap (λ (i : ℕ). worked_by (after n (iterate (step_journalled k) i s))) (more h)
       ∙ ap (λ (q : Step Disk). worked_by (after n (over k (budget - (n + 1)) s q))) e
-      ∙ (λ i. record { answer = WorkAnswer.Worked (none i) r; disk = s })
+      ∙ (λ i. record { answer = Ok (work_of (none i) r); disk = s })
     where
       none : n + 0 ≡ n
       none = omega arith
 
   pub left-spent : (s : Disk) → budget ≤ n
-      → worked_by (left k budget n s) ≡ record { answer = WorkAnswer.Worked n Stop.Spent; disk = s }
+      → worked_by (left k budget n s) ≡ record { answer = Ok (work_of n Stop.Spent); disk = s }
   left-spent s h =
       let z : budget - n ≡ 0 = omega arith in
       let none : n + 0 ≡ n = omega arith in
       ap (λ (i : ℕ). worked_by (after n (iterate (step_journalled k) i s))) z
-      ∙ (λ i. record { answer = WorkAnswer.Worked (none i) Stop.Spent; disk = s })
+      ∙ (λ i. record { answer = Ok (work_of (none i) Stop.Spent); disk = s })
 
 -- ---- the loop of work, and of squeeze
 
@@ -198,12 +197,12 @@ module _ (k : Kind) {budget : ℕ} {s₀ s : Disk} {n : ℕ} (w : Working k budg
       }
 
   pub working-stop : {X : Type 0} {r : Stop} {t : Disk} → Stepped k s {X = X} (Err r) t
-      → worked_by (iterate (step_journalled k) budget s₀) ≡ record { answer = WorkAnswer.Worked n r; disk = t }
+      → worked_by (iterate (step_journalled k) budget s₀) ≡ record { answer = Ok (work_of n r); disk = t }
   working-stop (stayed {r = r} e q) =
-      ap worked_by w.rest ∙ left-stop k budget n s r h e ∙ (λ i. record { answer = WorkAnswer.Worked n r; disk = sym q i })
+      ap worked_by w.rest ∙ left-stop k budget n s r h e ∙ (λ i. record { answer = Ok (work_of n r); disk = sym q i })
 
 pub working-spent : (k : Kind) {budget : ℕ} {s₀ s : Disk} {n : ℕ} → Working k budget s₀ s n → budget ≤ n
-    → worked_by (iterate (step_journalled k) budget s₀) ≡ record { answer = WorkAnswer.Worked n Stop.Spent; disk = s }
+    → worked_by (iterate (step_journalled k) budget s₀) ≡ record { answer = Ok (work_of n Stop.Spent); disk = s }
 working-spent k {budget} {s = s} {n} w h = ap worked_by w.rest ∙ left-spent k budget n s h
 
 pub working-none : (k : Kind) (budget : ℕ) (s : Disk) → Sound s.store → length s.journal ≡ 8192

@@ -1,5 +1,5 @@
 -- What squeeze's outcome is, by what its tests find; what a step leaves the next one.
-use Rattle.std.specs.Prelude.{◌≡◌, Bool, ℕ, ◌≤◌, ◌<◌}
+use Rattle.std.specs.Prelude.{◌≡◌, Bool, ℕ, ◌≤◌, ◌<◌, Ok, Err}
 use Rattle.std.proofs.Math.Path.{refl, sym, ap}
 use Rattle.std.proofs.Common.{◌∙◌}
 use Rattle.std.proofs.Math.Bool.{true, false}
@@ -8,7 +8,6 @@ use borrow.Author.Tests.{leb-true, le-leb, lt-leb}
 use Rattle.std.proofs.Math.Dec.{leb}
 use Rattle.lists.specs.Bytes.{Bytes}
 use Rattle.model.specs.declared.Refusal.{Refusal}
-use Rattle.model.specs.declared.WorkAnswer.{WorkAnswer}
 use Rattle.model.specs.Index.{Index}
 use Rattle.model.specs.Steps.{iterate}
 use Rattle.model.specs.Squeeze.{is_busy, bucket_in, bucket_test}
@@ -19,7 +18,6 @@ use Rattle.image.specs.Decode.{decode}
 use Rattle.outcomes.specs.Outcomes.{Tested, passed, failed, unless_refused, bucket_tested}
 use Rattle.journal.specs.Journal.{Disk}
 use Rattle.cuts.specs.Journalled.{tested_with, step_journalled, worked_by, work_on, squeeze_journalled}
-use Rattle.index.specs.declared.Test.{Test}
 use Rattle.index.specs.Tested.{test_of}
 use Rattle.index.specs.TestedLaws.{failed-is}
 use Rattle.index.specs.ReadyLaws.{ready-sound, ready-passed}
@@ -28,7 +26,7 @@ use Rattle.index.specs.Sound.{Sound}
 -- ---- the tests of the bucket, in their order
 
 module _ (x : Index) (b : ℕ) where
-  pub bucket-above : x.max_bucket < b → Test.Failed Refusal.Number ≡ test_of (unless_refused (bucket_test x b) x)
+  pub bucket-above : x.max_bucket < b → Err Refusal.Number ≡ test_of (unless_refused (bucket_test x b) x)
   unfolding bucket_test
   bucket-above h =
       sym (ap (λ (t : Bool). test_of (unless_refused (bucket_in t (is_busy x b)) x)) (lt-leb b x.max_bucket h))
@@ -39,18 +37,18 @@ module _ (x : Index) (b : ℕ) where
   in-range h e = sym (λ i. test_of (unless_refused (bucket_in (le-leb b x.max_bucket h i) (e i)) x))
 
   pub bucket-busy : b ≤ x.max_bucket → is_busy x b ≡ true
-      → Test.Failed Refusal.Busy ≡ test_of (unless_refused (bucket_test x b) x)
+      → Err Refusal.Busy ≡ test_of (unless_refused (bucket_test x b) x)
   bucket-busy h e = in-range h e
 
-  pub bucket-free : b ≤ x.max_bucket → is_busy x b ≡ false → Test.Passed ≡ test_of (unless_refused (bucket_test x b) x)
+  pub bucket-free : b ≤ x.max_bucket → is_busy x b ≡ false → Ok tt ≡ test_of (unless_refused (bucket_test x b) x)
   bucket-free h e = in-range h e
 
 -- ---- all tests
 
 module _ (d : Disk) (b : ℕ) (numbers : Bool) where
   -- one that fails before the bucket's
-  pub early-fails : (r : Refusal) → test_of (tested_with numbers d) ≡ Test.Failed r
-      → Test.Failed r ≡ test_of (bucket_tested (tested_with numbers d) b)
+  pub early-fails : (r : Refusal) → test_of (tested_with numbers d) ≡ Err r
+      → Err r ≡ test_of (bucket_tested (tested_with numbers d) b)
   early-fails r h = sym (ap (λ (t : Tested). test_of (bucket_tested t b)) (failed-is (tested_with numbers d) r h))
 
   module _ (bytes : Bytes d.store) where
@@ -58,16 +56,16 @@ module _ (d : Disk) (b : ℕ) (numbers : Bool) where
     x = decode d.store
 
     -- and where those pass, the bucket's decide
-    pub early-passes : test_of (tested_with numbers d) ≡ Test.Passed
+    pub early-passes : test_of (tested_with numbers d) ≡ Ok tt
         → test_of (unless_refused (bucket_test (decode d.store) b) (decode d.store))
         ≡ test_of (bucket_tested (tested_with numbers d) b)
     early-passes h = sym (ap (λ (t : Tested). test_of (bucket_tested t b)) (ready-passed numbers d bytes h))
 
-    module _ (h : test_of (bucket_tested (tested_with numbers d) b) ≡ Test.Passed) where
-      pub all-early : test_of (tested_with numbers d) ≡ Test.Passed
+    module _ (h : test_of (bucket_tested (tested_with numbers d) b) ≡ Ok tt) where
+      pub all-early : test_of (tested_with numbers d) ≡ Ok tt
       all-early = go (tested_with numbers d) h
         where
-          go : (t : Tested) → test_of (bucket_tested t b) ≡ Test.Passed → test_of t ≡ Test.Passed
+          go : (t : Tested) → test_of (bucket_tested t b) ≡ Ok tt → test_of t ≡ Ok tt
           go (passed x) h = refl
           go (failed r) h = never (cc)
 
@@ -82,7 +80,7 @@ module _ (d : Disk) (b : ℕ) (numbers : Bool) where
           (sym (ap (λ (t : Tested). test_of (bucket_tested t b)) (ready-passed numbers d bytes all-early)) ∙ h)
         where
           go : (r : Bool) → leb b x.max_bucket ≡ r
-              → test_of (unless_refused (bucket_in r (is_busy x b)) x) ≡ Test.Passed → b ≤ x.max_bucket
+              → test_of (unless_refused (bucket_in r (is_busy x b)) x) ≡ Ok tt → b ≤ x.max_bucket
           go true e h = leb-true b x.max_bucket e
           go false e h = never (cc)
 
@@ -94,21 +92,21 @@ module _ (d : Disk) (b : ℕ) (numbers : Bool) where
           e : tested_with numbers d ≡ passed x
           e = ready-passed numbers d bytes all-early
 
-          go : (q : Option Refusal) → test_of (unless_refused q x) ≡ Test.Passed → unless_refused q x ≡ passed x
+          go : (q : Option Refusal) → test_of (unless_refused q x) ≡ Ok tt → unless_refused q x ≡ passed x
           go none h = refl
           go (some r) h = never (cc)
 
 -- ---- the outcome
 
 module _ (d : Disk) (b budget : ℕ) where
-  pub squeeze-fails : (r : Refusal) → test_of (bucket_tested (tested_with (budget_ok budget) d) b) ≡ Test.Failed r
-      → squeeze_journalled d b budget ≡ record { answer = WorkAnswer.Refused r; disk = d }
+  pub squeeze-fails : (r : Refusal) → test_of (bucket_tested (tested_with (budget_ok budget) d) b) ≡ Err r
+      → squeeze_journalled d b budget ≡ record { answer = Err r; disk = d }
   unfolding squeeze_journalled
   squeeze-fails r h =
       ap (λ (t : Tested). work_on t d (iterate (step_journalled (of_squeeze b)) budget d))
       (failed-is (bucket_tested (tested_with (budget_ok budget) d) b) r h)
 
-  pub squeeze-passes : Bytes d.store → test_of (bucket_tested (tested_with (budget_ok budget) d) b) ≡ Test.Passed
+  pub squeeze-passes : Bytes d.store → test_of (bucket_tested (tested_with (budget_ok budget) d) b) ≡ Ok tt
       → squeeze_journalled d b budget ≡ worked_by (iterate (step_journalled (of_squeeze b)) budget d)
   unfolding squeeze_journalled
   squeeze-passes bytes h =

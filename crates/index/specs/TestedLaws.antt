@@ -1,11 +1,12 @@
 -- What the tests before a call say of a store, and what a store that passes them is.
-use Rattle.std.specs.Prelude.{◌≡◌, refl, Bool, true, false, cond, ◌&&◌, List, ℕ, ◌%◌, ◌≤◌, eqb, leb, length}
+use Rattle.std.specs.Prelude.{◌≡◌, refl, Bool, true, false, cond, ◌&&◌, List, ℕ, ◌%◌, ◌≤◌, eqb, leb, length, Ok, Err}
 use Rattle.std.proofs.Common.{sym, ap, ◌∙◌, arith, leb-true}
 use Rattle.lists.specs.ListsLaws.{and_left, and_right}
 use Rattle.lists.specs.Bytes.{Bytes}
 use Rattle.lists.specs.Block.{blocks}
 use Rattle.model.specs.declared.Refusal.{Refusal}
 use Rattle.page.specs.declared.Pair.{Pair}
+use Rattle.model.specs.Answers.{Answer}
 use Rattle.model.specs.Calls.{pair_ok}
 use Rattle.address.specs.Limits.{max_blocks}
 use Rattle.model.proofs.MachineLaws.{never}
@@ -20,17 +21,8 @@ use Rattle.image.specs.Rules.{length_ok}
 use Rattle.chain.specs.WalkLaws.{length_ok-sized}
 use Rattle.view.specs.Reads.{Reads}
 use Rattle.view.specs.ReadsLaws.{sound-reads}
-use Rattle.index.specs.declared.Test.{Test}
-use Rattle.index.specs.declared.PairTest.{PairTest}
-use Rattle.index.specs.Tested.{test_of, PairTested}
+use Rattle.index.specs.Tested.{test_of, test_from, PairTested}
 use Rattle.index.specs.Sound.{Sound}
-
--- the test that a verdict gives
-abbrev pub test_from : Verdict → Test
-test_from Verdict.BadLength = Test.Failed Refusal.Length
-test_from (Verdict.Damaged k) = Test.Failed (Refusal.Damaged k)
-test_from (Verdict.NotIndex r) = Test.Failed (Refusal.NotIndex r)
-test_from Verdict.Sound = Test.Passed
 
 pub test-verdict : (s : List ℕ) → test_from (verify_outcome s) ≡ test_of (tested true s)
 unfolding verify_outcome tested
@@ -51,11 +43,11 @@ pub record Passes (s : List ℕ) : Type 0 where
   pub reads : (m : Meta) → m ≡ meta_at s → Reads s m
   pub index : tested true s ≡ passed (decode s)
 
-pub passes : (s : List ℕ) → Bytes s → test_of (tested true s) ≡ Test.Passed → Passes s
+pub passes : (s : List ℕ) → Bytes s → test_of (tested true s) ≡ Ok tt → Passes s
 unfolding tested
 passes s b h = go (length_ok s) (verdict s) refl refl h
   where
-    go : (l : Bool) (j : Judged) → length_ok s ≡ l → verdict s ≡ j → test_of (tested_in l true j) ≡ Test.Passed → Passes s
+    go : (l : Bool) (j : Judged) → length_ok s ≡ l → verdict s ≡ j → test_of (tested_in l true j) ≡ Ok tt → Passes s
     go false j e v h = never (cc)
     go true (damaged k) e v h = never (cc)
     go true (not_index r) e v h = never (cc)
@@ -74,27 +66,27 @@ passes-room {s} p =
     omega (arith, z.whole, leb-true 4 (blocks s) (and_left (leb 4 (blocks s)) (leb (blocks s) max_blocks) few))
 
 -- one that does not: the refusal
-pub failed-is : (t : Tested) (r : Refusal) → test_of t ≡ Test.Failed r → t ≡ failed r
+pub failed-is : (t : Tested) (r : Refusal) → test_of t ≡ Err r → t ≡ failed r
 failed-is (passed x) r h = never (cc)
 failed-is (failed q) r h = cc
 
-pub fails : (n : Bool) (s : List ℕ) (r : Refusal) → test_of (tested n s) ≡ Test.Failed r → tested n s ≡ failed r
+pub fails : (n : Bool) (s : List ℕ) (r : Refusal) → test_of (tested n s) ≡ Err r → tested n s ≡ failed r
 fails n s = failed-is (tested n s)
 
 -- the numbers of a call that passes are good
-pub passes-numbers : (n : Bool) (s : List ℕ) → test_of (tested n s) ≡ Test.Passed → n ≡ true
+pub passes-numbers : (n : Bool) (s : List ℕ) → test_of (tested n s) ≡ Ok tt → n ≡ true
 passes-numbers n s h = go (tested n s) refl h
   where
-    go : (t : Tested) → tested n s ≡ t → test_of t ≡ Test.Passed → n ≡ true
+    go : (t : Tested) → tested n s ≡ t → test_of t ≡ Ok tt → n ≡ true
     go (passed x) e h = passed-numbers s n x e
     go (failed r) e h = never (cc)
 
 -- a call with numbers that passes
-pub passes-call : (n : Bool) (s : List ℕ) → Bytes s → test_of (tested n s) ≡ Test.Passed → Passes s
+pub passes-call : (n : Bool) (s : List ℕ) → Bytes s → test_of (tested n s) ≡ Ok tt → Passes s
 passes-call n s b h =
     passes s b (ap (λ (n : Bool). test_of (tested n s)) (sym (passes-numbers n s h)) ∙ h)
 
-pub passes-index : (n : Bool) (s : List ℕ) → Bytes s → test_of (tested n s) ≡ Test.Passed
+pub passes-index : (n : Bool) (s : List ℕ) → Bytes s → test_of (tested n s) ≡ Ok tt
     → tested n s ≡ passed (decode s)
 passes-index n s b h =
     ap (λ (n : Bool). tested n s) (passes-numbers n s h) ∙ (passes-call n s b h).index
@@ -105,14 +97,14 @@ passes-sound {s} p = p.reads (meta_at s) refl
 
 -- ---- a call with a pair
 
-pub pair-fails : (s : List ℕ) (p : Pair) (t : Test) (r : Refusal) → t ≡ test_of (tested (pair_ok p) s) → t ≡ Test.Failed r
-    → PairTested s p (PairTest.Failed r)
+pub pair-fails : (s : List ℕ) (p : Pair) (t : Answer) (r : Refusal) → t ≡ test_of (tested (pair_ok p) s) → t ≡ Err r
+    → PairTested s p (Err r)
 pair-fails s p t r e h = fails (pair_ok p) s r (sym e ∙ h)
 
-pub pair-passes : (s : List ℕ) (p : Pair) (t : Test) → Bytes s → t ≡ test_of (tested (pair_ok p) s) → t ≡ Test.Passed
-    → PairTested s p (PairTest.Passed p)
+pub pair-passes : (s : List ℕ) (p : Pair) (t : Answer) → Bytes s → t ≡ test_of (tested (pair_ok p) s) → t ≡ Ok tt
+    → PairTested s p (Ok p)
 pair-passes s p t b e h =
-    let g : test_of (tested (pair_ok p) s) ≡ Test.Passed = sym e ∙ h in (
+    let g : test_of (tested (pair_ok p) s) ≡ (Ok tt) = sym e ∙ h in (
       refl,
       passes-sound (passes-call (pair_ok p) s b g),
       passes-numbers (pair_ok p) s g,

@@ -6,36 +6,26 @@ ghost use Rattle.index.specs.Tested.{PairTested};
 
 use crate::sound::insert_sound;
 use crate::tests::test_call;
-use crate::{PairTest, Test};
-use model::Answer;
+use model::{Answer, Refusal};
 use page::Pair;
 
 // Refusal 2 of a pair.
 pub fn check_pair(block: u32, offset: u32) -> bool
     ensures { (h : ℕ) → result ≡ pair_ok (record { hash = h; block = block; offset = offset }) }
 {
-    if offset == 0 {
-        return false;
-    }
-    if block == 4294967295 {
-        return false;
-    }
-    offset <= 65535
+    offset != 0 && block != 4294967295 && offset <= 65535
 }
 
 // The tests before a call with a pair.
-fn test_pair(store: &[u8], hash: u32, block: u32, offset: u32) -> PairTest
+fn test_pair(store: &[u8], hash: u32, block: u32, offset: u32) -> Result<Pair, Refusal>
     ensures { PairTested store.now (record { hash = hash; block = block; offset = offset }) result }
 {
-    let test = test_call(store, check_pair(block, offset));
-    match test {
-        Test::Failed(refusal) => PairTest::Failed(refusal),
-        Test::Passed => PairTest::Passed(Pair {
-            hash,
-            block,
-            offset: offset as u16,
-        }),
-    }
+    test_call(store, check_pair(block, offset))?;
+    Ok(Pair {
+        hash,
+        block,
+        offset: offset as u16,
+    })
 }
 
 // Puts a pair in.
@@ -45,9 +35,6 @@ pub fn insert(store: &mut [u8], hash: u32, block: u32, offset: u32) -> Answer
     ensures store_after { store.new
         ≡ (insert_outcome store.old (record { hash = hash; block = block; offset = offset })).store }
 {
-    let test = test_pair(store, hash, block, offset);
-    match test {
-        PairTest::Failed(refusal) => Answer::Refused(refusal),
-        PairTest::Passed(pair) => insert_sound(store, pair),
-    }
+    let pair = test_pair(store, hash, block, offset)?;
+    insert_sound(store, pair)
 }

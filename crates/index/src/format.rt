@@ -12,7 +12,6 @@ ghost use Rattle.outcomes.specs.Outcomes.{format_outcome};
 ghost use Rattle.chain.specs.Walk.{Sized};
 
 use crate::in_use::is_protected;
-use endian::raw::copy_over;
 use image::Meta;
 use meta::{check_fill, put_meta};
 use model::{Answer, Order, Refusal};
@@ -62,9 +61,8 @@ fn build_bucket(bucket: u32) -> [u8; 512]
 fn build_bitmap() -> [u8; 512]
     ensures { covered result ≡ paged (replicate 256 255 ++ replicate 236 0) no_link no_link no_link bitmap_flags }
 {
-    let ones = [255u8; 256];
     let mut body = [0u8; 512];
-    copy_over(&mut body[..256], &ones);
+    body[..256].copy_from_slice(&[255; 256]);
     put_trailer(&mut body, NO_LINK, NO_LINK, NO_LINK, BITMAP);
     body
 }
@@ -107,10 +105,8 @@ fn format_blocks(store: &mut [u8], order: Order)
         (λ k. sealed order.number k (format_block (blocks store.old) order k)) }
 {
     let size = (store.len() / 512) as u32;
-    let mut k = 0;
-    while k < size {
+    for k in 0..size {
         format_block(store, k, size, order);
-        k += 1;
     }
 }
 
@@ -118,10 +114,7 @@ fn format_blocks(store: &mut [u8], order: Order)
 pub fn check_format(order: Order) -> bool
     ensures { result ≡ format_ok order }
 {
-    if !check_fill(order.fill) {
-        return false;
-    }
-    order.overwrite <= 1
+    check_fill(order.fill) && order.overwrite <= 1
 }
 
 // Makes a store new: two empty buckets, the bitmap, and all other blocks unused. A store in use is left, unless the
@@ -131,14 +124,14 @@ pub fn format(store: &mut [u8], order: Order) -> Answer
     ensures store_after { store.new ≡ (format_outcome store.old order).store }
 {
     if !check_length(store) {
-        return Answer::Refused(Refusal::Length);
+        return Err(Refusal::Length);
     }
     if !check_format(order) {
-        return Answer::Refused(Refusal::Number);
+        return Err(Refusal::Number);
     }
     if is_protected(store, order) {
-        return Answer::Refused(Refusal::InUse);
+        return Err(Refusal::InUse);
     }
     format_blocks(store, order);
-    Answer::Done
+    Ok(())
 }

@@ -1,17 +1,15 @@
 // A change in two halves: its list of block stores worked out into a lent buffer, and its n-th block store done.
-ghost use Rattle.std.specs.Prelude.{◌≡◌, cond, [], ◌+◌, ◌≤◌, ◌<◌, length};
+ghost use Rattle.std.specs.Prelude.{◌≡◌, ◌+◌, ◌≤◌, ◌<◌, length};
 ghost use Rattle.journal.specs.Journal.{disk};
-ghost use Rattle.journal.specs.Planned.{plan_count, plan_store};
-ghost use Rattle.model.specs.declared.Refusal.{Refusal};
-ghost use Rattle.model.specs.declared.PlaceAnswer.{PlaceAnswer};
-ghost use Rattle.cuts.specs.Halves.{plan_insert, plan_remove, plan_work, plan_squeeze, store_ok, place_of, store_outcome};
+ghost use Rattle.journal.specs.Planned.{plan_count};
+ghost use Rattle.cuts.specs.Halves.{plan_insert, plan_remove, plan_work, plan_squeeze, store_outcome};
+ghost use Rattle.index.specs.Halves.{planned_place};
 
 use crate::laid::{lay_insert, lay_remove, lay_squeeze, lay_step};
 use crate::ready::{test_pair_ready, test_ready};
 use crate::squeezing::test_squeeze;
-use crate::{PairTest, Test};
 use journal::plan::{plan_count, plan_name, store_planned};
-use model::{PlaceAnswer, PlanAnswer, Refusal};
+use model::{LentError, Place, PlaceAnswer, PlanAnswer, Refusal};
 use verify::check_length;
 
 pub fn plan_insert(
@@ -27,16 +25,11 @@ pub fn plan_insert(
         ≡ record { answer = result; plan = plan.new } }
 {
     if plan.len() < 5632 {
-        return PlanAnswer::Short;
+        return Err(LentError::Short);
     }
-    let test = test_pair_ready(store, journal, hash, block, offset);
-    match test {
-        PairTest::Failed(refusal) => PlanAnswer::Refused(refusal),
-        PairTest::Passed(pair) => {
-            let mut images = [0u8; 4096];
-            lay_insert(store, pair, &mut images, plan)
-        }
-    }
+    let pair = test_pair_ready(store, journal, hash, block, offset)?;
+    let mut images = [0u8; 4096];
+    lay_insert(store, pair, &mut images, plan)
 }
 
 pub fn plan_remove(
@@ -52,16 +45,11 @@ pub fn plan_remove(
         ≡ record { answer = result; plan = plan.new } }
 {
     if plan.len() < 5632 {
-        return PlanAnswer::Short;
+        return Err(LentError::Short);
     }
-    let test = test_pair_ready(store, journal, hash, block, offset);
-    match test {
-        PairTest::Failed(refusal) => PlanAnswer::Refused(refusal),
-        PairTest::Passed(pair) => {
-            let mut images = [0u8; 4096];
-            lay_remove(store, pair, &mut images, plan)
-        }
-    }
+    let pair = test_pair_ready(store, journal, hash, block, offset)?;
+    let mut images = [0u8; 4096];
+    lay_remove(store, pair, &mut images, plan)
 }
 
 // One step of a split.
@@ -70,16 +58,11 @@ pub fn plan_work(store: &[u8], journal: &[u8], plan: &mut [u8]) -> PlanAnswer
         ≡ record { answer = result; plan = plan.new } }
 {
     if plan.len() < 5632 {
-        return PlanAnswer::Short;
+        return Err(LentError::Short);
     }
-    let test = test_ready(store, journal, true);
-    match test {
-        Test::Failed(refusal) => PlanAnswer::Refused(refusal),
-        Test::Passed => {
-            let mut images = [0u8; 4096];
-            lay_step(store, &mut images, plan)
-        }
-    }
+    test_ready(store, journal, true)?;
+    let mut images = [0u8; 4096];
+    lay_step(store, &mut images, plan)
 }
 
 // One step of a squeeze.
@@ -88,76 +71,48 @@ pub fn plan_squeeze(store: &[u8], journal: &[u8], bucket: u32, plan: &mut [u8]) 
         ≡ record { answer = result; plan = plan.new } }
 {
     if plan.len() < 5632 {
-        return PlanAnswer::Short;
+        return Err(LentError::Short);
     }
-    let test = test_squeeze(store, journal, bucket, true);
-    match test {
-        Test::Failed(refusal) => PlanAnswer::Refused(refusal),
-        Test::Passed => {
-            let mut images = [0u8; 4096];
-            lay_squeeze(store, bucket, &mut images, plan)
-        }
-    }
+    test_squeeze(store, journal, bucket, true)?;
+    let mut images = [0u8; 4096];
+    lay_squeeze(store, bucket, &mut images, plan)
 }
 
 // Where the `n`-th block store of a plan writes; refusal 2 where the plan has none, or it is outside of the store.
-fn store_place(store: &[u8], plan: &[u8], n: u32) -> PlaceAnswer
+fn store_place(store: &[u8], plan: &[u8], n: u32) -> Result<Place, Refusal>
     requires { 5632 ≤ length plan.now }
-    ensures { result ≡ cond (store_ok (disk store.now []) plan.now n)
-        (place_of (plan_store plan.now n)) (PlaceAnswer.Refused Refusal.Number) }
+    ensures { result ≡ planned_place store.now plan.now n }
 {
     let count = plan_count(plan);
-    if count == 0 {
-        return PlaceAnswer::Refused(Refusal::Number);
-    }
-    if count > 8 {
-        return PlaceAnswer::Refused(Refusal::Number);
-    }
-    if n >= 2 * count + 3 {
-        return PlaceAnswer::Refused(Refusal::Number);
+    if count == 0 || count > 8 || n >= 2 * count + 3 {
+        return Err(Refusal::Number);
     }
     if n < count {
-        return PlaceAnswer::At {
-            journal: true,
-            block: n + 1,
-        };
+        return Ok(Place::Journal(n + 1));
     }
     past_place(store, plan, count, n - count)
 }
 
 // The same past the images: block store `count + past`.
-fn past_place(store: &[u8], plan: &[u8], count: u32, past: u32) -> PlaceAnswer
+fn past_place(store: &[u8], plan: &[u8], count: u32, past: u32) -> Result<Place, Refusal>
     requires { (5632 ≤ length plan.now) × (count ≡ plan_count plan.now) × (1 ≤ count) × (count ≤ 8)
         × (past < count + 3) }
-    ensures { result ≡ cond (store_ok (disk store.now []) plan.now (count + past))
-        (place_of (plan_store plan.now (count + past))) (PlaceAnswer.Refused Refusal.Number) }
+    ensures { result ≡ planned_place store.now plan.now (count + past) }
 {
     if past == 0 {
-        return PlaceAnswer::At {
-            journal: true,
-            block: 0,
-        };
+        return Ok(Place::Journal(0));
     }
     if past == 1 {
-        return PlaceAnswer::At {
-            journal: true,
-            block: 15,
-        };
+        return Ok(Place::Journal(15));
     }
     if past - 2 == count {
-        return PlaceAnswer::At {
-            journal: true,
-            block: 0,
-        };
+        return Ok(Place::Journal(0));
     }
     let name = plan_name(plan, (past - 2) as usize);
     if name as usize >= store.len() / 512 {
-        return PlaceAnswer::Refused(Refusal::Number);
+        return Err(Refusal::Number);
     }
-    PlaceAnswer::At {
-        journal: false,
-        block: name,
-    }
+    Ok(Place::Store(name))
 }
 
 // Does the `n`-th block store of a plan, and nothing else.
@@ -166,27 +121,15 @@ pub fn do_store(store: &mut [u8], journal: &mut [u8], plan: &[u8], n: u32) -> Pl
         ≡ record { answer = result; disk = disk store.new journal.new } }
 {
     if plan.len() < 5632 {
-        return PlaceAnswer::Short;
+        return Err(LentError::Short);
     }
     if !check_length(store) {
-        return PlaceAnswer::Refused(Refusal::Length);
+        return Err(LentError::Refused(Refusal::Length));
     }
     let Some(journal) = journal.as_mut_array() else {
-        return PlaceAnswer::Refused(Refusal::JournalLength);
+        return Err(LentError::Refused(Refusal::JournalLength));
     };
-    let place = store_place(store, plan, n);
-    match place {
-        PlaceAnswer::Short => PlaceAnswer::Short,
-        PlaceAnswer::Refused(refusal) => PlaceAnswer::Refused(refusal),
-        PlaceAnswer::At {
-            journal: aside,
-            block,
-        } => {
-            store_planned(store, journal, plan, n as usize);
-            PlaceAnswer::At {
-                journal: aside,
-                block,
-            }
-        }
-    }
+    let place = store_place(store, plan, n)?;
+    store_planned(store, journal, plan, n as usize);
+    Ok(place)
 }

@@ -3,7 +3,6 @@ ghost use Rattle.std.specs.Prelude.{◌≡◌, not, ◌&&◌};
 ghost use Rattle.model.specs.Calls.{overwrites};
 ghost use Rattle.outcomes.specs.Outcomes.{store_in_use, in_use_outcome};
 
-use crate::Test;
 use crate::tests::test_store;
 use meta::read_meta;
 use model::{Answer, Order, Refusal};
@@ -14,14 +13,7 @@ use verify::check_length;
 fn store_in_use(store: &[u8]) -> bool
     ensures { result ≡ store_in_use store.now }
 {
-    let test = test_store(store);
-    match test {
-        Test::Failed(_) => false,
-        Test::Passed => {
-            let m = read_meta(block_at(store, 0));
-            m.count != 0
-        }
-    }
+    test_store(store).is_ok() && read_meta(block_at(store, 0)).count != 0
 }
 
 // Whether a format with this order is to leave a store alone: it is in use, and the order does not overwrite.
@@ -39,10 +31,10 @@ pub fn in_use(store: &[u8]) -> Answer
     ensures { result ≡ in_use_outcome store.now }
 {
     if !check_length(store) {
-        return Answer::Refused(Refusal::Length);
+        return Err(Refusal::Length);
     }
     if store_in_use(store) {
-        return Answer::Refused(Refusal::InUse);
+        return Err(Refusal::InUse);
     }
-    Answer::Done
+    Ok(())
 }

@@ -3,7 +3,6 @@ ghost use Rattle.std.specs.Prelude.{◌≡◌};
 ghost use Rattle.journal.specs.Journal.{disk};
 ghost use Rattle.cuts.specs.Journalled.{insert_journalled, remove_journalled};
 
-use crate::PairTest;
 use crate::ready::test_pair_ready;
 use crate::sound::{insert_written, remove_written};
 use model::Answer;
@@ -14,11 +13,8 @@ pub fn insert(store: &mut [u8], journal: &mut [u8], hash: u32, block: u32, offse
         (record { hash = hash; block = block; offset = offset })
         ≡ record { answer = result; disk = disk store.new journal.new } }
 {
-    let test = test_pair_ready(store, journal, hash, block, offset);
-    match test {
-        PairTest::Failed(refusal) => Answer::Refused(refusal),
-        PairTest::Passed(pair) => insert_written(store, journal, pair),
-    }
+    let pair = test_pair_ready(store, journal, hash, block, offset)?;
+    insert_written(store, journal, pair)
 }
 
 // Takes a pair out.
@@ -27,9 +23,6 @@ pub fn remove(store: &mut [u8], journal: &mut [u8], hash: u32, block: u32, offse
         (record { hash = hash; block = block; offset = offset })
         ≡ record { answer = result; disk = disk store.new journal.new } }
 {
-    let test = test_pair_ready(store, journal, hash, block, offset);
-    match test {
-        PairTest::Failed(refusal) => Answer::Refused(refusal),
-        PairTest::Passed(pair) => remove_written(store, journal, pair),
-    }
+    let pair = test_pair_ready(store, journal, hash, block, offset)?;
+    remove_written(store, journal, pair)
 }

@@ -12,7 +12,7 @@ ghost use Rattle.index.specs.Sound.{Sound};
 use crate::sound::read_fields;
 use crate::written::lay_change;
 use insertion::insert::plan_insert;
-use model::{Answer, PlanAnswer};
+use model::{LentError, Listing, PlanAnswer};
 use page::Pair;
 use plan::Advance;
 use removal::plan_remove;
@@ -31,8 +31,8 @@ pub fn lay_insert(store: &[u8], pair: Pair, images: &mut [u8], buffer: &mut [u8]
     let stores = lay_change(store, images, plan.change, buffer);
     let answer = plan.answer;
     match answer {
-        Answer::Refused(refusal) => PlanAnswer::Refused(refusal),
-        Answer::Done => PlanAnswer::Planned { stores },
+        Err(refusal) => Err(LentError::Refused(refusal)),
+        Ok(()) => Ok(Listing::Stores(stores)),
     }
 }
 
@@ -48,8 +48,8 @@ pub fn lay_remove(store: &[u8], pair: Pair, images: &mut [u8], buffer: &mut [u8]
     let stores = lay_change(store, images, plan.change, buffer);
     let answer = plan.answer;
     match answer {
-        Answer::Refused(refusal) => PlanAnswer::Refused(refusal),
-        Answer::Done => PlanAnswer::Planned { stores },
+        Err(refusal) => Err(LentError::Refused(refusal)),
+        Ok(()) => Ok(Listing::Stores(stores)),
     }
 }
 
@@ -66,8 +66,8 @@ pub fn lay_step(store: &[u8], images: &mut [u8], buffer: &mut [u8]) -> PlanAnswe
     let stores = lay_change(store, images, step.change, buffer);
     let advance = step.advance;
     match advance {
-        Advance::Stopped(stop) => PlanAnswer::Stopped(stop),
-        Advance::Next => PlanAnswer::Planned { stores },
+        Advance::Stopped(stop) => Ok(Listing::Stopped(stop)),
+        Advance::Next => Ok(Listing::Stores(stores)),
     }
 }
 
@@ -84,7 +84,7 @@ pub fn lay_squeeze(store: &[u8], bucket: u32, images: &mut [u8], buffer: &mut [u
     let stores = lay_change(store, images, step.change, buffer);
     let advance = step.advance;
     match advance {
-        Advance::Stopped(stop) => PlanAnswer::Stopped(stop),
-        Advance::Next => PlanAnswer::Planned { stores },
+        Advance::Stopped(stop) => Ok(Listing::Stopped(stop)),
+        Advance::Next => Ok(Listing::Stores(stores)),
     }
 }

@@ -16,20 +16,3 @@ pub mod squeezing; // squeezing.rt: the steps that pack a bucket's chain
 pub mod recovery; // recovery.rt: recover, wipe, look
 mod laid; // laid.rt: changes laid into a buffer
 pub mod halves; // halves.rt: a change in two halves
-
-use model::Refusal;
-use page::Pair;
-
-// What the tests before a call find: a sound store, or the refusal.
-#[derive(Clone, Copy)]
-pub enum Test {
-    Passed,
-    Failed(Refusal),
-}
-
-// What those before a call with a pair find: the pair, for a sound store, or the refusal.
-#[derive(Clone, Copy)]
-enum PairTest {
-    Passed(Pair),
-    Failed(Refusal),
-}

@@ -2,7 +2,6 @@
 ghost use Rattle.std.specs.Prelude.{◌≡◌};
 ghost use Rattle.outcomes.specs.Outcomes.{lookup_outcome, standing_outcome};
 
-use crate::Test;
 use crate::tests::test_store;
 use meta::read_meta;
 use model::{LookupAnswer, StandingAnswer};
@@ -15,26 +14,16 @@ pub fn lookup(store: &[u8], hash: u32, output: &mut [u8]) -> LookupAnswer
     ensures { lookup_outcome store.now hash output.old
         ≡ record { answer = result; output = output.new } }
 {
-    let test = test_store(store);
-    match test {
-        Test::Failed(refusal) => LookupAnswer::Refused(refusal),
-        Test::Passed => {
-            let m = read_meta(block_at(store, 0));
-            lookup_in(store, m, hash, output)
-        }
-    }
+    test_store(store)?;
+    let m = read_meta(block_at(store, 0));
+    lookup_in(store, m, hash, output)
 }
 
 // Count, buckets, the job's phase with its two bucket numbers, and the slack.
 pub fn standing(store: &[u8]) -> StandingAnswer
     ensures { result ≡ standing_outcome store.now }
 {
-    let test = test_store(store);
-    match test {
-        Test::Failed(refusal) => StandingAnswer::Refused(refusal),
-        Test::Passed => {
-            let m = read_meta(block_at(store, 0));
-            StandingAnswer::Stands(standing_of(store, m))
-        }
-    }
+    test_store(store)?;
+    let m = read_meta(block_at(store, 0));
+    Ok(standing_of(store, m))
 }

@@ -7,43 +7,45 @@ ghost use Rattle.index.specs.Ready.{PairReady};
 
 use crate::change::check_pair;
 use crate::tests::test_store;
-use crate::{PairTest, Test};
 use journal::holds::head_wiped;
 use model::Refusal;
 use page::Pair;
 use verify::check_length;
 
 // Of a call whose numbers are good or not.
-pub fn test_ready(store: &[u8], journal: &[u8], numbers: bool) -> Test
+pub fn test_ready(store: &[u8], journal: &[u8], numbers: bool) -> Result<(), Refusal>
     ensures { result ≡ test_of (tested_with numbers (disk store.now journal.now)) }
 {
     if !check_length(store) {
-        return Test::Failed(Refusal::Length);
+        return Err(Refusal::Length);
     }
     let Some(journal) = journal.as_array() else {
-        return Test::Failed(Refusal::JournalLength);
+        return Err(Refusal::JournalLength);
     };
     if !numbers {
-        return Test::Failed(Refusal::Number);
+        return Err(Refusal::Number);
     }
     if !head_wiped(journal) {
-        return Test::Failed(Refusal::Pending);
+        return Err(Refusal::Pending);
     }
     test_store(store)
 }
 
 // Of a call with a pair.
-pub fn test_pair_ready(store: &[u8], journal: &[u8], hash: u32, block: u32, offset: u32) -> PairTest
+pub fn test_pair_ready(
+    store: &[u8],
+    journal: &[u8],
+    hash: u32,
+    block: u32,
+    offset: u32,
+) -> Result<Pair, Refusal>
     ensures { PairReady (disk store.now journal.now)
         (record { hash = hash; block = block; offset = offset }) result }
 {
-    let test = test_ready(store, journal, check_pair(block, offset));
-    match test {
-        Test::Failed(refusal) => PairTest::Failed(refusal),
-        Test::Passed => PairTest::Passed(Pair {
-            hash,
-            block,
-            offset: offset as u16,
-        }),
-    }
+    test_ready(store, journal, check_pair(block, offset))?;
+    Ok(Pair {
+        hash,
+        block,
+        offset: offset as u16,
+    })
 }

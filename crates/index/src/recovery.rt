@@ -5,7 +5,7 @@ ghost use Rattle.cuts.specs.Journalled.{recover_outcome, wipe_outcome, wiped_out
 
 use journal::holds::head_wiped;
 use journal::recovery::{image_for, look_part, recover_store, wipe_head};
-use model::{Answer, PlaceAnswer, Refusal};
+use model::{Answer, LentError, Place, PlaceAnswer, Refusal};
 use verify::check_length;
 
 // Finishes the change that the journal holds, if it holds one, and wipes the head.
@@ -14,13 +14,13 @@ pub fn recover(store: &mut [u8], journal: &mut [u8]) -> Answer
         ≡ record { answer = result; disk = disk store.new journal.new } }
 {
     if !check_length(store) {
-        return Answer::Refused(Refusal::Length);
+        return Err(Refusal::Length);
     }
     let Some(journal) = journal.as_mut_array() else {
-        return Answer::Refused(Refusal::JournalLength);
+        return Err(Refusal::JournalLength);
     };
     recover_store(store, journal);
-    Answer::Done
+    Ok(())
 }
 
 // Wipes a journal's head, whatever it is.
@@ -28,10 +28,10 @@ pub fn wipe(journal: &mut [u8]) -> Answer
     ensures { wipe_outcome journal.old ≡ record { answer = result; journal = journal.new } }
 {
     let Some(journal) = journal.as_mut_array() else {
-        return Answer::Refused(Refusal::JournalLength);
+        return Err(Refusal::JournalLength);
     };
     wipe_head(journal);
-    Answer::Done
+    Ok(())
 }
 
 // Whether a journal's head is wiped: done if it is, refusal 13, or refusal 14.
@@ -39,12 +39,12 @@ pub fn wiped(journal: &[u8]) -> Answer
     ensures { result ≡ wiped_outcome journal.now }
 {
     let Some(journal) = journal.as_array() else {
-        return Answer::Refused(Refusal::JournalLength);
+        return Err(Refusal::JournalLength);
     };
     if !head_wiped(journal) {
-        return Answer::Refused(Refusal::Pending);
+        return Err(Refusal::Pending);
     }
-    Answer::Done
+    Ok(())
 }
 
 // Where block `k` lies as it will stand after recovery.
@@ -52,24 +52,18 @@ pub fn look_at(store: &[u8], journal: &[u8], k: u32) -> PlaceAnswer
     ensures { result ≡ look_outcome (disk store.now journal.now) k }
 {
     if !check_length(store) {
-        return PlaceAnswer::Refused(Refusal::Length);
+        return Err(LentError::Refused(Refusal::Length));
     }
     let Some(journal) = journal.as_array() else {
-        return PlaceAnswer::Refused(Refusal::JournalLength);
+        return Err(LentError::Refused(Refusal::JournalLength));
     };
     if k as usize >= store.len() / 512 {
-        return PlaceAnswer::Refused(Refusal::Number);
+        return Err(LentError::Refused(Refusal::Number));
     }
-    match image_for(store, journal, k as usize) {
-        Some(i) => PlaceAnswer::At {
-            journal: true,
-            block: i as u32 + 1,
-        },
-        None => PlaceAnswer::At {
-            journal: false,
-            block: k,
-        },
-    }
+    Ok(match image_for(store, journal, k as usize) {
+        Some(i) => Place::Journal(i as u32 + 1),
+        None => Place::Store(k),
+    })
 }
 
 // The block itself, a part of the journal or of the store; an empty part where `look_at` refuses.

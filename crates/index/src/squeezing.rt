@@ -10,7 +10,6 @@ ghost use Rattle.cuts.specs.Journalled.{tested_with, step_journalled, worked_by,
 ghost use Rattle.index.specs.Tested.{test_of};
 ghost use Rattle.index.specs.Sound.{Sound};
 
-use crate::Test;
 use crate::ready::test_ready;
 use crate::sound::read_fields;
 use crate::steps::{Squeezing, run_steps};
@@ -18,31 +17,28 @@ use model::{Refusal, WorkAnswer};
 use squeeze::{is_busy, span_of};
 
 // The tests of the bucket, which come after those of the store.
-fn test_bucket(store: &[u8], bucket: u32) -> Test
+fn test_bucket(store: &[u8], bucket: u32) -> Result<(), Refusal>
     requires { Sound store.now }
     ensures { result ≡ test_of (unless_refused (bucket_test (decode store.now) bucket)
         (decode store.now)) }
 {
     let m = read_fields(store);
     if bucket > m.max {
-        return Test::Failed(Refusal::Number);
+        return Err(Refusal::Number);
     }
     if is_busy(store, m, bucket) {
-        return Test::Failed(Refusal::Busy);
+        return Err(Refusal::Busy);
     }
-    Test::Passed
+    Ok(())
 }
 
 // All tests, in their order: the lengths, the numbers, the head, the store, the bucket.
-pub fn test_squeeze(store: &[u8], journal: &[u8], bucket: u32, numbers: bool) -> Test
+pub fn test_squeeze(store: &[u8], journal: &[u8], bucket: u32, numbers: bool) -> Result<(), Refusal>
     ensures { result ≡ test_of (bucket_tested
         (tested_with numbers (disk store.now journal.now)) bucket) }
 {
-    let test = test_ready(store, journal, numbers);
-    match test {
-        Test::Failed(refusal) => Test::Failed(refusal),
-        Test::Passed => test_bucket(store, bucket),
-    }
+    test_ready(store, journal, numbers)?;
+    test_bucket(store, bucket)
 }
 
 // Steps on a sound store, the first of which looks at the whole chain.
@@ -62,9 +58,6 @@ pub fn squeeze(store: &mut [u8], journal: &mut [u8], bucket: u32, budget: u32) -
     ensures { squeeze_journalled (disk store.old journal.old) bucket budget
         ≡ record { answer = result; disk = disk store.new journal.new } }
 {
-    let test = test_squeeze(store, journal, bucket, budget <= 65535);
-    match test {
-        Test::Failed(refusal) => WorkAnswer::Refused(refusal),
-        Test::Passed => squeeze_sound(store, journal, bucket, budget),
-    }
+    test_squeeze(store, journal, bucket, budget <= 65535)?;
+    squeeze_sound(store, journal, bucket, budget)
 }

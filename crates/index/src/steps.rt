@@ -17,7 +17,7 @@ ghost use Rattle.index.specs.Sound.{Sound, Stepped};
 use crate::sound::read_fields;
 use crate::written::write_change;
 use image::Meta;
-use model::{Stop, WorkAnswer};
+use model::{Stop, Work, WorkAnswer};
 use plan::{Advance, StepPlan};
 use split::Position;
 use split::step::plan_step;
@@ -139,11 +139,11 @@ pub fn run_steps<P: Planner>(
     for steps in 0..budget {
         match write_step(planner, store, journal, &mut images, from) {
             Ok(next) => from = next,
-            Err(stop) => return WorkAnswer::Worked { steps, stop },
+            Err(stop) => return Ok(Work { steps, stop }),
         }
     }
-    WorkAnswer::Worked {
+    Ok(Work {
         steps: budget,
         stop: Stop::Spent,
-    }
+    })
 }

@@ -1,36 +1,41 @@
 // The tests before a call, in the order of the refusals: length, the call's numbers, the verdict.
 ghost use Rattle.std.specs.Prelude.{◌≡◌, true};
 ghost use Rattle.outcomes.specs.Outcomes.{tested};
-ghost use Rattle.index.specs.Tested.{test_of};
+ghost use Rattle.index.specs.Tested.{test_of, test_from};
 
-use crate::Test;
 use image::Verdict;
 use model::Refusal;
 use verify::{check_length, verify};
 
-// Whether the store has a legal length and is sound.
-pub fn test_store(store: &[u8]) -> Test
-    ensures { result ≡ test_of (tested true store.now) }
+// A verdict as what a call answers that tests the store and does nothing.
+pub fn test_verdict(verdict: Verdict) -> Result<(), Refusal>
+    ensures { result ≡ test_from verdict }
 {
-    let verdict = verify(store);
     match verdict {
-        Verdict::BadLength => Test::Failed(Refusal::Length),
-        Verdict::Damaged { block } => Test::Failed(Refusal::Damaged { block }),
-        Verdict::NotIndex { rule } => Test::Failed(Refusal::NotIndex { rule }),
-        Verdict::Sound => Test::Passed,
+        Verdict::BadLength => Err(Refusal::Length),
+        Verdict::Damaged { block } => Err(Refusal::Damaged { block }),
+        Verdict::NotIndex { rule } => Err(Refusal::NotIndex { rule }),
+        Verdict::Sound => Ok(()),
     }
 }
 
+// Whether the store has a legal length and is sound.
+pub fn test_store(store: &[u8]) -> Result<(), Refusal>
+    ensures { result ≡ test_of (tested true store.now) }
+{
+    test_verdict(verify(store))
+}
+
 // The same for a call whose numbers are good or not.
-pub fn test_call(store: &[u8], numbers: bool) -> Test
+pub fn test_call(store: &[u8], numbers: bool) -> Result<(), Refusal>
     ensures { result ≡ test_of (tested numbers store.now) }
 {
     if numbers {
         return test_store(store);
     }
     if check_length(store) {
-        Test::Failed(Refusal::Number)
+        Err(Refusal::Number)
     } else {
-        Test::Failed(Refusal::Length)
+        Err(Refusal::Length)
     }
 }

@@ -3,7 +3,6 @@ ghost use Rattle.std.specs.Prelude.{◌≡◌};
 ghost use Rattle.journal.specs.Journal.{disk};
 ghost use Rattle.cuts.specs.Journalled.{work_journalled};
 
-use crate::Test;
 use crate::ready::test_ready;
 use crate::steps::{Splits, run_steps};
 use model::WorkAnswer;
@@ -14,9 +13,6 @@ pub fn work(store: &mut [u8], journal: &mut [u8], budget: u32) -> WorkAnswer
     ensures { work_journalled (disk store.old journal.old) budget
         ≡ record { answer = result; disk = disk store.new journal.new } }
 {
-    let test = test_ready(store, journal, budget <= 65535);
-    match test {
-        Test::Failed(refusal) => WorkAnswer::Refused(refusal),
-        Test::Passed => run_steps(&Splits {}, store, journal, budget, start()),
-    }
+    test_ready(store, journal, budget <= 65535)?;
+    run_steps(&Splits {}, store, journal, budget, start())
 }

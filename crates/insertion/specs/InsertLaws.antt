@@ -1,5 +1,5 @@
 -- The insert of a pair: what the put is told of the index, and what the call comes to.
-use Rattle.std.specs.Prelude.{◌≡◌, refl, Bool, true, false, List, ℕ, ◌+◌, ◌^◌, ◌≤◌, ◌<◌}
+use Rattle.std.specs.Prelude.{◌≡◌, refl, Bool, true, false, List, ℕ, ◌+◌, ◌^◌, ◌≤◌, ◌<◌, Ok, Err}
 use Rattle.std.proofs.Common.{sym, ◌∙◌, arith}
 use Rattle.std.proofs.Math.Path.{ap}
 use Rattle.std.proofs.Math.Option.{Option, some}
@@ -11,7 +11,7 @@ use Rattle.page.specs.declared.Pair.{Pair}
 use Rattle.page.specs.Pair.{is}
 use Rattle.store.specs.declared.Change.{Change}
 use Rattle.model.specs.declared.Refusal.{Refusal}
-use Rattle.model.specs.declared.Answer.{Answer}
+use Rattle.model.specs.Answers.{Answer}
 use Rattle.model.specs.Index.{Index, entries_at, bucket, new_bucket, old_bucket}
 use Rattle.model.specs.Pages.{put}
 use Rattle.model.specs.Held.{held, count}
@@ -33,7 +33,7 @@ use Rattle.plan.specs.Plan.{Settles, accepted, declined, Places, placed, full}
 
 -- a refused call
 pub settles-refused : {s : List ℕ} {c : Change} {images : List ℕ} {o : Result} {a : Answer} (r : Refusal)
-    → o ≡ refused r → a ≡ Answer.Refused r → c.count ≡ 0 → Settles s c images o a
+    → o ≡ refused r → a ≡ Err r → c.count ≡ 0 → Settles s c images o a
 settles-refused {s} {c} {images} r p q z = rw (p, q) (declined z)
 
 -- the count has room for one more
@@ -82,11 +82,11 @@ module _ {s : List ℕ} {m : Meta} (r : Reads s m) (p : Pair) (ok : pair_ok p �
   -- what the call comes to, by what the put does
   module _ {c : Change} {images : List ℕ} {room : Bool}
       (at : Places s c images (put (decode s) b (unmoved_entry p)) room) where
-    pub settles-done : room ≡ true → Settles s c images (insert (decode s) p) Answer.Done
+    pub settles-done : room ≡ true → Settles s c images (insert (decode s) p) (Ok tt)
     settles-done h = rw put_is (go at h)
       where
         go : {o : Option Index} {t : Bool} → Places s c images o t → t ≡ true
-            → Settles s c images (or_no_room o) Answer.Done
+            → Settles s c images (or_no_room o) (Ok tt)
         go (placed q) h = accepted q
         go (full z) h = let z : ◌≡◌ {A = ℕ} 0 1 = cc in absurd (omega arith)
 

@@ -28,7 +28,7 @@ pub fn plan_insert(store: &[u8], m: Meta, pair: Pair, images: &mut [u8]) -> Plan
     if put.room {
         let change = put.change;
         return Plan {
-            answer: Answer::Done,
+            answer: Ok(()),
             change,
         };
     }

@@ -6,8 +6,7 @@ use Rattle.lists.specs.Bytes.{Bytes}
 use Rattle.lists.specs.Block.{block, set_block}
 use Rattle.lists.specs.BlockLaws.{length-set_block, block_same}
 use Rattle.page.specs.declared.Pair.{Pair}
-use Rattle.model.specs.declared.Answer.{Answer}
-use Rattle.model.specs.declared.WorkAnswer.{WorkAnswer}
+use Rattle.model.specs.Answers.{Answer, WorkAnswer}
 use Rattle.model.specs.Machine.{inserting, removing, working, CallFits, plain, worked}
 use Rattle.outcomes.specs.Outcomes.{insert_outcome, remove_outcome, work_outcome, run_store}
 use Rattle.journal.specs.Journal.{disk, wiped}

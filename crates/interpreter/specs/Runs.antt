@@ -1,10 +1,10 @@
 -- What private functions need and leave: a line's turn, made in a lent store and output. A reader of feed's
 -- contract need not read it.
-use Rattle.std.specs.Prelude.{◌≡◌, ℕ, ◌*◌, ◌≤◌, List, length}
+use Rattle.std.specs.Prelude.{◌≡◌, ℕ, ◌*◌, ◌≤◌, List, length, Ok, Err}
 use Rattle.text.specs.Text.{line_output}
 use Rattle.text.specs.Wrote.{Wrote}
 use Rattle.interpreter.specs.Script.{Turn}
-use Rattle.model.specs.declared.LookupAnswer.{LookupAnswer}
+use Rattle.model.specs.Answers.{LookupAnswer}
 use Rattle.interpreter.specs.Feed.{store_bytes, over}
 use Rattle.interpreter.specs.Script.{script_blocks}
 
@@ -26,5 +26,5 @@ pub record Room (blocks : ℕ) (s out : List ℕ) : Type 0 where
 
 -- the matches that a lookup found stand in its output
 abbrev pub Roomy : LookupAnswer → List ℕ → Type 0
-Roomy (LookupAnswer.Found matches) places = (matches ≤ 5000) × (6 * matches ≤ length places)
-Roomy (LookupAnswer.Refused r) places = Unit {0}
+Roomy (Ok matches) places = (matches ≤ 5000) × (6 * matches ≤ length places)
+Roomy (Err r) places = Unit {0}

@@ -1,5 +1,6 @@
 -- A line's turn, made in a lent store and output.
 use Rattle.std.specs.Prelude.{◌≡◌, ℕ, ◌*◌, ◌/◌, ◌%◌, ◌<◌, ◌≤◌, Bool, true, false, not, ◌&&◌, List, ◌++◌, length, take, drop, replicate, ◌==◌, nat_le}
+use Rattle.std.specs.Prelude.{Ok, Err}
 use Rattle.std.proofs.Math.Path.{refl, ap}
 use Rattle.std.proofs.Common.{sym, ◌∙◌, subst, arith, leb-true, le-leb, length-append, length-drop, take-append-drop, length-take-le}
 use Rattle.std.proofs.lemmas.Bool.{lt-leb}
@@ -8,9 +9,7 @@ use Rattle.lists.specs.Block.{blocks}
 use Rattle.text.specs.Text.{store_text, refused_text}
 use Rattle.model.specs.declared.Order.{Order}
 use Rattle.model.specs.declared.Refusal.{Refusal}
-use Rattle.model.specs.declared.Answer.{Answer}
-use Rattle.model.specs.declared.LookupAnswer.{LookupAnswer}
-use Rattle.model.specs.Answers.{refusal_no}
+use Rattle.model.specs.Answers.{Answer, LookupAnswer, refusal_no}
 use Rattle.model.specs.Index.{Index}
 use Rattle.model.specs.Held.{matches}
 use Rattle.model.specs.Calls.{Result, done, refused, size_ok, order_of, format_ok, overwrites, format, format_in, listed}
@@ -132,28 +131,28 @@ module _ (old new : List ℕ) (line n : ℕ) (o : Order) where
         turn-alike (replicate (512 * n) 0) (size ∙ sym (length-replicate (512 * n) 0))
         ∙ sym ((line-is-format line n o old).0 few)
 
-    pub format-done : d.answer ≡ Answer.Done
+    pub format-done : d.answer ≡ Ok tt
         → record { text = store_text n o.fill; store = d.store } ≡ format_line (nat_le n script_blocks) n o line old
     format-done e = sym (ap (λ (a : Answer). format_turn line n o.fill a old d.store) e) ∙ same
 
-    pub format-refused : (r : Refusal) → d.answer ≡ Answer.Refused r
+    pub format-refused : (r : Refusal) → d.answer ≡ Err r
         → record { text = refused_text line (refusal_no r); store = old } ≡ format_line (nat_le n script_blocks) n o line old
     format-refused r e = sym (ap (λ (a : Answer). format_turn line n o.fill a old d.store) e) ∙ same
 
   -- a refused one changes nothing
-  pub format-kept : (r : Refusal) → d.answer ≡ Answer.Refused r → d.store ≡ new
+  pub format-kept : (r : Refusal) → d.answer ≡ Err r → d.store ≡ new
   unfolding format_replacing
   format-kept r e =
       go (format_in (length_ok new) (format_ok o) (not (overwrites o) && store_in_use old) (format (blocks new) o)) e
     where
-      go : (q : Result) → (changed new q).answer ≡ Answer.Refused r → (changed new q).store ≡ new
+      go : (q : Result) → (changed new q).answer ≡ Err r → (changed new q).store ≡ new
       go (done y) e = never (cc)
       go (refused q) e = refl
 
 -- in the first k bytes of a lent store
 pub refused-part : (old s : List ℕ) (k : ℕ) (o : Order) (r : Refusal)
     → format_replacing old (take k s) o ≡ refusing (take k s) r
-    → (Answer.Refused r ≡ (format_replacing old (take k s) o).answer)
+    → (Err r ≡ (format_replacing old (take k s) o).answer)
     × (s ≡ (format_replacing old (take k s) o).store ++ drop k s)
 refused-part old s k o r e = (
   sym (ap (λ (c : Changed). c.answer) e),
@@ -173,7 +172,7 @@ format-overwriting old new o l f p =
 
 -- of a line f with legal numbers that is not told to overwrite
 pub line-in-use : (line n : ℕ) (o : Order) (old : List ℕ) → size_ok n ≡ true → n ≤ script_blocks → format_ok o ≡ true
-    → overwrites o ≡ false → in_use_outcome old ≡ Answer.Refused Refusal.InUse
+    → overwrites o ≡ false → in_use_outcome old ≡ Err Refusal.InUse
     → format_line (nat_le n script_blocks) n o line old ≡ record { text = refused_text line 12; store = old }
 line-in-use line n o old size few f w u =
     let new : List ℕ = replicate (512 * n) 0 in

@@ -1,30 +1,28 @@
 -- docs/RULES.md 8, "The script": from the bytes of a script to the bytes that it writes.
 use Rattle.std.specs.Prelude.{ℕ, ◌+◌, ◌*◌, Bool, true, false, Option, Some, None, List, [], ◌∷◌, ◌++◌, replicate, nat_le}
+use Rattle.std.specs.Prelude.{Ok, Err}
 use Rattle.line.specs.declared.Command.{Command}
 use Rattle.line.specs.Words.{parts}
 use Rattle.line.specs.Command.{read_line}
 use Rattle.text.specs.Text.{store_text, ok_text, refused_text, steps_text, found_text}
 use Rattle.model.specs.declared.Order.{Order}
-use Rattle.model.specs.declared.Answer.{Answer}
-use Rattle.model.specs.declared.LookupAnswer.{LookupAnswer}
-use Rattle.model.specs.declared.WorkAnswer.{WorkAnswer}
-use Rattle.model.specs.Answers.{refusal_no, stop_no}
+use Rattle.model.specs.Answers.{Answer, LookupAnswer, WorkAnswer, refusal_no, stop_no}
 use Rattle.model.specs.Calls.{order_of}
 use Rattle.outcomes.specs.Outcomes.{format_replacing, insert_outcome, remove_outcome, lookup_outcome, work_outcome}
 
 -- ---- answers as text. "Each refusal is shown as in line 4 below"
 
 abbrev pub answer_text : (line : ℕ) → Answer → List ℕ
-answer_text line Answer.Done = ok_text
-answer_text line (Answer.Refused r) = refused_text line (refusal_no r)
+answer_text line (Ok done) = ok_text
+answer_text line (Err r) = refused_text line (refusal_no r)
 
 abbrev pub lookup_text : (line : ℕ) → LookupAnswer → (output : List ℕ) → List ℕ
-lookup_text line (LookupAnswer.Found matches) out = found_text matches out
-lookup_text line (LookupAnswer.Refused r) out = refused_text line (refusal_no r)
+lookup_text line (Ok matches) out = found_text matches out
+lookup_text line (Err r) out = refused_text line (refusal_no r)
 
 abbrev pub work_text : (line : ℕ) → WorkAnswer → List ℕ
-work_text line (WorkAnswer.Worked steps stop) = steps_text steps (stop_no stop)
-work_text line (WorkAnswer.Refused r) = refused_text line (refusal_no r)
+work_text line (Ok w) = steps_text w.steps (stop_no w.stop)
+work_text line (Err r) = refused_text line (refusal_no r)
 
 -- ---- a line
 
@@ -35,8 +33,8 @@ pub record Turn : Type 0 where
 
 -- an accepted f makes a new store; a refused one leaves the store that stands
 abbrev pub format_turn : (line blocks fill : ℕ) → Answer → (old new : List ℕ) → Turn
-format_turn line n fill Answer.Done old new = record { text = store_text n fill; store = new }
-format_turn line n fill (Answer.Refused r) old new = record { text = refused_text line (refusal_no r); store = old }
+format_turn line n fill (Ok done) old new = record { text = store_text n fill; store = new }
+format_turn line n fill (Err r) old new = record { text = refused_text line (refusal_no r); store = old }
 
 -- the script's own largest N, whatever the library's is: "The script stays at 128" (2026-09), so that 30,000 bytes are
 -- "enough for the 5,000 matches that 128 blocks can hold"

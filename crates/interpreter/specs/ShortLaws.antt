@@ -1,5 +1,6 @@
 -- No lookup of a script gets 8.
 use Rattle.std.specs.Prelude.{◌≡◌, ℕ, ◌+◌, ◌/◌, ◌≤◌, Bool, true, false, leb, List, [], ◌∷◌, length, replicate, ◌≢◌, nat_le}
+use Rattle.std.specs.Prelude.{Err}
 use Rattle.std.proofs.Common.{sym, ap, ◌∙◌, arith, le-leb}
 use Rattle.std.proofs.lemmas.List.{length-replicate}
 use Rattle.lists.specs.Lists.{Each}
@@ -7,7 +8,6 @@ use Rattle.lists.specs.Block.{blocks}
 use Rattle.line.specs.Command.{read_line}
 use Rattle.line.proofs.FitsLaws.{line-fits}
 use Rattle.model.specs.declared.Refusal.{Refusal}
-use Rattle.model.specs.declared.LookupAnswer.{LookupAnswer}
 use Rattle.model.specs.Held.{matches}
 use Rattle.model.specs.Calls.{Looked, listed, lookup}
 use Rattle.model.proofs.MachineLaws.{never}
@@ -32,11 +32,11 @@ not_short s (bytes x d) h m e = go (nat_le (length (matches x h)) (length (repli
         le-leb (length (matches x h)) (length (replicate {A = ℕ} lent 0) / 6)
         (omega (arith, few, length-replicate {A = ℕ} lent 0))
 
-    found : (lookup x h (replicate lent 0)).answer ≡ LookupAnswer.Refused (Refusal.OutputShort m)
+    found : (lookup x h (replicate lent 0)).answer ≡ Err (Refusal.OutputShort m)
     found = ap (λ (k : Looked). k.answer) (sym (lookup-encode x d.wf h (replicate lent 0))) ∙ e
 
     go : (t : Bool) → t ≡ true
-        → (listed t (matches x h) (replicate lent 0)).answer ≢ LookupAnswer.Refused (Refusal.OutputShort m)
+        → (listed t (matches x h) (replicate lent 0)).answer ≢ Err (Refusal.OutputShort m)
     go true q r = never (cc)
     go false q r = never (cc)
 

@@ -1,8 +1,7 @@
 -- The stores that stand in scripts.
-use Rattle.std.specs.Prelude.{◌≡◌, ℕ, ◌+◌, ◌*◌, ◌≤◌, ◌≢◌, List, [], ◌∷◌, length, take, replicate}
+use Rattle.std.specs.Prelude.{◌≡◌, ℕ, ◌+◌, ◌*◌, ◌≤◌, ◌≢◌, List, [], ◌∷◌, length, take, replicate, Err}
 use Rattle.line.specs.Command.{max_line, read_line}
 use Rattle.model.specs.declared.Refusal.{Refusal}
-use Rattle.model.specs.declared.LookupAnswer.{LookupAnswer}
 use Rattle.model.specs.Index.{idle, Index}
 use Rattle.model.specs.WellFormed.{WF}
 use Rattle.image.specs.Layout.{encode}
@@ -30,7 +29,7 @@ stands_at n s (l ∷ ls) = s ∷ stands_at (n + 1) (run_command (read_line l) (n
 
 -- every lookup of the store has room in the bytes that are lent
 abbrev pub NotShort : List ℕ → Type 0
-NotShort s = (h m : ℕ) → (lookup_outcome s h (replicate lent 0)).answer ≢ LookupAnswer.Refused (Refusal.OutputShort m)
+NotShort s = (h m : ℕ) → (lookup_outcome s h (replicate lent 0)).answer ≢ Err (Refusal.OutputShort m)
 
 -- a struct and a lent store that a script can have
 pub record Serves (c : ScriptState) (store : List ℕ) : Type 0 where

@@ -5,7 +5,6 @@ ghost use Rattle.text.specs.Wrote.{Wrote};
 ghost use Rattle.interpreter.specs.Script.{answer_text, lookup_text, work_text};
 ghost use Rattle.interpreter.specs.Runs.{Roomy};
 
-use model::numbers::{refusal_number, stop_number};
 use model::{Answer, LookupAnswer, WorkAnswer};
 use text::{put_found, put_ok, put_refused, put_steps};
 
@@ -14,8 +13,8 @@ pub fn put_answer(output: &mut [u8], line: u64, answer: Answer) -> usize
     ensures { Wrote output.old 0 (answer_text line answer) output.new result }
 {
     match answer {
-        Answer::Done => put_ok(output),
-        Answer::Refused(refusal) => put_refused(output, line, refusal_number(refusal)),
+        Ok(()) => put_ok(output),
+        Err(refusal) => put_refused(output, line, refusal.number()),
     }
 }
 
@@ -26,8 +25,8 @@ pub fn put_looked(output: &mut [u8], line: u64, answer: LookupAnswer, places: &[
         output.new result }
 {
     match answer {
-        LookupAnswer::Found { matches } => put_found(output, places, matches),
-        LookupAnswer::Refused(refusal) => put_refused(output, line, refusal_number(refusal)),
+        Ok(matches) => put_found(output, places, matches),
+        Err(refusal) => put_refused(output, line, refusal.number()),
     }
 }
 
@@ -36,7 +35,7 @@ pub fn put_worked(output: &mut [u8], line: u64, answer: WorkAnswer) -> usize
     ensures { Wrote output.old 0 (work_text line answer) output.new result }
 {
     match answer {
-        WorkAnswer::Worked { steps, stop } => put_steps(output, steps, stop_number(stop)),
-        WorkAnswer::Refused(refusal) => put_refused(output, line, refusal_number(refusal)),
+        Ok(work) => put_steps(output, work.steps, work.stop.number()),
+        Err(refusal) => put_refused(output, line, refusal.number()),
     }
 }

@@ -13,7 +13,6 @@ use index::format::{check_format, format};
 use index::in_use::is_protected;
 use index::read::lookup;
 use line::Command;
-use model::numbers::refusal_number;
 use model::{Answer, Order, Refusal};
 use text::{put_refused, put_store};
 
@@ -27,14 +26,14 @@ fn format_standing(store: &mut [u8], standing: u32, blocks: u32, order: Order) -
         (take (512 * blocks) store.old) order).store ++ drop (512 * blocks) store.old }
 {
     if blocks < 4 {
-        return Answer::Refused(Refusal::Length);
+        return Err(Refusal::Length);
     }
     if !check_format(order) {
-        return Answer::Refused(Refusal::Number);
+        return Err(Refusal::Number);
     }
     let stands = 512 * standing as usize;
     if is_protected(&store[..stands], order) {
-        return Answer::Refused(Refusal::InUse);
+        return Err(Refusal::InUse);
     }
     let end = 512 * blocks as usize;
     let over = Order {
@@ -75,12 +74,12 @@ fn run_format(
     };
     let answer = format_standing(store, standing, blocks, order);
     match answer {
-        Answer::Done => {
+        Ok(()) => {
             let written = put_store(output, blocks, fill);
             LineEnd { blocks, written }
         }
-        Answer::Refused(refusal) => {
-            let written = put_refused(output, line, refusal_number(refusal));
+        Err(refusal) => {
+            let written = put_refused(output, line, refusal.number());
             LineEnd {
                 blocks: standing,
                 written,

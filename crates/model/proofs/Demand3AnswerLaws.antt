@@ -1,5 +1,6 @@
 -- What the calls answer on an index, by what it holds, its count and its job.
 use Rattle.std.specs.Prelude.{◌≡◌, ◌≢◌, ◌↔◌, ◌⊎◌, Bool, true, false, not, ◌&&◌, List, [], ◌∷◌, ℕ, suc, ◌+◌, ◌*◌, ◌/◌, ◌≤◌, leb, ltb, length}
+use Rattle.std.specs.Prelude.{Ok, Err}
 use Rattle.std.proofs.Math.Path.{refl}
 use Rattle.std.proofs.Common.{sym, ap, ◌∙◌, inl, inr, arith}
 use borrow.Author.Tests.{ltb-false, le-ltb, le-leb, lt-leb, eqb-true, eqb-false, eq-eqb, ne_eqb}
@@ -10,10 +11,8 @@ use Rattle.page.specs.declared.Pair.{Pair}
 use Rattle.page.specs.PairLaws.{no_way}
 use Rattle.model.specs.declared.Order.{Order}
 use Rattle.model.specs.declared.Refusal.{Refusal}
-use Rattle.model.specs.declared.Answer.{Answer}
 use Rattle.model.specs.declared.Stop.{Stop}
 use Rattle.model.specs.declared.Phase.{Phase}
-use Rattle.model.specs.declared.StandingAnswer.{StandingAnswer}
 use Rattle.model.specs.Index.{Job, idle, copying, clearing, Index, bucket, old_bucket, new_bucket}
 use Rattle.model.specs.Held.{held, matches, count, slack, wanted}
 use Rattle.model.specs.Steps.{stopped, step}
@@ -46,7 +45,7 @@ module _ (x : Index) (w : WF x) (o : Order) (ok : format_ok o ≡ true) where
       rw (l, le-leb x.size max_blocks w.laid.size, ok) refl
 
   pub in_use-is : (bk : Book) → count x ≡ length bk
-      → ((run_index (formatting o) x).reply ≡ plain (Answer.Refused Refusal.InUse)) ↔ ((o.overwrite ≡ 0) × (bk ≢ []))
+      → ((run_index (formatting o) x).reply ≡ plain (Err Refusal.InUse)) ↔ ((o.overwrite ≡ 0) × (bk ≢ []))
   in_use-is bk c = rw format-reply (go (overwrites o) refl bk c)
     where
       zero-or-one : o.overwrite ≤ 1
@@ -54,7 +53,7 @@ module _ (x : Index) (w : WF x) (o : Order) (ok : format_ok o ≡ true) where
 
       go : (a : Bool) → overwrites o ≡ a → (bk : Book) → count x ≡ length bk
           → ((settled x (format_in true true (not a && in_use x) (format x.size o))).reply
-          ≡ plain (Answer.Refused Refusal.InUse))
+          ≡ plain (Err Refusal.InUse))
           ↔ ((o.overwrite ≡ 0) × (bk ≢ []))
       go true e bk c = (λ h. never (cc), λ h. absurd (omega (arith, eqb-true o.overwrite 1 e, h.0)))
       go false e [] c =
@@ -64,59 +63,59 @@ module _ (x : Index) (w : WF x) (o : Order) (ok : format_ok o ≡ true) where
           let used : in_use x ≡ true = ap not (ne_eqb (count x) 0 (λ q. omega (arith, q, c))) in
           rw used (λ h. (omega (arith, zero-or-one, eqb-false o.overwrite 1 e), λ q. never (cc)), λ h. refl)
 
-  pub formatted-is : ((run_index (formatting o) x).reply ≡ plain Answer.Done)
-      ⊎ ((run_index (formatting o) x).reply ≡ plain (Answer.Refused Refusal.InUse))
+  pub formatted-is : ((run_index (formatting o) x).reply ≡ plain (Ok tt))
+      ⊎ ((run_index (formatting o) x).reply ≡ plain (Err Refusal.InUse))
   formatted-is = rw format-reply (go (not (overwrites o) && in_use x))
     where
       go : (u : Bool)
-          → ((settled x (format_in true true u (format x.size o))).reply ≡ plain Answer.Done)
-          ⊎ ((settled x (format_in true true u (format x.size o))).reply ≡ plain (Answer.Refused Refusal.InUse))
+          → ((settled x (format_in true true u (format x.size o))).reply ≡ plain (Ok tt))
+          ⊎ ((settled x (format_in true true u (format x.size o))).reply ≡ plain (Err Refusal.InUse))
       go true = inr refl
       go false = inl refl
 
 -- ---- 5 and 6
 
 pub held_already-is : (x : Index) (p : Pair) → pair_ok p ≡ true
-    → ((run_index (inserting p) x).reply ≡ plain (Answer.Refused Refusal.HeldAlready)) ↔ (held x p ≡ true)
+    → ((run_index (inserting p) x).reply ≡ plain (Err Refusal.HeldAlready)) ↔ (held x p ≡ true)
 unfolding run_index
 held_already-is x p ok = go (insert x p) (insert-view x p)
   where
     go : (r : Result) → Inserting x p r
-        → ((settled x r).reply ≡ plain (Answer.Refused Refusal.HeldAlready)) ↔ (held x p ≡ true)
+        → ((settled x r).reply ≡ plain (Err Refusal.HeldAlready)) ↔ (held x p ≡ true)
     go r (Inserting.wrong b) = no_way ok b
     go r (already b h) = (λ e. h, λ e. refl)
     go r (no_room b h v) = (λ e. never (cc), λ e. no_way e h)
     go r (inserted b h v) = (λ e. never (cc), λ e. no_way e h)
 
 pub not_held-is : (x : Index) (p : Pair) → pair_ok p ≡ true
-    → ((run_index (removing p) x).reply ≡ plain (Answer.Refused Refusal.NotHeld)) ↔ (held x p ≡ false)
+    → ((run_index (removing p) x).reply ≡ plain (Err Refusal.NotHeld)) ↔ (held x p ≡ false)
 unfolding run_index
 not_held-is x p ok = go (remove x p) (remove-view x p)
   where
-    go : (r : Result) → Removing x p r → ((settled x r).reply ≡ plain (Answer.Refused Refusal.NotHeld)) ↔ (held x p ≡ false)
+    go : (r : Result) → Removing x p r → ((settled x r).reply ≡ plain (Err Refusal.NotHeld)) ↔ (held x p ≡ false)
     go r (Removing.wrong b) = no_way ok b
     go r (absent b h) = (λ e. h, λ e. refl)
     go r (removed b h) = (λ e. never (cc), λ e. no_way h e)
 
 pub inserted-is : (x : Index) (p : Pair) → pair_ok p ≡ true → held x p ≡ false
-    → ((run_index (inserting p) x).reply ≡ plain Answer.Done)
-    ⊎ ((run_index (inserting p) x).reply ≡ plain (Answer.Refused Refusal.NoRoom))
+    → ((run_index (inserting p) x).reply ≡ plain (Ok tt))
+    ⊎ ((run_index (inserting p) x).reply ≡ plain (Err Refusal.NoRoom))
 unfolding run_index
 inserted-is x p ok e = go (insert x p) (insert-view x p)
   where
     go : (r : Result) → Inserting x p r
-        → ((settled x r).reply ≡ plain Answer.Done) ⊎ ((settled x r).reply ≡ plain (Answer.Refused Refusal.NoRoom))
+        → ((settled x r).reply ≡ plain (Ok tt)) ⊎ ((settled x r).reply ≡ plain (Err Refusal.NoRoom))
     go r (Inserting.wrong b) = no_way ok b
     go r (already b h) = no_way h e
     go r (no_room b h v) = inr refl
     go r (inserted b h v) = inl refl
 
 pub removed-is : (x : Index) (p : Pair) → pair_ok p ≡ true → held x p ≡ true
-    → (run_index (removing p) x).reply ≡ plain Answer.Done
+    → (run_index (removing p) x).reply ≡ plain (Ok tt)
 unfolding run_index
 removed-is x p ok e = go (remove x p) (remove-view x p)
   where
-    go : (r : Result) → Removing x p r → (settled x r).reply ≡ plain Answer.Done
+    go : (r : Result) → Removing x p r → (settled x r).reply ≡ plain (Ok tt)
     go r (Removing.wrong b) = no_way ok b
     go r (absent b h) = no_way e h
     go r (removed b h) = refl
@@ -124,12 +123,12 @@ removed-is x p ok e = go (remove x p) (remove-view x p)
 -- ---- 7
 
 settled-no_room : (x : Index) (r : Result)
-    → ((settled x r).reply ≡ plain (Answer.Refused Refusal.NoRoom)) ↔ (r ≡ refused Refusal.NoRoom)
+    → ((settled x r).reply ≡ plain (Err Refusal.NoRoom)) ↔ (r ≡ refused Refusal.NoRoom)
 settled-no_room x (done y) = (λ e. never (cc), λ e. never (cc))
 settled-no_room x (refused r) = (λ e. cc, λ e. cc)
 
 pub no_room-is : (x : Index) (p : Pair) → pair_ok p ≡ true → held x p ≡ false
-    → ((run_index (inserting p) x).reply ≡ plain (Answer.Refused Refusal.NoRoom)) ↔ NoPage x (bucket x p)
+    → ((run_index (inserting p) x).reply ≡ plain (Err Refusal.NoRoom)) ↔ NoPage x (bucket x p)
 unfolding run_index
 no_room-is x p ok e =
     let n = insert-no_room x p ok e in
@@ -150,7 +149,7 @@ lookup-is x bk h out e =
 
 pub standing-is : (x : Index) (n b fill : ℕ) → count x ≡ n → x.max_bucket ≡ suc b → x.fill ≡ fill
     → (run_index asking x).reply
-    ≡ stands (StandingAnswer.Stands (record {
+    ≡ stands (Ok (record {
       count = n;
       buckets = 2 + b;
       phase = phase_at on_index x;

@@ -37,3 +37,4 @@ pub mod Demand3Theorem
 pub mod SimulationLaws
 pub mod TransferLaws
 pub mod BusyTransferLaws
+pub mod AnswerLaws

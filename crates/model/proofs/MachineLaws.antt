@@ -1,10 +1,10 @@
 -- Work and squeeze as iterations of steps: what such a call then gives, for any machine.
-use Rattle.std.specs.Prelude.{◌≡◌, refl, ◌≢◌, ◌↔◌, Bool, ℕ, zero, suc, ◌≤◌, ◌<◌}
+use Rattle.std.specs.Prelude.{◌≡◌, refl, ◌≢◌, ◌↔◌, Bool, ℕ, zero, suc, ◌≤◌, ◌<◌, Ok}
 use Rattle.std.proofs.Common.{ap, ap₂, ◌∙◌, arith, le-leb}
 use Rattle.std.proofs.Math.Option.{Option, none, some}
 use Rattle.model.specs.declared.Refusal.{Refusal}
 use Rattle.model.specs.declared.Stop.{Stop}
-use Rattle.model.specs.declared.WorkAnswer.{WorkAnswer}
+use Rattle.model.specs.Answers.{work_of}
 use Rattle.page.specs.declared.Entry.{Entry}
 use Rattle.model.specs.Index.{idle, Index, chain}
 use Rattle.model.specs.Steps.{Step, next, stopped, Worked, step, iterate}
@@ -23,7 +23,7 @@ never z = absurd (omega arith)
 
 -- the reply and the state of a work or squeeze call that is not refused
 abbrev pub worked_by : {S : Type 0} → Worked S → Ran S
-worked_by w = record { reply = worked (WorkAnswer.Worked w.steps w.stop); state = w.state }
+worked_by w = record { reply = worked (Ok (work_of w.steps w.stop)); state = w.state }
 
 -- no step says that a budget is spent: only the call does
 pub step-unspent : (x : Index) → step x ≢ stopped Stop.Spent

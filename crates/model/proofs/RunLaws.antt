@@ -1,10 +1,9 @@
 -- A call on the index, seen by its effect: it is refused and leaves the index, or it does what its effect says. What
 -- is shown of every call goes by this view, so that a new call with an old effect is one line of it.
-use Rattle.std.specs.Prelude.{◌≡◌, refl, Bool, true, false, not, ◌&&◌, ℕ, eqb, leb}
+use Rattle.std.specs.Prelude.{◌≡◌, refl, Bool, true, false, not, ◌&&◌, ℕ, eqb, leb, Ok}
 use Rattle.page.specs.declared.Pair.{Pair}
 use Rattle.model.specs.declared.Order.{Order}
 use Rattle.model.specs.declared.Refusal.{Refusal}
-use Rattle.model.specs.declared.Answer.{Answer}
 use Rattle.model.specs.Answers.{refusal_no}
 use Rattle.model.specs.Index.{Index}
 use Rattle.model.specs.Steps.{next, iterate}
@@ -39,11 +38,11 @@ refused-no Refusal.Pending = refl
 pub data Running (x : Index) : Effect → Ran Index → Type 0 where
   refuses : {e : Effect} {r : Reply} → accepted r ≡ false → Running x e (record { reply = r; state = x })
   formats : {o : Order} → CallFits (formatting o) → size_ok x.size ≡ true → format_ok o ≡ true
-      → Running x (empties o) (record { reply = plain Answer.Done; state = format x.size o })
+      → Running x (empties o) (record { reply = plain (Ok tt); state = format x.size o })
   inserts : {p : Pair} {y : Index} → CallFits (inserting p) → insert x p ≡ done y
-      → Running x (puts p) (record { reply = plain Answer.Done; state = y })
+      → Running x (puts p) (record { reply = plain (Ok tt); state = y })
   removes : {p : Pair} {y : Index} → remove x p ≡ done y
-      → Running x (takes p) (record { reply = plain Answer.Done; state = y })
+      → Running x (takes p) (record { reply = plain (Ok tt); state = y })
   reads : {r : Reply} → Running x leaves (record { reply = r; state = x })
   works : {kind : Kind} {budget : ℕ} {r : Reply} → accepted r ≡ true
       → Running x (has_steps kind budget) (record { reply = r; state = (iterate (step_index kind) budget x).state })

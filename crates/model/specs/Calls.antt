@@ -1,5 +1,6 @@
 -- The calls on an index but squeeze (docs/RULES.md 6), with their numbers as u32 and their answers.
 use Rattle.std.specs.Prelude.{Bool, true, false, not, ◌&&◌, List, [], ◌∷◌, ◌++◌, ℕ, suc, ◌*◌, ◌/◌, leb, eqb, length, drop}
+use Rattle.std.specs.Prelude.{Ok, Err}
 use Rattle.std.proofs.Math.Option.{Option, none, some}
 use Rattle.lists.specs.Lists.{bind}
 use Rattle.endian.specs.Endian.{le16, le32}
@@ -8,7 +9,7 @@ use Rattle.page.specs.declared.Pair.{Pair}
 use Rattle.page.specs.Pair.{bad_pair}
 use Rattle.model.specs.declared.Order.{Order}
 use Rattle.model.specs.declared.Refusal.{Refusal}
-use Rattle.model.specs.declared.LookupAnswer.{LookupAnswer}
+use Rattle.model.specs.Answers.{LookupAnswer}
 use Rattle.model.specs.declared.Phase.{Phase}
 use Rattle.model.specs.declared.Standing.{Standing}
 use Rattle.model.specs.Index.{Job, idle, copying, clearing, Index, no_chain, bucket, new_bucket, old_bucket}
@@ -121,8 +122,8 @@ pub record Looked : Type 0 where
 -- "ascending; later output bytes stay"; 8 where "output length / 6, rounded down, is below the number of matches"
 abbrev pub listed : (room : Bool) → List Pair → List ℕ → Looked
 listed true ps out =
-    record { answer = LookupAnswer.Found (length ps); output = bind ps place_bytes ++ drop (6 * length ps) out }
-listed false ps out = record { answer = LookupAnswer.Refused (Refusal.OutputShort (length ps)); output = out }
+    record { answer = Ok (length ps); output = bind ps place_bytes ++ drop (6 * length ps) out }
+listed false ps out = record { answer = Err (Refusal.OutputShort (length ps)); output = out }
 
 unfoldable pub lookup : Index → (hash : ℕ) → (output : List ℕ) → Looked
 lookup x h out = let ps = matches x h in listed (leb (length ps) (length out / 6)) ps out

@@ -7,6 +7,7 @@
 --   ShiftIs   (Shift.antt) what a squeeze's step moves, and when there is none
 --   Demand3   all three always hold
 use Rattle.std.specs.Prelude.{◌≡◌, ◌≢◌, ◌↔◌, ◌⊎◌, Bool, true, false, ◌||◌, List, [], ◌++◌, ℕ, zero, suc, ◌+◌, ◌*◌, ◌/◌, ◌≤◌, ◌<◌, eqb, length, drop}
+use Rattle.std.specs.Prelude.{Ok, Err}
 use Rattle.std.proofs.Math.Option.{Option, none, some}
 use Rattle.std.proofs.Math.IntN.{sub_ℕ}
 use Rattle.lists.specs.Lists.{bind}
@@ -15,12 +16,9 @@ use Rattle.page.specs.declared.Pair.{Pair}
 use Rattle.page.specs.Pair.{ascending}
 use Rattle.model.specs.declared.Order.{Order}
 use Rattle.model.specs.declared.Refusal.{Refusal}
-use Rattle.model.specs.declared.Answer.{Answer}
-use Rattle.model.specs.declared.LookupAnswer.{LookupAnswer}
+use Rattle.model.specs.Answers.{work_of}
 use Rattle.model.specs.declared.Stop.{Stop}
-use Rattle.model.specs.declared.WorkAnswer.{WorkAnswer}
 use Rattle.model.specs.declared.Phase.{Phase}
-use Rattle.model.specs.declared.StandingAnswer.{StandingAnswer}
 use Rattle.model.specs.Index.{Index}
 use Rattle.model.specs.Held.{self}
 use Rattle.model.specs.Steps.{next, stopped}
@@ -44,12 +42,12 @@ module _ (M : Machine) where
     pub room : length (under h bk) ≤ length out / 6
         → (M.run (looking h out) s).reply
         ≡ looked (record {
-          answer = LookupAnswer.Found (length (under h bk));
+          answer = Ok (length (under h bk));
           output = bind (under h bk) place_bytes ++ drop (6 * length (under h bk)) out;
         })
     pub short : length out / 6 < length (under h bk)
         → (M.run (looking h out) s).reply
-        ≡ looked (record { answer = LookupAnswer.Refused (Refusal.OutputShort (length (under h bk))); output = out })
+        ≡ looked (record { answer = Err (Refusal.OutputShort (length (under h bk))); output = out })
 
   -- the job's two buckets, by the new one
   abbrev pub JobIs : (new : ℕ) → Phase → Type 0
@@ -67,7 +65,7 @@ module _ (M : Machine) where
   pub record WorkIs (k : Kind) (s : M.State) (budget : ℕ) : Type 0 where
     pub steps : ℕ
     pub stop : Stop
-    pub reply : (M.run (stepping k budget) s).reply ≡ worked (WorkAnswer.Worked steps stop)
+    pub reply : (M.run (stepping k budget) s).reply ≡ worked (Ok (work_of steps stop))
     pub reached : after_steps k steps s ≡ some (M.run (stepping k budget) s).state
     -- "0 when the budget is spent"
     pub spent : (steps ≡ budget) ↔ (stop ≡ Stop.Spent)
@@ -77,9 +75,9 @@ module _ (M : Machine) where
   -- a squeeze of bucket b where there are n buckets: "a bucket above max bucket gets 2, then a bucket of a pending job
   -- 11", and any other is squeezed
   pub record SqueezeIs (n b : ℕ) (s : M.State) (budget : ℕ) : Type 0 where
-    pub above : n ≤ b → (M.run (squeezing b budget) s).reply ≡ worked (WorkAnswer.Refused Refusal.Number)
+    pub above : n ≤ b → (M.run (squeezing b budget) s).reply ≡ worked (Err Refusal.Number)
     pub busy : b < n → of_job (phase_at M s) b ≡ true
-        → (M.run (squeezing b budget) s).reply ≡ worked (WorkAnswer.Refused Refusal.Busy)
+        → (M.run (squeezing b budget) s).reply ≡ worked (Err Refusal.Busy)
     pub free : b < n → of_job (phase_at M s) b ≡ false → WorkIs (of_squeeze b) s budget
 
   -- Before the first begin there is no job. Whatever calls come between, a split "is over within 2m + 3 of its own
@@ -98,7 +96,7 @@ module _ (M : Machine) where
     pub lookups : (h : ℕ) (out : List ℕ) → CallFits (looking h out) → LookupsIs t.book t.state h out
     pub count : M.stored t.state ≡ length t.book
     pub standing : (M.run asking t.state).reply
-        ≡ stands (StandingAnswer.Stands (record {
+        ≡ stands (Ok (record {
           count = length t.book;
           buckets = 2 + t.begins;
           phase = phase_at M t.state;
@@ -107,23 +105,23 @@ module _ (M : Machine) where
     pub job : JobIs (1 + t.begins) (phase_at M t.state)
     -- a format with good numbers gets 12 exactly when it is not told to overwrite and the book isn't empty
     pub formats : (o : Order) → CallFits (formatting o) → format_ok o ≡ true
-        → ((M.run (formatting o) t.state).reply ≡ plain (Answer.Refused Refusal.InUse))
+        → ((M.run (formatting o) t.state).reply ≡ plain (Err Refusal.InUse))
         ↔ ((o.overwrite ≡ 0) × (t.book ≢ []))
     -- and else is done
     pub formatted : (o : Order) → CallFits (formatting o) → format_ok o ≡ true
-        → ((M.run (formatting o) t.state).reply ≡ plain Answer.Done)
-        ⊎ ((M.run (formatting o) t.state).reply ≡ plain (Answer.Refused Refusal.InUse))
+        → ((M.run (formatting o) t.state).reply ≡ plain (Ok tt))
+        ⊎ ((M.run (formatting o) t.state).reply ≡ plain (Err Refusal.InUse))
     pub inserts : (p : Pair) → CallFits (inserting p) → pair_ok p ≡ true
-        → ((M.run (inserting p) t.state).reply ≡ plain (Answer.Refused Refusal.HeldAlready))
+        → ((M.run (inserting p) t.state).reply ≡ plain (Err Refusal.HeldAlready))
         ↔ (has t.book p ≡ true)
     -- an insert of another pair is done or finds no room
     pub inserted : (p : Pair) → CallFits (inserting p) → pair_ok p ≡ true → has t.book p ≡ false
-        → ((M.run (inserting p) t.state).reply ≡ plain Answer.Done)
-        ⊎ ((M.run (inserting p) t.state).reply ≡ plain (Answer.Refused Refusal.NoRoom))
+        → ((M.run (inserting p) t.state).reply ≡ plain (Ok tt))
+        ⊎ ((M.run (inserting p) t.state).reply ≡ plain (Err Refusal.NoRoom))
     pub removals : (p : Pair) → CallFits (removing p) → pair_ok p ≡ true
-        → ((M.run (removing p) t.state).reply ≡ plain (Answer.Refused Refusal.NotHeld)) ↔ (has t.book p ≡ false)
+        → ((M.run (removing p) t.state).reply ≡ plain (Err Refusal.NotHeld)) ↔ (has t.book p ≡ false)
     pub removed : (p : Pair) → CallFits (removing p) → pair_ok p ≡ true → has t.book p ≡ true
-        → (M.run (removing p) t.state).reply ≡ plain Answer.Done
+        → (M.run (removing p) t.state).reply ≡ plain (Ok tt)
     pub works : (budget : ℕ) → budget ≤ 65535 → WorkIs of_splits t.state budget
     pub squeezes : (b budget : ℕ) → CallFits (squeezing b budget) → budget ≤ 65535
         → SqueezeIs (2 + t.begins) b t.state budget

@@ -1,13 +1,11 @@
 -- Calls, replies, and a machine that runs them: the index as a value is one, a store of bytes another.
 use Rattle.std.specs.Prelude.{Bool, true, false, List, ℕ, ◌^◌, ◌<◌, eqb}
+use Rattle.std.specs.Prelude.{Ok, Err}
 use Rattle.std.proofs.Math.Option.{Option, none, some}
 use Rattle.page.specs.declared.Pair.{Pair}
 use Rattle.model.specs.declared.Order.{Order}
 use Rattle.model.specs.declared.Refusal.{Refusal}
-use Rattle.model.specs.declared.Answer.{Answer}
-use Rattle.model.specs.declared.WorkAnswer.{WorkAnswer}
-use Rattle.model.specs.declared.StandingAnswer.{StandingAnswer}
-use Rattle.model.specs.Answers.{answer_no, lookup_no, work_no, standing_no}
+use Rattle.model.specs.Answers.{Answer, WorkAnswer, StandingAnswer, answer_no, lookup_no, work_no, standing_no, work_of}
 use Rattle.model.specs.Index.{Index}
 use Rattle.model.specs.Held.{count}
 use Rattle.model.specs.Steps.{Step, Worked, step}
@@ -77,18 +75,18 @@ pub record Machine : Type 1 where
 -- ---- the index as a machine
 
 abbrev pub settled : Index → Result → Ran Index
-settled x (done y) = record { reply = plain Answer.Done; state = y }
-settled x (refused r) = record { reply = plain (Answer.Refused r); state = x }
+settled x (done y) = record { reply = plain (Ok tt); state = y }
+settled x (refused r) = record { reply = plain (Err r); state = x }
 
 abbrev pub worked_in : (budget : Bool) → Index → Worked Index → Ran Index
-worked_in false x w = record { reply = worked (WorkAnswer.Refused Refusal.Number); state = x }
-worked_in true x w = record { reply = worked (WorkAnswer.Worked w.steps w.stop); state = w.state }
+worked_in false x w = record { reply = worked (Err Refusal.Number); state = x }
+worked_in true x w = record { reply = worked (Ok (work_of w.steps w.stop)); state = w.state }
 
 -- "The budget is tested as for work"; the bucket after it
 abbrev pub squeezed_in : (budget : Bool) → Option Refusal → Index → Worked Index → Ran Index
-squeezed_in false t x w = record { reply = worked (WorkAnswer.Refused Refusal.Number); state = x }
-squeezed_in true (some r) x w = record { reply = worked (WorkAnswer.Refused r); state = x }
-squeezed_in true none x w = record { reply = worked (WorkAnswer.Worked w.steps w.stop); state = w.state }
+squeezed_in false t x w = record { reply = worked (Err Refusal.Number); state = x }
+squeezed_in true (some r) x w = record { reply = worked (Err r); state = x }
+squeezed_in true none x w = record { reply = worked (Ok (work_of w.steps w.stop)); state = w.state }
 
 unfoldable pub run_index : Call → Index → Ran Index
 run_index (formatting o) x = settled x (formatted x o)
@@ -97,7 +95,7 @@ run_index (removing p) x = settled x (remove x p)
 run_index (looking h out) x = record { reply = looked (lookup x h out); state = x }
 run_index (working budget) x = worked_in (budget_ok budget) x (work budget x)
 run_index (squeezing b budget) x = squeezed_in (budget_ok budget) (bucket_test x b) x (squeeze b budget x)
-run_index asking x = record { reply = stands (StandingAnswer.Stands (standing x)); state = x }
+run_index asking x = record { reply = stands (Ok (standing x)); state = x }
 
 abbrev pub step_index : Kind → Index → Step Index
 step_index of_splits = step

@@ -1,11 +1,10 @@
 -- When there is no room and when there is (docs/RULES.md 6.3, 6.8 and 6.14), said of an index. That there is none is
 -- said apart from how an insert or a step goes about it: "an insert that makes up a 7, doesn't meet it".
-use Rattle.std.specs.Prelude.{◌≡◌, ◌↔◌, true, false, ℕ, suc, ◌+◌, ◌*◌, ◌≤◌, ◌<◌, length}
+use Rattle.std.specs.Prelude.{◌≡◌, ◌↔◌, true, false, ℕ, suc, ◌+◌, ◌*◌, ◌≤◌, ◌<◌, length, Err}
 use Rattle.lists.specs.Lists.{Each}
 use Rattle.address.specs.Address.{buckets_at, point, made}
 use Rattle.page.specs.declared.Pair.{Pair}
 use Rattle.model.specs.declared.Refusal.{Refusal}
-use Rattle.model.specs.declared.Answer.{Answer}
 use Rattle.model.specs.declared.Stop.{Stop}
 use Rattle.model.specs.Index.{Page, Job, idle, copying, clearing, Index, chain, bucket, new_bucket, top_bit}
 use Rattle.model.specs.Pages.{chain_room}
@@ -60,7 +59,7 @@ module _ (M : Machine) (index : M.State → Index) where
     pub shows : Shows t
     -- an insert that no earlier test refuses gets 7 exactly when there is no page for it
     pub inserts : (p : Pair) → CallFits (inserting p) → pair_ok p ≡ true → has t.book p ≡ false
-        → ((M.run (inserting p) t.state).reply ≡ plain (Answer.Refused Refusal.NoRoom))
+        → ((M.run (inserting p) t.state).reply ≡ plain (Err Refusal.NoRoom))
         ↔ NoPage (index t.state) (bucket (index t.state) p)
     -- a step stops with 7 exactly when there is no room for it
     pub steps : (M.step of_splits t.state ≡ stopped Stop.NoRoom) ↔ NoStep (index t.state).job (index t.state)

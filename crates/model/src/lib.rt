@@ -3,6 +3,9 @@
 
 pub mod numbers; // numbers.rt: the numbers of answers, in code
 
+ghost use Rattle.std.specs.Prelude.{◌≡◌};
+ghost use Rattle.model.specs.declared.LentError.TheVariants.{Refused};
+
 // The numbers that a caller gives format: the fill, the store number, and whether it overwrites a store in use (1) or
 // not (0). N is none of them: it is the store's length.
 #[derive(Clone, Copy)]
@@ -30,17 +33,10 @@ pub enum Refusal {
 }
 
 // The answer of format, insert and remove, and of the call that says whether a store is in use.
-#[derive(Clone, Copy)]
-pub enum Answer {
-    Done,
-    Refused(Refusal),
-}
+pub type Answer = Result<(), Refusal>;
 
-#[derive(Clone, Copy)]
-pub enum LookupAnswer {
-    Found { matches: u32 },
-    Refused(Refusal),
-}
+// The number of matches.
+pub type LookupAnswer = Result<u32, Refusal>;
 
 // Why work or a squeeze stopped: its budget is spent, there is nothing to do, or, of work, the next step finds no room.
 #[derive(Clone, Copy)]
@@ -50,11 +46,14 @@ pub enum Stop {
     NoRoom,
 }
 
+// What work or a squeeze did: its steps, and why it stopped.
 #[derive(Clone, Copy)]
-pub enum WorkAnswer {
-    Worked { steps: u32, stop: Stop },
-    Refused(Refusal),
+pub struct Work {
+    pub steps: u32,
+    pub stop: Stop,
 }
+
+pub type WorkAnswer = Result<Work, Refusal>;
 
 // The job's phase with its two bucket numbers.
 #[derive(Clone, Copy)]
@@ -73,26 +72,37 @@ pub struct Standing {
     pub slack: i64,
 }
 
-#[derive(Clone, Copy)]
-pub enum StandingAnswer {
-    Stands(Standing),
-    Refused(Refusal),
-}
+pub type StandingAnswer = Result<Standing, Refusal>;
 
-// Where a block lies: in the journal or in the store, and its number there. `Short` is the answer to a plan that is
-// lent too few bytes.
+// Why there is no place or no plan: the buffer that is lent for the plan is short, or the call is refused.
 #[derive(Clone, Copy)]
-pub enum PlaceAnswer {
-    At { journal: bool, block: u32 },
+pub enum LentError {
     Short,
     Refused(Refusal),
 }
 
-// The plan of a change: the number of its block stores; or, of a step, why there is none.
+impl From<Refusal> for LentError {
+    ghost from_gives = { λ refusal e. e ≡ Refused refusal };
+
+    fn from(refusal: Refusal) -> LentError {
+        LentError::Refused(refusal)
+    }
+}
+
+// Where a block lies, in the journal or in the store, with its number there.
 #[derive(Clone, Copy)]
-pub enum PlanAnswer {
-    Planned { stores: u32 },
+pub enum Place {
+    Journal(u32),
+    Store(u32),
+}
+
+pub type PlaceAnswer = Result<Place, LentError>;
+
+// What the plan of a change lists: the number of its block stores; or, of a step that stops, why it has none.
+#[derive(Clone, Copy)]
+pub enum Listing {
+    Stores(u32),
     Stopped(Stop),
-    Short,
-    Refused(Refusal),
 }
+
+pub type PlanAnswer = Result<Listing, LentError>;

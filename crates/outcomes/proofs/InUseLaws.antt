@@ -1,12 +1,12 @@
 -- Refusal 12 (docs/RULES.md 2.4) on any bytes: format's tests in their order, and what the call `in_use` says of a
 -- format and of the book of demand 3.
-use Rattle.std.specs.Prelude.{◌≡◌, Bool, true, false, cond, not, ◌&&◌, List, [], ◌∷◌, ℕ}
+use Rattle.std.specs.Prelude.{◌≡◌, Bool, true, false, cond, not, ◌&&◌, List, [], ◌∷◌, ℕ, Ok, Err}
 use Rattle.std.proofs.Math.Path.{refl, ap}
 use Rattle.std.proofs.Common.{sym, ◌∙◌, ⊎_elim, arith}
 use Rattle.lists.specs.Block.{blocks}
 use Rattle.model.specs.declared.Order.{Order}
 use Rattle.model.specs.declared.Refusal.{Refusal}
-use Rattle.model.specs.declared.Answer.{Answer}
+use Rattle.model.specs.Answers.{Answer}
 use Rattle.model.specs.Index.{Index}
 use Rattle.model.specs.Calls.{order_of, format_ok, in_use, overwrites, done, format, format_in}
 use Rattle.model.specs.Machine.{formatting, CallFits, plain}
@@ -63,13 +63,12 @@ module _ (old new : List ℕ) (o : Order) where
 -- ---- the call `in_use`
 
 -- it answers 12 of a store in use alone
-pub in-use-is : (s : List ℕ) → in_use_outcome s ≡ Answer.Refused Refusal.InUse → store_in_use s ≡ true
+pub in-use-is : (s : List ℕ) → in_use_outcome s ≡ Err Refusal.InUse → store_in_use s ≡ true
 unfolding in_use_outcome
 in-use-is s e = go (length_ok s) (store_in_use s) e
   where
     go : (l u : Bool)
-        → cond l (cond u (Answer.Refused Refusal.InUse) Answer.Done) (Answer.Refused Refusal.Length)
-        ≡ Answer.Refused Refusal.InUse
+        → cond l (cond u (Err Refusal.InUse) (Ok (tt {0}))) (Err Refusal.Length) ≡ Err Refusal.InUse
         → u ≡ true
     go true true e = refl
     go true false e = never (cc)
@@ -82,15 +81,15 @@ unfolding format_replacing format_outcome in_use_outcome
 in-use-format s o f w = rw (f, w) (go (length_ok s) (store_in_use s))
   where
     go : (l u : Bool) → (changed s (format_in l true u (format (blocks s) o))).answer
-        ≡ cond l (cond u (Answer.Refused Refusal.InUse) Answer.Done) (Answer.Refused Refusal.Length)
+        ≡ cond l (cond u (Err Refusal.InUse) (Ok tt)) (Err Refusal.Length)
     go false u = refl
     go true true = refl
     go true false = refl
 
 -- done of an empty book, and 12 of any other
 abbrev pub book_answer : Book → Answer
-book_answer [] = Answer.Done
-book_answer (p ∷ ps) = Answer.Refused Refusal.InUse
+book_answer [] = Ok tt
+book_answer (p ∷ ps) = Err Refusal.InUse
 
 -- at every moment of every list of calls
 pub in-use-book : Always on_store (λ t. in_use_outcome t.state ≡ book_answer t.book)

@@ -1,5 +1,5 @@
 -- On the bytes of a well-formed index each call is the model's: its reply, and the bytes of its index.
-use Rattle.std.specs.Prelude.{◌≡◌, Bool, not, ◌&&◌, List, ℕ, ◌%◌, eqb, length}
+use Rattle.std.specs.Prelude.{◌≡◌, Bool, not, ◌&&◌, List, ℕ, ◌%◌, eqb, length, Ok, Err}
 use Rattle.std.proofs.Math.Path.{refl, sym, ap, subst}
 use Rattle.std.proofs.Common.{◌∙◌}
 use Rattle.std.proofs.Math.Bool.{true, false}
@@ -9,8 +9,7 @@ use Rattle.lists.specs.Block.{blocks}
 use Rattle.page.specs.declared.Pair.{Pair}
 use Rattle.model.specs.declared.Order.{Order}
 use Rattle.model.specs.declared.Refusal.{Refusal}
-use Rattle.model.specs.declared.StandingAnswer.{StandingAnswer}
-use Rattle.model.specs.declared.WorkAnswer.{WorkAnswer}
+use Rattle.model.specs.Answers.{StandingAnswer, work_of}
 use Rattle.model.specs.Index.{Index}
 use Rattle.model.specs.Held.{held}
 use Rattle.model.specs.Steps.{Step, next, stopped, Worked, step, iterate}
@@ -93,7 +92,7 @@ module _ (x : Index) (w : WF x) where
   unfolding lookup_outcome
   lookup-encode h out = ap (λ (t : Tested). lookup_on t h out) tested-encode
 
-  pub standing-encode : standing_outcome (encode x) ≡ StandingAnswer.Stands (standing x)
+  pub standing-encode : standing_outcome (encode x) ≡ Ok (standing x)
   unfolding standing_outcome
   standing-encode = ap standing_on tested-encode
 
@@ -116,7 +115,7 @@ step-alike k s x r =
 pub work-encode : (x : Index) → WF x → (budget : ℕ) → budget_ok budget ≡ true
     → work_outcome (encode x) budget
     ≡ record {
-      answer = WorkAnswer.Worked (work budget x).steps (work budget x).stop;
+      answer = Ok (work_of (work budget x).steps (work budget x).stop);
       store = encode
           (work budget x).state;
     }
@@ -125,10 +124,10 @@ work-encode x w budget e =
     let a = iterate-alike Encodes step_outcome step (step-alike of_splits) budget (encode x) x (w, refl) in
     let t = ap (λ (b : Bool). tested b (encode x)) e ∙ tested-encode x w in
     ap (λ (t : Tested). work_on t (encode x) (iterate step_outcome budget (encode x))) t
-    ∙ (λ i. record { answer = WorkAnswer.Worked (a.steps i) (a.stop i); store = a.state.1 i })
+    ∙ (λ i. record { answer = Ok (work_of (a.steps i) (a.stop i)); store = a.state.1 i })
 
 work-wrong : (x : Index) → WF x → (budget : ℕ) → budget_ok budget ≡ false
-    → work_outcome (encode x) budget ≡ record { answer = WorkAnswer.Refused Refusal.Number; store = encode x }
+    → work_outcome (encode x) budget ≡ record { answer = Err Refusal.Number; store = encode x }
 unfolding work_outcome
 work-wrong x w budget e =
     ap (λ (t : Tested). work_on t (encode x) (iterate step_outcome budget (encode x)))
@@ -138,7 +137,7 @@ work-wrong x w budget e =
 pub squeeze-encode : (x : Index) → WF x → (b budget : ℕ) → budget_ok budget ≡ true → bucket_test x b ≡ none
     → squeeze_outcome (encode x) b budget
     ≡ record {
-      answer = WorkAnswer.Worked (squeeze b budget x).steps (squeeze b budget x).stop;
+      answer = Ok (work_of (squeeze b budget x).steps (squeeze b budget x).stop);
       store = encode (squeeze b budget x).state;
     }
 unfolding squeeze_outcome squeeze
@@ -148,7 +147,7 @@ squeeze-encode x w b budget e f =
     let t = ap (λ (b : Bool). tested b (encode x)) e ∙ tested-encode x w in
     ap (λ (t : Tested). work_on t (encode x) (iterate (squeeze_step_outcome b) budget (encode x)))
     (bucket-passes (tested (budget_ok budget) (encode x)) b x t f)
-    ∙ (λ i. record { answer = WorkAnswer.Worked (a.steps i) (a.stop i); store = a.state.1 i })
+    ∙ (λ i. record { answer = Ok (work_of (a.steps i) (a.stop i)); store = a.state.1 i })
 
 -- ---- all calls at once
 

@@ -1,6 +1,6 @@
 -- What the outcomes are, on any bytes: a test that fails is the refusal, and leaves store and output; a work or squeeze
 -- call is its steps.
-use Rattle.std.specs.Prelude.{◌≡◌, ◌≢◌, ◌↔◌, Bool, not, ◌&&◌, List, ℕ, ◌/◌, ◌<◌, leb, length}
+use Rattle.std.specs.Prelude.{◌≡◌, ◌≢◌, ◌↔◌, Bool, not, ◌&&◌, List, ℕ, ◌/◌, ◌<◌, leb, length, Ok, Err}
 use Rattle.std.proofs.Math.Path.{refl, ap, ap₂}
 use Rattle.std.proofs.Common.{sym, ◌∙◌, subst}
 use Rattle.std.proofs.Math.Bool.{true, false}
@@ -9,10 +9,8 @@ use Rattle.lists.specs.Block.{blocks}
 use Rattle.page.specs.declared.Pair.{Pair}
 use Rattle.model.specs.declared.Order.{Order}
 use Rattle.model.specs.declared.Refusal.{Refusal}
-use Rattle.model.specs.declared.Answer.{Answer}
-use Rattle.model.specs.declared.LookupAnswer.{LookupAnswer}
+use Rattle.model.specs.Answers.{work_of}
 use Rattle.model.specs.declared.Stop.{Stop}
-use Rattle.model.specs.declared.WorkAnswer.{WorkAnswer}
 use Rattle.model.specs.Index.{Index}
 use Rattle.model.specs.Steps.{Step, next, stopped, iterate}
 use Rattle.model.specs.Squeeze.{bucket_test}
@@ -22,6 +20,7 @@ use Rattle.model.specs.Held.{matches}
 use Rattle.model.specs.Machine.{Call, formatting, inserting, removing, looking, working, squeezing, asking, Kind}
 use Rattle.model.specs.Machine.{of_splits, of_squeeze, Reply, plain, looked, worked, stands, accepted, Ran, step_index}
 use Rattle.model.specs.Book.{effect}
+use Rattle.model.proofs.AnswerLaws.{worked-same}
 use Rattle.model.proofs.RunLaws.{refused-no}
 use Rattle.model.proofs.MachineLaws.{never, kind-unspent, iterate-works}
 use Rattle.model.specs.Demand.{after_steps, WorkIs}
@@ -124,7 +123,7 @@ module _ (c : Call) (t : Tests (effect c)) (s : List ℕ) where
 pub data StoreRun (c : Call) (s : List ℕ) : Ran (List ℕ) → Type 0 where
   refuses : {r : Reply} → accepted r ≡ false → StoreRun c s (record { reply = r; state = s })
   formats : (o : Order) → c ≡ formatting o → length_ok s ≡ true → format_ok o ≡ true
-      → StoreRun c s (record { reply = plain Answer.Done; state = encode (format (blocks s) o) })
+      → StoreRun c s (record { reply = plain (Ok tt); state = encode (format (blocks s) o) })
   reads : {r : Reply} {x : Index} → tested (call_numbers_ok (effect c)) s ≡ passed x
       → StoreRun c s (record { reply = r; state = s })
   accepts : {r : Ran (List ℕ)} {x : Index} → tested (call_numbers_ok (effect c)) s ≡ passed x → accepted r.reply ≡ true
@@ -201,17 +200,17 @@ refusal-leaves c s e = go (store_view c s) e
     go (accepts k h) e = never (cc)
 
 pub refusal-output : (s : List ℕ) (h : ℕ) (out : List ℕ) (r : Refusal)
-    → (lookup_outcome s h out).answer ≡ LookupAnswer.Refused r
+    → (lookup_outcome s h out).answer ≡ Err r
     → (lookup_outcome s h out).output ≡ out
 unfolding lookup_outcome lookup
 refusal-output s h out r e = go (tested true s) e
   where
-    listing : (b : Bool) (ps : List Pair) → (listed b ps out).answer ≡ LookupAnswer.Refused r
+    listing : (b : Bool) (ps : List Pair) → (listed b ps out).answer ≡ Err r
         → (listed b ps out).output ≡ out
     listing true ps e = never (cc)
     listing false ps e = refl
 
-    go : (t : Tested) → (lookup_on t h out).answer ≡ LookupAnswer.Refused r → (lookup_on t h out).output ≡ out
+    go : (t : Tested) → (lookup_on t h out).answer ≡ Err r → (lookup_on t h out).output ≡ out
     go (failed q) e = refl
     go (passed x) e = listing (leb (length (matches x h)) (length out / 6)) (matches x h) e
 
@@ -258,13 +257,13 @@ pub record WorkEnds (s : List ℕ) (budget k : ℕ) (r : Stop) : Type 0 where
   pub spent : (k ≡ budget) ↔ (r ≡ Stop.Spent)
   pub ended : k ≢ budget → (k < budget) × (step_outcome (work_outcome s budget).store ≡ stopped r)
 
-pub work-ends : (s : List ℕ) (budget k : ℕ) (r : Stop) → (work_outcome s budget).answer ≡ WorkAnswer.Worked k r
+pub work-ends : (s : List ℕ) (budget k : ℕ) (r : Stop) → (work_outcome s budget).answer ≡ Ok (work_of k r)
     → WorkEnds s budget k r
 unfolding run_store work_outcome
 work-ends s budget k r e = go (tested (budget_ok budget) s) refl e
   where
-    same : (i : ℕ) (q : Stop) → worked (WorkAnswer.Worked k r) ≡ worked (WorkAnswer.Worked i q) → (i ≡ k) × (q ≡ r)
-    same i q h = (cc, cc)
+    same : (i : ℕ) (q : Stop) → worked (Ok (work_of k r)) ≡ worked (Ok (work_of i q)) → (i ≡ k) × (q ≡ r)
+    same i q h = worked-same {a = Ok (work_of i q)} refl cc
 
     given : WorkIs on_store of_splits s budget → WorkEnds s budget k r
     given d =
@@ -278,13 +277,13 @@ work-ends s budget k r e = go (tested (budget_ok budget) s) refl e
         }
 
     go : (t : Tested) → tested (budget_ok budget) s ≡ t
-        → (work_on t s (iterate step_outcome budget s)).answer ≡ WorkAnswer.Worked k r
+        → (work_on t s (iterate step_outcome budget s)).answer ≡ Ok (work_of k r)
         → WorkEnds s budget k r
     go (failed q) f e = never (cc)
     go (passed x) f e = given (work-steps s budget x f)
 
 -- "Steps done before a stop 7 stay; the refused one changes nothing."
-pub work-no_room : (s : List ℕ) (budget k : ℕ) → (work_outcome s budget).answer ≡ WorkAnswer.Worked k Stop.NoRoom
+pub work-no_room : (s : List ℕ) (budget k : ℕ) → (work_outcome s budget).answer ≡ Ok (work_of k Stop.NoRoom)
     → (after_steps on_store of_splits k s ≡ some (work_outcome s budget).store)
     × (step_outcome (work_outcome s budget).store ≡ stopped Stop.NoRoom)
 work-no_room s budget k e =

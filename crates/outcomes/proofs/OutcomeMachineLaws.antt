@@ -1,12 +1,11 @@
 -- A store does as the well-formed index does whose bytes it is: a simulation, by which demand 3 carries over.
-use Rattle.std.specs.Prelude.{◌≡◌, refl, Bool, true, false, not, ◌&&◌, List, ℕ}
+use Rattle.std.specs.Prelude.{◌≡◌, refl, Bool, true, false, not, ◌&&◌, List, ℕ, Ok}
 use Rattle.std.proofs.Common.{sym, ap, ap₂, ◌∙◌, subst}
 use Rattle.std.proofs.Math.Option.{Option, none, some}
 use Rattle.lists.specs.Block.{blocks}
 use Rattle.endian.specs.Endian.{u32_at}
 use Rattle.model.specs.declared.Order.{Order}
 use Rattle.model.specs.declared.Refusal.{Refusal}
-use Rattle.model.specs.declared.Answer.{Answer}
 use Rattle.model.specs.Index.{Index}
 use Rattle.model.specs.Squeeze.{squeeze, bucket_test}
 use Rattle.model.specs.Calls.{in_use, overwrites, budget_ok, format, format_in, formatted, work}
@@ -47,7 +46,7 @@ formats s o fits e =
     y = format (blocks s) o
 
     ran : run_index (formatting o) (format (blocks s) o)
-        ≡ record { reply = plain Answer.Done; state = format (blocks s) o }
+        ≡ record { reply = plain (Ok tt); state = format (blocks s) o }
     ran =
         ap₂ (λ (a b : Bool). settled y (format_in a b (not (overwrites o) && in_use y) y))
         (legal-size s f.legal) f.numbers

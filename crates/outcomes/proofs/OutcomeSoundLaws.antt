@@ -1,12 +1,11 @@
 -- "After every accepted call and every step the store is sound" (docs/RULES.md 6.11), and as long as it was.
-use Rattle.std.specs.Prelude.{◌≡◌, Bool, true, false, not, ◌&&◌, List, ℕ, ◌*◌, ◌%◌, eqb, length}
+use Rattle.std.specs.Prelude.{◌≡◌, Bool, true, false, not, ◌&&◌, List, ℕ, ◌*◌, ◌%◌, eqb, length, Ok}
 use Rattle.std.proofs.Math.Path.{refl, subst}
 use Rattle.std.proofs.Common.{sym, ap, ap₂, ◌∙◌, arith, eqb-true, eq-eqb}
 use Rattle.lists.specs.ListsLaws.{and_left, and_right}
 use Rattle.lists.specs.Bytes.{Bytes}
 use Rattle.lists.specs.Block.{blocks}
 use Rattle.model.specs.declared.Order.{Order}
-use Rattle.model.specs.declared.Answer.{Answer}
 use Rattle.model.specs.Index.{Index}
 use Rattle.model.specs.Steps.{Step, next, stopped}
 use Rattle.model.specs.Calls.{size_ok, format_ok, overwrites, format, format_in}
@@ -77,7 +76,7 @@ encoded s t y h e z =
 pub record Formatted (s : List ℕ) (o : Order) : Type 0 where
   pub legal : length_ok s ≡ true
   pub numbers : format_ok o ≡ true
-  pub outcome : format_outcome s o ≡ record { answer = Answer.Done; store = encode (format (blocks s) o) }
+  pub outcome : format_outcome s o ≡ record { answer = Ok tt; store = encode (format (blocks s) o) }
   pub wf : WF (format (blocks s) o)
 
 pub format-done : (s : List ℕ) (o : Order) → CallFits (formatting o)

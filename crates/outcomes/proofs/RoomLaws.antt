@@ -1,15 +1,15 @@
 -- A store in the midst of a job, by the index that it is read as, and the first step of a work call.
-use Rattle.std.specs.Prelude.{◌≡◌, ◌≢◌, ◌↔◌, List, ℕ, suc, ◌≤◌}
+use Rattle.std.specs.Prelude.{◌≡◌, ◌≢◌, ◌↔◌, List, ℕ, suc, ◌≤◌, Ok}
 use Rattle.std.proofs.Math.Path.{refl, ap}
 use Rattle.std.proofs.Common.{sym, ◌∙◌, subst, arith, le-leb}
 use Rattle.std.proofs.Math.Bool.{true}
 use Rattle.lists.specs.Bytes.{Bytes}
 use Rattle.model.specs.declared.Stop.{Stop}
 use Rattle.model.specs.declared.Phase.{Phase}
-use Rattle.model.specs.declared.WorkAnswer.{WorkAnswer}
-use Rattle.model.specs.Answers.{work_steps, phase_new, standing_of}
+use Rattle.model.specs.Answers.{WorkAnswer, work_steps, phase_new, standing_of, work_of}
 use Rattle.model.specs.Index.{Job, idle, copying, clearing, Index, new_bucket, old_bucket}
 use Rattle.model.specs.Steps.{Step, next, stopped, step, iterate}
+use Rattle.model.proofs.AnswerLaws.{worked-same}
 use Rattle.model.specs.Calls.{phase_in, standing}
 use Rattle.model.specs.History.{phase_at}
 use Rattle.model.specs.Room.{NoStep}
@@ -68,13 +68,13 @@ module _ (s : List ℕ) (bytes : Bytes s) where
 
     -- it is not made, and the call stops for what it says, or one step at least is
     abbrev First : Step (List ℕ) → Type 0
-    First (stopped r) = answer ≡ WorkAnswer.Worked 0 r
+    First (stopped r) = answer ≡ Ok (work_of 0 r)
     First (next t) = 1 ≤ work_steps answer
 
     work-first : tested true s ≡ passed (decode s) → First (step_outcome s)
     work-first p = go (step_outcome s) refl
       where
-        told : answer ≡ WorkAnswer.Worked (iterate step_outcome (suc n) s).steps (iterate step_outcome (suc n) s).stop
+        told : answer ≡ Ok (work_of (iterate step_outcome (suc n) s).steps (iterate step_outcome (suc n) s).stop)
         told = unfold work_outcome in
             ap (λ (t : Tested). (work_on t s (iterate step_outcome (suc n) s)).answer)
             (subst (λ b. tested b s ≡ passed (decode s)) (sym (le-leb (suc n) 65535 ok)) p)
@@ -94,16 +94,16 @@ module _ (s : List ℕ) (bytes : Bytes s) where
       no_step : NoStep j x → step_outcome s ≡ stopped Stop.NoRoom
       no_step h = (step-stops s Stop.NoRoom).1 ((step-no_room x).1 (subst (λ (q : Job). NoStep q x) (sym i.job) h))
 
-      pub first_stops : (answer ≡ WorkAnswer.Worked 0 Stop.NoRoom) ↔ NoStep j x
+      pub first_stops : (answer ≡ Ok (work_of 0 Stop.NoRoom)) ↔ NoStep j x
       first_stops = (
         λ e. to e (step_outcome s) refl (work-first i.passes),
         λ h. rw (no_step h) at (work-first i.passes),
       )
         where
-          to : answer ≡ WorkAnswer.Worked 0 Stop.NoRoom → (r : Step (List ℕ)) → step_outcome s ≡ r → First r → NoStep j x
+          to : answer ≡ Ok (work_of 0 Stop.NoRoom) → (r : Step (List ℕ)) → step_outcome s ≡ r → First r → NoStep j x
           to e (next t) k f = absurd (omega (arith, ap work_steps e))
           to e (stopped r) k f =
-              let q : r ≡ Stop.NoRoom = cc in
+              let q : r ≡ Stop.NoRoom = (worked-same f e).1 in
               subst (λ (p : Job). NoStep p x) i.job
               ((step-no_room x).0 ((step-stops s Stop.NoRoom).0 (k ∙ ap stopped q)))
 

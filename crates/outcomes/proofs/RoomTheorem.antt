@@ -1,12 +1,11 @@
 -- ROOM FOR A SPLIT'S STEPS (docs/RULES.md 6.14), of stores and by work's answers: when work stops for room; with room
 -- the copying goes on, and the clearing always does.
-use Rattle.std.specs.Prelude.{◌≡◌, refl, ◌↔◌, ◌⊎◌, List, ℕ, zero, suc, ◌≤◌, ◌<◌}
+use Rattle.std.specs.Prelude.{◌≡◌, refl, ◌↔◌, ◌⊎◌, List, ℕ, zero, suc, ◌≤◌, ◌<◌, Ok}
 use Rattle.std.proofs.Common.{sym, ap, ◌∙◌, subst, inl, inr, ⊎_elim, arith}
 use Rattle.lists.specs.Bytes.{Bytes}
 use Rattle.model.specs.declared.Stop.{Stop}
 use Rattle.model.specs.declared.Phase.{Phase}
-use Rattle.model.specs.declared.WorkAnswer.{WorkAnswer}
-use Rattle.model.specs.Answers.{work_steps}
+use Rattle.model.specs.Answers.{work_steps, work_of}
 use Rattle.model.specs.Index.{copying, Index}
 use Rattle.model.specs.Steps.{stopped, copies_left}
 use Rattle.model.specs.History.{phase_at}
@@ -21,7 +20,7 @@ use Rattle.outcomes.proofs.RoomLaws.{step-stops, InJob, phase-read, first_stops,
 -- an accepted work call stops for room exactly when its budget is not spent and there is no room for the step that
 -- would come next (`NoStep`): a begin, or a copy; while clearing there always is
 pub work-stops-for-room : (s : List ℕ) (budget k : ℕ) (r : Stop)
-    → (work_outcome s budget).answer ≡ WorkAnswer.Worked k r
+    → (work_outcome s budget).answer ≡ Ok (work_of k r)
     → let y = decode (work_outcome s budget).store in (r ≡ Stop.NoRoom) ↔ ((k < budget) × NoStep y.job y)
 work-stops-for-room s budget k r e = (
   λ h. (let f = d.ended (λ q. never (let l = d.spent.0 q in cc)) in
@@ -44,7 +43,7 @@ module _ (s : List ℕ) (bytes : Bytes s) (n : ℕ) (ok : suc n ≤ 65535) {old 
   -- a copying step stops for room, and the call with it, exactly when an entry is left to copy, every page of the new
   -- bucket's chain is full, no bit is 0 and no block past the made ones is left
   pub copying-stops : phase_at on_store s ≡ Phase.Copying old new
-      → ((work_outcome s (suc n)).answer ≡ WorkAnswer.Worked 0 Stop.NoRoom)
+      → ((work_outcome s (suc n)).answer ≡ Ok (work_of 0 Stop.NoRoom))
       ↔ ((1 ≤ copies_left (decode s)) × NoPage (decode s) new)
   copying-stops p =
       let i = phase-read s bytes (Phase.Copying old new) p (λ e. never (cc)) in

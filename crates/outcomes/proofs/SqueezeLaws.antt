@@ -1,5 +1,5 @@
 -- An accepted squeeze of a store, by the index that it is read as.
-use Rattle.std.specs.Prelude.{◌≡◌, true, List, ℕ, suc, ◌*◌, ◌/◌, leb, length}
+use Rattle.std.specs.Prelude.{◌≡◌, true, List, ℕ, suc, ◌*◌, ◌/◌, leb, length, Ok}
 use Rattle.std.proofs.Math.Path.{refl, ap}
 use Rattle.std.proofs.Common.{sym, ◌∙◌, subst}
 use Rattle.std.proofs.Math.Option.{Option, none, some}
@@ -9,8 +9,7 @@ use Rattle.address.specs.Address.{split_from}
 use Rattle.page.specs.declared.Pair.{Pair}
 use Rattle.model.specs.declared.Refusal.{Refusal}
 use Rattle.model.specs.declared.Stop.{Stop}
-use Rattle.model.specs.declared.WorkAnswer.{WorkAnswer}
-use Rattle.model.specs.declared.StandingAnswer.{StandingAnswer}
+use Rattle.model.specs.Answers.{work_of}
 use Rattle.model.specs.Index.{Index, chain, entries_at}
 use Rattle.model.specs.Held.{matches, slack, count}
 use Rattle.model.specs.Steps.{stopped, iterate}
@@ -18,6 +17,7 @@ use Rattle.model.specs.Squeeze.{squeeze_step, squeeze, bucket_test, pages_for, p
 use Rattle.model.specs.Calls.{budget_ok, listed, lookup, phase_in, standing}
 use Rattle.model.specs.Machine.{of_squeeze, on_index}
 use Rattle.model.specs.WellFormed.{WF}
+use Rattle.model.proofs.AnswerLaws.{worked-same}
 use Rattle.model.proofs.FrameLaws.{SameJob, squeeze-frame}
 use Rattle.model.proofs.WorkLaws.{iterate-keeps}
 use Rattle.model.proofs.MachineLaws.{never, kind-unspent, iterate-ends}
@@ -79,24 +79,24 @@ module _ (s : List ℕ) (bytes : Bytes s) (b budget : ℕ) where
     pub stands : standing_outcome (squeeze_outcome s b budget).store ≡ standing_outcome s
 
   -- the index that both tests passed
-  passing : {k : ℕ} {r : Stop} → (squeeze_outcome s b budget).answer ≡ WorkAnswer.Worked k r
+  passing : {k : ℕ} {r : Stop} → (squeeze_outcome s b budget).answer ≡ Ok (work_of k r)
       → (x : Index) × (tested (budget_ok budget) s ≡ passed x) × (bucket_test x b ≡ none)
   unfolding squeeze_outcome
   passing {k} {r} e = go (tested (budget_ok budget) s) e
     where
       bucket : (q : Option Refusal) (x : Index)
-          → (work_on (unless_refused q x) s (iterate (squeeze_step_outcome b) budget s)).answer ≡ WorkAnswer.Worked k r
+          → (work_on (unless_refused q x) s (iterate (squeeze_step_outcome b) budget s)).answer ≡ Ok (work_of k r)
           → q ≡ none
       bucket none x e = refl
       bucket (some q) x e = never (cc)
 
       go : (t : Tested)
-          → (work_on (bucket_tested t b) s (iterate (squeeze_step_outcome b) budget s)).answer ≡ WorkAnswer.Worked k r
+          → (work_on (bucket_tested t b) s (iterate (squeeze_step_outcome b) budget s)).answer ≡ Ok (work_of k r)
           → (x : Index) × (t ≡ passed x) × (bucket_test x b ≡ none)
       go (failed q) e = never (cc)
       go (passed x) e = (x, refl, bucket (bucket_test x b) x e)
 
-  pub accepted : {k : ℕ} {r : Stop} → (squeeze_outcome s b budget).answer ≡ WorkAnswer.Worked k r → Accepted k r
+  pub accepted : {k : ℕ} {r : Stop} → (squeeze_outcome s b budget).answer ≡ Ok (work_of k r) → Accepted k r
   accepted {k} {r} e =
       let p = passing e in
       let x = p.0 in
@@ -107,7 +107,7 @@ module _ (s : List ℕ) (bytes : Bytes s) (b budget : ℕ) where
       of x w h n f =
           let q : squeeze_outcome s b budget
           ≡ record {
-            answer = WorkAnswer.Worked (squeeze b budget x).steps (squeeze b budget x).stop;
+            answer = Ok (work_of (squeeze b budget x).steps (squeeze b budget x).stop);
             store = encode (squeeze b budget x).state;
           } =
           ap (λ (t : List ℕ). squeeze_outcome t b budget) h ∙ squeeze-encode x w b budget n f in
@@ -115,11 +115,10 @@ module _ (s : List ℕ) (bytes : Bytes s) (b budget : ℕ) where
           let all = squeeze-all b budget x w in
           let y : Index = (squeeze b budget x).state in
           let t = ap (λ (c : WorkDone). c.store) q in
-          let stops : WorkAnswer.Worked k r ≡ WorkAnswer.Worked (squeeze b budget x).steps (squeeze b budget x).stop =
-          sym e ∙ ap (λ (c : WorkDone). c.answer) q in
+          let told = ap (λ (c : WorkDone). c.answer) q in
           record {
             wf = subst WF (sym d) w;
-            stop = subst (λ (z : Index). r ≡ (squeeze b budget z).stop) (sym d) (cc);
+            stop = subst (λ (z : Index). r ≡ (squeeze b budget z).stop) (sym d) (worked-same e told).1;
             read = ap decode t ∙ (encoding-is-sound y all.0).read ∙ ap (λ (z : Index). (squeeze b budget z).state) (sym d);
             lookups = λ i out.
                 ap (λ (u : List ℕ). lookup_outcome u i out) t ∙ lookup-encode y all.0 i out
@@ -127,11 +126,11 @@ module _ (s : List ℕ) (bytes : Bytes s) (b budget : ℕ) where
                 ∙ sym (ap (λ (u : List ℕ). lookup_outcome u i out) h ∙ lookup-encode x w i out);
             stands =
                 ap standing_outcome t ∙ standing-encode y all.0
-                ∙ ap StandingAnswer.Stands (same-standing x y (same-job b budget x) all.1)
+                ∙ ap Ok (same-standing x y (same-job b budget x) all.1)
                 ∙ sym (ap standing_outcome h ∙ standing-encode x w);
           }
 
-  pub squeeze-pages : {k : ℕ} → (squeeze_outcome s b budget).answer ≡ WorkAnswer.Worked k Stop.Idle
+  pub squeeze-pages : {k : ℕ} → (squeeze_outcome s b budget).answer ≡ Ok (work_of k Stop.Idle)
       → let t = decode (squeeze_outcome s b budget).store in pages_of (chain t b) ≡ pages_for (length (entries_at t b))
   squeeze-pages e =
       let a = accepted e in

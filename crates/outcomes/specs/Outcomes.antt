@@ -2,17 +2,14 @@
 -- order is 1, 2, 3, 4, 8, 5 or 6, 7. Format tests 1, 2 and 12 only, in this order. Every refusal leaves store and
 -- output untouched, but for work and squeeze (6.7, 6.13). Squeeze tests 1, 2 (the budget), 3, 4, 2 (the bucket), 11,
 -- in this order."
-use Rattle.std.specs.Prelude.{Bool, true, false, cond, not, ◌&&◌, List, ℕ}
+use Rattle.std.specs.Prelude.{Bool, true, false, cond, not, ◌&&◌, List, ℕ, Ok, Err}
 use Rattle.std.proofs.Math.Option.{Option, none, some}
 use Rattle.lists.specs.Block.{blocks}
 use Rattle.endian.specs.Endian.{u32_at}
 use Rattle.page.specs.declared.Pair.{Pair}
 use Rattle.model.specs.declared.Order.{Order}
 use Rattle.model.specs.declared.Refusal.{Refusal}
-use Rattle.model.specs.declared.Answer.{Answer}
-use Rattle.model.specs.declared.LookupAnswer.{LookupAnswer}
-use Rattle.model.specs.declared.WorkAnswer.{WorkAnswer}
-use Rattle.model.specs.declared.StandingAnswer.{StandingAnswer}
+use Rattle.model.specs.Answers.{Answer, WorkAnswer, StandingAnswer, work_of}
 use Rattle.model.specs.Index.{Index}
 use Rattle.model.specs.Steps.{Step, next, stopped, Worked, step, iterate}
 use Rattle.model.specs.Squeeze.{squeeze_step, bucket_test}
@@ -68,7 +65,7 @@ store_in_use s = in_use_on (tested true s)
 
 unfoldable pub in_use_outcome : List ℕ → Answer
 in_use_outcome s =
-    cond (length_ok s) (cond (store_in_use s) (Answer.Refused Refusal.InUse) Answer.Done) (Answer.Refused Refusal.Length)
+    cond (length_ok s) (cond (store_in_use s) (Err Refusal.InUse) (Ok tt)) (Err Refusal.Length)
 
 -- ---- format, insert, remove
 
@@ -78,10 +75,10 @@ pub record Changed : Type 0 where
   pub store : List ℕ
 
 abbrev pub refusing : List ℕ → Refusal → Changed
-refusing s r = record { answer = Answer.Refused r; store = s }
+refusing s r = record { answer = Err r; store = s }
 
 abbrev pub changed : List ℕ → Result → Changed
-changed s (done y) = record { answer = Answer.Done; store = encode y }
+changed s (done y) = record { answer = Ok tt; store = encode y }
 changed s (refused r) = refusing s r
 
 -- a format of `new`, which takes the place of `old`: 12 is tested of `old`
@@ -110,15 +107,15 @@ remove_outcome s p = remove_on (tested (pair_ok p) s) s p
 -- ---- lookup and standing
 
 abbrev pub lookup_on : Tested → (hash : ℕ) → List ℕ → Looked
-lookup_on (failed r) h out = record { answer = LookupAnswer.Refused r; output = out }
+lookup_on (failed r) h out = record { answer = Err r; output = out }
 lookup_on (passed x) h out = lookup x h out
 
 unfoldable pub lookup_outcome : List ℕ → (hash : ℕ) → (output : List ℕ) → Looked
 lookup_outcome s h out = lookup_on (tested true s) h out
 
 abbrev pub standing_on : Tested → StandingAnswer
-standing_on (failed r) = StandingAnswer.Refused r
-standing_on (passed x) = StandingAnswer.Stands (standing x)
+standing_on (failed r) = Err r
+standing_on (passed x) = Ok (standing x)
 
 unfoldable pub standing_outcome : List ℕ → StandingAnswer
 standing_outcome s = standing_on (tested true s)
@@ -139,8 +136,8 @@ pub record WorkDone : Type 0 where
   pub store : List ℕ
 
 abbrev pub work_on : Tested → List ℕ → Worked (List ℕ) → WorkDone
-work_on (failed r) s w = record { answer = WorkAnswer.Refused r; store = s }
-work_on (passed x) s w = record { answer = WorkAnswer.Worked w.steps w.stop; store = w.state }
+work_on (failed r) s w = record { answer = Err r; store = s }
+work_on (passed x) s w = record { answer = Ok (work_of w.steps w.stop); store = w.state }
 
 unfoldable pub work_outcome : List ℕ → (budget : ℕ) → WorkDone
 work_outcome s budget = work_on (tested (budget_ok budget) s) s (iterate step_outcome budget s)

@@ -1,10 +1,6 @@
 -- The refusals by a call's tests, of each call but format: "The order is 1, 2, 3, 4, .. Format tests 1, 2 and 12 only"
-use Rattle.std.specs.Prelude.{Bool, true}
+use Rattle.std.specs.Prelude.{Bool, true, Err}
 use Rattle.model.specs.declared.Refusal.{Refusal}
-use Rattle.model.specs.declared.Answer.{Answer}
-use Rattle.model.specs.declared.LookupAnswer.{LookupAnswer}
-use Rattle.model.specs.declared.WorkAnswer.{WorkAnswer}
-use Rattle.model.specs.declared.StandingAnswer.{StandingAnswer}
 use Rattle.model.specs.Calls.{format_ok, pair_ok, budget_ok}
 use Rattle.model.specs.Machine.{Call, formatting, inserting, removing, looking, working, squeezing, asking, Reply}
 use Rattle.model.specs.Machine.{plain, looked, worked, stands}
@@ -28,10 +24,10 @@ Tests (has_steps kind budget) = Unit {0}
 
 -- a call's answer when it is refused; a lookup's output stays
 abbrev pub refused_as : Call → Refusal → Reply
-refused_as (formatting o) r = plain (Answer.Refused r)
-refused_as (inserting p) r = plain (Answer.Refused r)
-refused_as (removing p) r = plain (Answer.Refused r)
-refused_as (looking h out) r = looked (record { answer = LookupAnswer.Refused r; output = out })
-refused_as (working budget) r = worked (WorkAnswer.Refused r)
-refused_as (squeezing b budget) r = worked (WorkAnswer.Refused r)
-refused_as asking r = stands (StandingAnswer.Refused r)
+refused_as (formatting o) r = plain (Err r)
+refused_as (inserting p) r = plain (Err r)
+refused_as (removing p) r = plain (Err r)
+refused_as (looking h out) r = looked (record { answer = Err r; output = out })
+refused_as (working budget) r = worked (Err r)
+refused_as (squeezing b budget) r = worked (Err r)
+refused_as asking r = stands (Err r)

@@ -1,13 +1,13 @@
 -- A plan: a change, with its images, that makes the store of one index that of another; and what planned calls, steps and puts
 -- come to.
-use Rattle.std.specs.Prelude.{◌≡◌, ◌≢◌, Bool, true, false, List, ℕ}
+use Rattle.std.specs.Prelude.{◌≡◌, ◌≢◌, Bool, true, false, List, ℕ, Ok, Err}
 use Rattle.std.proofs.Math.Option.{Option, none, some}
 use Rattle.lists.specs.Block.{block}
 use Rattle.store.specs.declared.Change.{Change}
 use Rattle.store.specs.Change.{Fits}
 use Rattle.store.specs.Finish.{finished}
 use Rattle.model.specs.declared.Refusal.{Refusal}
-use Rattle.model.specs.declared.Answer.{Answer}
+use Rattle.model.specs.Answers.{Answer}
 use Rattle.model.specs.declared.Stop.{Stop}
 use Rattle.model.specs.Index.{Index}
 use Rattle.model.specs.Steps.{Step, next, stopped}
@@ -25,8 +25,8 @@ pub record Plans (s : List ℕ) (c : Change) (images : List ℕ) (y : Index) : T
 module _ (s : List ℕ) (c : Change) (images : List ℕ) where
   -- a call: the accepted one is planned, a refused one changes nothing
   pub data Settles : Result → Answer → Type 0 where
-    accepted : {y : Index} → Plans s c images y → Settles (done y) Answer.Done
-    declined : {r : Refusal} → c.count ≡ 0 → Settles (refused r) (Answer.Refused r)
+    accepted : {y : Index} → Plans s c images y → Settles (done y) (Ok tt)
+    declined : {r : Refusal} → c.count ≡ 0 → Settles (refused r) (Err r)
 
   -- a step
   pub data Advances : Step Index → Advance → Type 0 where

@@ -1,8 +1,7 @@
 // What a call or a step would change, as a change of some blocks: planning reads the store and writes nothing to it.
 #![tactic(auto)]
 
-ghost use Rattle.std.specs.Prelude.{◌≡◌};
-ghost use Rattle.model.specs.declared.Answer.{Answer};
+ghost use Rattle.std.specs.Prelude.{◌≡◌, Err};
 ghost use Rattle.plan.specs.declared.Advance.{Advance};
 ghost use Rattle.plan.specs.Fields.{fields_of};
 
@@ -41,10 +40,10 @@ pub struct PutPlan {
 
 // The plan of a refused call.
 pub fn refuse(refusal: Refusal) -> Plan
-    ensures { (result.answer ≡ Answer.Refused refusal) × (result.change.count ≡ 0) }
+    ensures { (result.answer ≡ Err refusal) × (result.change.count ≡ 0) }
 {
     Plan {
-        answer: Answer::Refused(refusal),
+        answer: Err(refusal),
         change: new_draft(),
     }
 }

@@ -1,5 +1,5 @@
 -- What a removal comes to, by where the pair is held.
-use Rattle.std.specs.Prelude.{◌≡◌, ◌≢◌, Bool, List, ℕ, ◌-◌, ◌≤◌, Some, None}
+use Rattle.std.specs.Prelude.{◌≡◌, ◌≢◌, Bool, List, ℕ, ◌-◌, ◌≤◌, Some, None, Ok, Err}
 use Rattle.std.proofs.Math.Path.{refl, sym, ap, ap₂, subst₂}
 use Rattle.std.proofs.Common.{◌∙◌, subst, arith}
 use Rattle.std.proofs.Math.Bool.{true, false}
@@ -8,7 +8,7 @@ use Rattle.lists.specs.ListsLaws.{eqb-eq}
 use Rattle.page.specs.declared.Pair.{Pair}
 use Rattle.store.specs.declared.Change.{Change}
 use Rattle.model.specs.declared.Refusal.{Refusal}
-use Rattle.model.specs.declared.Answer.{Answer}
+use Rattle.model.specs.Answers.{Answer}
 use Rattle.model.specs.Index.{Job, idle, copying, clearing, Index, bucket, new_bucket, old_bucket}
 use Rattle.model.specs.Pages.{cut}
 use Rattle.model.specs.Held.{held, count}
@@ -69,7 +69,7 @@ module _ {s : List ℕ} {m : Meta} (r : Reads s m) (p : Pair) (ok : pair_ok p �
   removed h = ap₂ (λ (a b : Bool). remove_in a b x p) ok h
 
   pub refused_none : {c : Change} {images : List ℕ} {a : Answer} → held_at (decode s) p ≡ None
-      → a ≡ Answer.Refused Refusal.NotHeld → c.count ≡ 0 → Settles s c images (remove (decode s) p) a
+      → a ≡ Err Refusal.NotHeld → c.count ≡ 0 → Settles s c images (remove (decode s) p) a
   unfolding remove
   refused_none {c} {images} h e z =
       subst₂ (Settles s c images)
@@ -88,8 +88,8 @@ module _ {s : List ℕ} {m : Meta} (r : Reads s m) (p : Pair) (ok : pair_ok p �
     done-some = omega (arith, remove-count x r.wf p y e, reads-count r)
 
     pub settled : {c : Change} {images : List ℕ} → Plans s c images y
-        → Settles s c images (remove (decode s) p) Answer.Done
-    settled {c} {images} g = subst (λ (t : Result). Settles s c images t Answer.Done) (sym e) (accepted g)
+        → Settles s c images (remove (decode s) p) (Ok tt)
+    settled {c} {images} g = subst (λ (t : Result). Settles s c images t (Ok tt)) (sym e) (accepted g)
 
   module _ (f : Found) (found : held_at (decode s) p ≡ Some f) where
     pub done-any : remove (decode s) p

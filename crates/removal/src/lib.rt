@@ -111,7 +111,7 @@ pub fn plan_remove(store: &[u8], m: Meta, pair: Pair, images: &mut [u8]) -> Plan
         Sources::Both { new, old } => plan_cuts(store, m, new, old, pair, held, images),
     };
     Plan {
-        answer: Answer::Done,
+        answer: Ok(()),
         change,
     }
 }

@@ -1,5 +1,5 @@
 -- The matches of a hash code can be written where there is room; and the answer, by their number.
-use Rattle.std.specs.Prelude.{◌≡◌, Bool, List, ℕ, ◌/◌, ◌≤◌, ◌<◌, length, take}
+use Rattle.std.specs.Prelude.{◌≡◌, Bool, List, ℕ, ◌/◌, ◌≤◌, ◌<◌, length, take, Ok, Err}
 use Rattle.std.proofs.Math.Path.{sym}
 use Rattle.std.proofs.Common.{ap, ◌∙◌, arith, le-leb}
 use Rattle.std.proofs.lemmas.Bool.{lt-leb}
@@ -7,7 +7,6 @@ use Rattle.page.specs.Pair.{ascending}
 use Rattle.model.specs.Index.{Index}
 use Rattle.model.specs.Held.{self, matches}
 use Rattle.model.specs.declared.Refusal.{Refusal}
-use Rattle.model.specs.declared.LookupAnswer.{LookupAnswer}
 use Rattle.model.specs.Calls.{lookup}
 use Rattle.image.specs.declared.Meta.{Meta}
 use Rattle.image.specs.Decode.{decode}
@@ -34,15 +33,15 @@ module _ {s : List ℕ} {m : Meta} (r : Reads s m) (h : ℕ) {own : List ℕ} {n
 
 module _ (x : Index) (h : ℕ) (out : List ℕ) (n : ℕ) (number : n ≡ length (matches x h)) where
   pub lookup-short : length out / 6 < n
-      → lookup x h out ≡ record { answer = LookupAnswer.Refused (Refusal.OutputShort n); output = out }
+      → lookup x h out ≡ record { answer = Err (Refusal.OutputShort n); output = out }
   unfolding lookup
   lookup-short l =
       rw (lt-leb (length (matches x h)) (length out / 6) (omega (arith, number)))
-      (ap (λ (k : ℕ). record { answer = LookupAnswer.Refused (Refusal.OutputShort k); output = out }) (sym number))
+      (ap (λ (k : ℕ). record { answer = Err (Refusal.OutputShort k); output = out }) (sym number))
 
   pub lookup-written : (out' : List ℕ) → n ≤ length out / 6 → out' ≡ written (matches x h) out
-      → lookup x h out ≡ record { answer = LookupAnswer.Found n; output = out' }
+      → lookup x h out ≡ record { answer = Ok n; output = out' }
   unfolding lookup written
   lookup-written out' l e =
       rw (le-leb (length (matches x h)) (length out / 6) (omega (arith, number)))
-      (λ i. record { answer = LookupAnswer.Found (sym number i); output = sym e i })
+      (λ i. record { answer = Ok (sym number i); output = sym e i })

@@ -151,8 +151,8 @@ pub fn lookup_in(store: &[u8], m: Meta, hash: u32, output: &mut [u8]) -> LookupA
     let k = walks.old;
     let matches = count_along(store, &own[..n], &old[..k], hash, walks.fresh);
     if output.len() / 6 < matches as usize {
-        return LookupAnswer::Refused(Refusal::OutputShort { matches });
+        return Err(Refusal::OutputShort { matches });
     }
     put_matches(store, &own[..n], &old[..k], output, hash, walks.fresh);
-    LookupAnswer::Found { matches }
+    Ok(matches)
 }

@@ -1,7 +1,7 @@
 use mathlib.Core.Path.{refl, ap, ◌∙◌}
 use borrow.Author.Tests.{lt-ltb, le-ltb}
 use lib.ListN.{length}
-use Rattle.model.specs.declared.StandingAnswer.{StandingAnswer}
+use Rattle.model.specs.Answers.{StandingAnswer}
 use Rattle.amiqsovik.specs.Words.{standing_word}
 use Rattle.amiqsovik.specs.Result.{shown, standing_told}
 use borrow.Author.Rules.{rules}

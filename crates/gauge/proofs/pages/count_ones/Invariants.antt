@@ -1,10 +1,7 @@
-use Rattle.std.proofs.Common.{◌≡◌, ◌≤◌, ◌-◌}
+use Rattle.std.proofs.Common.{◌≡◌}
 use Rattle.gauge.specs.Ones.{ones_in}
 use Rattle.gauge.proofs.pages.count_ones.Given as goal
 
 -- the bits before `n` are counted
 abbrev pub invariant-loop-n : goal.invariant-loop-n
-invariant-loop-n l = (l.n ≤ l.top) × (l.ones ≡ ones_in l.map l.n)
-
-abbrev pub decreases-loop-n : goal.decreases-loop-n
-decreases-loop-n l = l.top - l.n
+invariant-loop-n l = l.ones ≡ ones_in l.map l.n

@@ -1,13 +1,15 @@
 use Rattle.std.proofs.Common.{◌≡◌, refl, sym, ap, subst, ◌∙◌, true, false, List, ℕ, length, leb}
 use borrow.Author.Tests.{ne_eqb, le-leb, lt-leb}
-use Rattle.model.specs.declared.PlaceAnswer.{PlaceAnswer}
+use Rattle.std.specs.Prelude.{Err}
+use Rattle.std.proofs.lemmas.Result.{err_from_is_err_and}
+use Rattle.model.specs.declared.LentError.{LentError}
 use Rattle.image.specs.Rules.{length_ok}
 use Rattle.chain.specs.WalkLaws.{length_ok-sized}
 use Rattle.journal.specs.Journal.{disk, sixteen, do_store}
 use Rattle.journal.specs.Planned.{plan_store}
 use Rattle.cuts.specs.Halves.{store_outcome}
 use Rattle.index.specs.HalvesLaws.{place-there, place-few, place-below, place_inside}
-use Rattle.index.specs.HalvesLaws.{store-done, store-refused, store-never}
+use Rattle.index.specs.HalvesLaws.{store-done, store-refused}
 use Rattle.index.proofs.halves.do_store.Goals as goal
 
 pub returns-then-plan-lt5632 : goal.returns-then-plan-lt5632
@@ -31,10 +33,24 @@ returns-in_default c =
     let no : sixteen c.args.journal.now ≡ false = ne_eqb _ 8192 c.in_default.ensures.cases in
     rw (room, legal, no) refl
 
+pub returns-in_err-place : goal.returns-in_err-place
+returns-in_err-place c =
+    let a = c.args in
+    let p = err_from_is_err_and c.from_residual.result c.from_residual.ensures.1 in
+    rw (p.1, p.2)
+    (store-refused a.store.now a.journal.now a.plan.now a.n c.if-plan-lt5632.false (sym c.if-not-check_length.ensures)
+    c.in-Some.ensures.cases.long c.store_place.ensures c.in_err-place.was
+    ∙ ap
+    (λ (j : List ℕ). record {
+      answer = Err (LentError.Refused c.in_err-place.field-0.0);
+      disk = disk a.store.now j;
+    })
+    (sym c.in-Some.ensures.cases.same))
+
 pub store_planned-requires-clause-plan_bound : goal.store_planned-requires-clause-plan_bound
 store_planned-requires-clause-plan_bound c =
     let a = c.args in
-    let ok = place-there a.store.now a.journal.now a.plan.now a.n c.store_place-place.ensures c.in-At.is in (
+    let ok = place-there a.store.now a.journal.now a.plan.now a.n c.store_place.ensures c.in_ok-place.was in (
       place-few a.store.now a.journal.now a.plan.now a.n ok,
       place-below a.store.now a.journal.now a.plan.now a.n ok,
     )
@@ -42,34 +58,16 @@ store_planned-requires-clause-plan_bound c =
 pub store_planned-requires-clause-by_index : goal.store_planned-requires-clause-by_index
 store_planned-requires-clause-by_index c =
     let a = c.args in
-    let legal : length_ok a.store.now ≡ true = sym c.check_length.ensures ∙ c.if-not-check_length.false in
     place_inside a.store.now a.journal.now a.plan.now a.n
-    (place-there a.store.now a.journal.now a.plan.now a.n c.store_place-place.ensures c.in-At.is)
-    (length_ok-sized _ legal).whole
+    (place-there a.store.now a.journal.now a.plan.now a.n c.store_place.ensures c.in_ok-place.was)
+    (length_ok-sized _ (sym c.if-not-check_length.ensures)).whole
 
-pub returns-in-Short : goal.returns-in-Short
-returns-in-Short c =
-    let a = c.args in
-    store-never a.store.now a.journal.now a.plan.now a.n c.if-plan-lt5632.false
-    (sym c.check_length.ensures ∙ c.if-not-check_length.false) c.in-Some.ensures.cases.long
-    c.store_place-place.ensures c.in-Short.is
-
-pub returns-in-Refused : goal.returns-in-Refused
-returns-in-Refused c =
-    let a = c.args in
-    store-refused a.store.now a.journal.now a.plan.now a.n c.if-plan-lt5632.false
-    (sym c.check_length.ensures ∙ c.if-not-check_length.false) c.in-Some.ensures.cases.long
-    c.store_place-place.ensures _ c.in-Refused.is
-    ∙ ap (λ (j : List ℕ). record { answer = PlaceAnswer.Refused c.in-Refused.refusal; disk = disk a.store.now j })
-    (sym c.in-Some.ensures.cases.same)
-
-pub returns-in-At : goal.returns-in-At
-returns-in-At c =
+pub returns : goal.returns
+returns c =
     let a = c.args in
     let done = c.store_planned.new in
-    store-done a.store.now a.journal.now a.plan.now a.n c.if-plan-lt5632.false
-    (sym c.check_length.ensures ∙ c.if-not-check_length.false) c.in-Some.ensures.cases.long
-    c.store_place-place.ensures _ _ c.in-At.is
+    store-done a.store.now a.journal.now a.plan.now a.n c.if-plan-lt5632.false (sym c.if-not-check_length.ensures)
+    c.in-Some.ensures.cases.long c.store_place.ensures c.in_ok-place.was
     (subst
     (λ (j : List ℕ). do_store (plan_store a.plan.now a.n) (disk a.store.now j) ≡ disk done.store done.journal)
     c.in-Some.ensures.cases.same c.store_planned.ensures)

@@ -38,29 +38,29 @@ enum-known-answer c = search rules
 enum_told : tie.Need-enum_told-1
 enum_told c = search rules
 
-same_length : tie.Need-shape_of-images-in-Refused
+same_length : tie.Need-shape_of-images-in-Err
 same_length c = search rules
 
-same-length-2 : tie.Need-shape_of-buffer-in-Refused
+same-length-2 : tie.Need-shape_of-buffer-in-Err
 same-length-2 c = search rules
 
-returns : tie.Need-returns-in-Refused
+returns : tie.Need-returns-in-Err
 returns c =
     let a = c.args in
     settles-declined a.store.now c.plan_remove-plan.result.change (images c.before.before.before.before.before.before.before.before) a.buffer.now _ _
-    c.lay_change-stores.ensures.0 c.lay_change-stores.ensures.1 (settled c.before.before.before.before.before.before.before.before) _ c.in-Refused.is
+    c.lay_change-stores.ensures.0 c.lay_change-stores.ensures.1 (settled c.before.before.before.before.before.before.before.before) _ c.in-Err.is
 
-same-length-3 : tie.Need-shape_of-images-in-Done
+same-length-3 : tie.Need-shape_of-images-in-Ok
 same-length-3 c = search rules
 
-same-length-4 : tie.Need-shape_of-buffer-in-Done
+same-length-4 : tie.Need-shape_of-buffer-in-Ok
 same-length-4 c = search rules
 
-returns-2 : tie.Need-returns-in-Done
+returns-2 : tie.Need-returns-in-Ok
 returns-2 c =
     let a = c.args in
     settles-laid a.store.now c.plan_remove-plan.result.change (images c.before.before.before.before.before.before.before.before) a.buffer.now _ _
-    c.lay_change-stores.ensures.0 c.lay_change-stores.ensures.1 (settled c.before.before.before.before.before.before.before.before) c.in-Done.is
+    c.lay_change-stores.ensures.0 c.lay_change-stores.ensures.1 (settled c.before.before.before.before.before.before.before.before) c.in-Ok.is
 
 pub lay_remove_spec : {M : Type 1} → statement M
 lay_remove_spec =

@@ -2,7 +2,8 @@ use Rattle.std.proofs.Common.{◌≡◌, refl, sym, ap, subst, ◌∙◌, true, 
 use Rattle.std.proofs.Math.Option.{Option, none, some}
 use borrow.Author.Tests.{eq-eqb, ne_eqb, lt-ltb, le-ltb}
 use Rattle.lists.specs.Block.{blocks}
-use Rattle.model.specs.declared.PlaceAnswer.{PlaceAnswer}
+use Rattle.std.specs.Prelude.{Ok}
+use Rattle.model.specs.declared.Place.{Place}
 use Rattle.image.specs.Rules.{length_ok}
 use Rattle.journal.specs.Journal.{disk, sixteen, holds, image_for}
 use Rattle.cuts.specs.Journalled.{look_place, look_outcome}
@@ -43,7 +44,7 @@ returns-in-Some-image_for c =
     subst (λ (j : List ℕ). image_for (holds (disk s j)) j k ≡ some i) same c.in-Some-image_for.ensures.1
     in
     rw (legal, long, below)
-    (ap (λ (n : ℕ). PlaceAnswer.At true n) (add-one i) ∙ sym (ap (λ (o : Option ℕ). look_place o k) found))
+    (ap (λ (n : ℕ). Ok (Place.Journal n)) (add-one i) ∙ sym (ap (λ (o : Option ℕ). look_place o k) found))
 
 pub returns-in-None : goal.returns-in-None
 unfolding look_outcome blocks

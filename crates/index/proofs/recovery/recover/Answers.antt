@@ -1,6 +1,6 @@
 use Rattle.std.proofs.Common.{◌≡◌, refl, sym, ap, ◌∙◌, true, false, List, ℕ}
 use borrow.Author.Tests.{eq-eqb, ne_eqb}
-use Rattle.model.specs.declared.Answer.{Answer}
+use Rattle.std.specs.Prelude.{Ok}
 use Rattle.image.specs.Rules.{length_ok}
 use Rattle.chain.specs.WalkLaws.{length_ok-sized}
 use Rattle.journal.specs.Journal.{Disk, disk, sixteen, recover}
@@ -31,5 +31,5 @@ returns c =
     let long : sixteen c.args.journal.now ≡ true = eq-eqb _ 8192 c.in-Some.ensures.cases.long in
     let same = c.in-Some.ensures.cases.same in
     rw (legal, long)
-    (ap (λ (j : List ℕ). record { answer = Answer.Done; disk = recover (disk c.args.store.now j) }) (sym same)
-    ∙ ap (λ (d : Disk). record { answer = Answer.Done; disk = d }) c.recover_store.ensures)
+    (ap (λ (j : List ℕ). record { answer = Ok tt; disk = recover (disk c.args.store.now j) }) (sym same)
+    ∙ ap (λ (d : Disk). record { answer = Ok tt; disk = d }) c.recover_store.ensures)
