@@ -1,10 +1,10 @@
 -- A block made unused, and a page made anew.
-use mathlib.Core.Path.{◌≡◌, ap, ◌∙◌}
+use mathlib.Core.Path.{◌≡◌, sym, ap, ◌∙◌}
 use mathlib.Core.List.{List, [], ◌++◌, append_assoc}
-use Prim.Native.Nat.{ℕ, ◌+◌}
+use Prim.Native.Nat.{ℕ, ◌+◌, ◌≤◌}
 use native.Mathlib.Omega.{arith}
-use lib.ListN.{length, drop, replicate, length-append, length-drop, length-replicate}
-use lib.Seq.{sets, sets-eq, take_at, drop-drop, drop-append-add}
+use lib.ListN.{length, take, drop, replicate, length-append, length-drop, length-replicate}
+use lib.Seq.{sets, sets-eq, take_at, drop-drop, drop-append-add, length-take-le}
 use Rattle.lists.specs.ZeroLaws.{zeros-front}
 use Rattle.endian.specs.Endian.{le16}
 use Rattle.page.specs.Entries.{encode_page}
@@ -33,3 +33,9 @@ pub length-empty : (b t : List ℕ) → length b ≡ 512 → length t ≡ 16 →
 length-empty b t h e =
     length-encode_page [] (t ++ drop 508 b) (omega arith)
     ∙ omega (arith, length-append t (drop 508 b), length-drop 508 b)
+
+-- the first n bytes are filled with zeros
+pub filled-front : (l z : List ℕ) (n : ℕ) → n ≤ length l → z ≡ replicate (length (take n l)) 0
+    → z ++ drop n l ≡ replicate n 0 ++ drop n l
+filled-front l z n h e =
+    ap (λ (x : List ℕ). x ++ drop n l) (e ∙ ap (λ (k : ℕ). replicate k 0) (length-take-le n l h))

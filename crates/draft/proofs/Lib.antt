@@ -1,4 +1,6 @@
 pub mod Shifting
+pub mod Moving
+pub mod Searching
 pub mod Opening
 pub mod Editing
 pub mod Clearing

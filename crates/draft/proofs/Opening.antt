@@ -10,7 +10,7 @@ use Rattle.lists.specs.Block.{blocks, block}
 use Rattle.store.specs.declared.Change.{Change}
 use Rattle.store.specs.Change.{Fits}
 use Rattle.store.proofs.ChangeLaws.{commits-ext}
-use Rattle.draft.specs.declared.open.Place.TheVariants.{Absent}
+use Rattle.std.specs.Prelude.{Err}
 use Rattle.draft.specs.Draft.{Draft, Listed, Lists}
 use Rattle.draft.specs.DraftLaws.{length-draft, block-image, block-rest}
 use Rattle.draft.specs.Open.{PlaceOf, Inserted}
@@ -20,7 +20,7 @@ lists-already c k w =
     record { listed = w; keeps = λ j v. v; few = omega arith; same = λ v. refl }
 
 module _ {s : List ℕ} {c : Change} {images d : List ℕ} (g : Draft s c images d) (k at : ℕ)
-    (place : PlaceOf c.numbers c.count k (Absent at)) where
+    (place : PlaceOf c.numbers c.count k (Err at)) where
   abbrev old : ℕ → ℕ
   old j = get_or c.numbers j 0
 

@@ -6,53 +6,51 @@ ghost use Rattle.image.specs.Layout.{meta_front};
 ghost use Rattle.draft.specs.Draft.{Ready, Edited};
 ghost use Rattle.draft.specs.Bits.{with_bit, put_bit};
 
+use crate::Draft;
 use crate::open::open_block;
 use endian::{put_u16, put_u32};
 use image::Meta;
 use meta::put_meta;
-use store::Change;
 
 // Writes a 32-bit number at place `i` of block `k`.
-fn put_word(store: &[u8], change: Change, images: &mut [u8], k: u32, i: usize, value: u32) -> Change
-    requires by_index { (d : List ℕ) × Ready store.now change images.old d k }
+fn put_word(draft: &mut Draft, store: &[u8], k: u32, i: usize, value: u32)
+    requires by_index { (d : List ℕ) × Ready store.now draft.old.change draft.old.images d k }
     requires i_bound { i + 4 ≤ 512 }
-    ensures { Edited store.now change images.old k (λ b. sets b i (le32 value))
-        result images.new }
+    ensures { Edited store.now draft.old.change draft.old.images k (λ b. sets b i (le32 value))
+        draft.new.change draft.new.images }
 {
-    let opened = open_block(store, change, images, k);
-    let from = 512 * opened.at;
-    put_u32(&mut images[from..from + 512], i, value);
-    opened.change
+    let at = open_block(draft, store, k);
+    let from = 512 * at;
+    put_u32(&mut draft.images[from..from + 512], i, value);
 }
 
 // Writes the previous field.
-pub fn put_prev(store: &[u8], change: Change, images: &mut [u8], k: u32, prev: u32) -> Change
-    requires { (d : List ℕ) × Ready store.now change images.old d k }
-    ensures { Edited store.now change images.old k (λ b. sets b 492 (le32 prev))
-        result images.new }
+pub fn put_prev(draft: &mut Draft, store: &[u8], k: u32, prev: u32)
+    requires { (d : List ℕ) × Ready store.now draft.old.change draft.old.images d k }
+    ensures { Edited store.now draft.old.change draft.old.images k (λ b. sets b 492 (le32 prev))
+        draft.new.change draft.new.images }
 {
-    put_word(store, change, images, k, 492, prev)
+    put_word(draft, store, k, 492, prev);
 }
 
 // Writes the next field.
-pub fn put_next(store: &[u8], change: Change, images: &mut [u8], k: u32, next: u32) -> Change
-    requires { (d : List ℕ) × Ready store.now change images.old d k }
-    ensures { Edited store.now change images.old k (λ b. sets b 496 (le32 next))
-        result images.new }
+pub fn put_next(draft: &mut Draft, store: &[u8], k: u32, next: u32)
+    requires { (d : List ℕ) × Ready store.now draft.old.change draft.old.images d k }
+    ensures { Edited store.now draft.old.change draft.old.images k (λ b. sets b 496 (le32 next))
+        draft.new.change draft.new.images }
 {
-    put_word(store, change, images, k, 496, next)
+    put_word(draft, store, k, 496, next);
 }
 
 // Writes the flags.
-pub fn put_flags(store: &[u8], change: Change, images: &mut [u8], k: u32, flags: u16) -> Change
-    requires { (d : List ℕ) × Ready store.now change images.old d k }
-    ensures { Edited store.now change images.old k (λ b. sets b 504 (le16 flags))
-        result images.new }
+pub fn put_flags(draft: &mut Draft, store: &[u8], k: u32, flags: u16)
+    requires { (d : List ℕ) × Ready store.now draft.old.change draft.old.images d k }
+    ensures { Edited store.now draft.old.change draft.old.images k (λ b. sets b 504 (le16 flags))
+        draft.new.change draft.new.images }
 {
-    let opened = open_block(store, change, images, k);
-    let from = 512 * opened.at;
-    put_u16(&mut images[from..from + 512], 504, flags);
-    opened.change
+    let at = open_block(draft, store, k);
+    let from = 512 * at;
+    put_u16(&mut draft.images[from..from + 512], 504, flags);
 }
 
 // The byte with bit `j` set or cleared.
@@ -65,33 +63,24 @@ fn with_bit(x: u8, j: u32, value: bool) -> u8
 }
 
 // Sets or clears bit `n` of the bitmap in block `k`.
-pub fn put_bit(
-    store: &[u8],
-    change: Change,
-    images: &mut [u8],
-    k: u32,
-    n: u32,
-    value: bool,
-) -> Change
-    requires by_index { (d : List ℕ) × Ready store.now change images.old d k }
+pub fn put_bit(draft: &mut Draft, store: &[u8], k: u32, n: u32, value: bool)
+    requires by_index { (d : List ℕ) × Ready store.now draft.old.change draft.old.images d k }
     requires n_bound { n < 2048 }
-    ensures { Edited store.now change images.old k (λ b. put_bit b n value)
-        result images.new }
+    ensures { Edited store.now draft.old.change draft.old.images k (λ b. put_bit b n value)
+        draft.new.change draft.new.images }
 {
-    let opened = open_block(store, change, images, k);
-    let at = 512 * opened.at + (n / 8) as usize;
-    images[at] = with_bit(images[at], n % 8, value);
-    opened.change
+    let at = open_block(draft, store, k);
+    let byte = 512 * at + (n / 8) as usize;
+    draft.images[byte] = with_bit(draft.images[byte], n % 8, value);
 }
 
 // Writes the fields of the meta block.
-pub fn put_fields(store: &[u8], change: Change, images: &mut [u8], m: Meta) -> Change
-    requires { (d : List ℕ) × Ready store.now change images.old d 0 }
-    ensures { Edited store.now change images.old 0 (λ b. meta_front m ++ drop 492 b)
-        result images.new }
+pub fn put_fields(draft: &mut Draft, store: &[u8], m: Meta)
+    requires { (d : List ℕ) × Ready store.now draft.old.change draft.old.images d 0 }
+    ensures { Edited store.now draft.old.change draft.old.images 0 (λ b. meta_front m ++ drop 492 b)
+        draft.new.change draft.new.images }
 {
-    let opened = open_block(store, change, images, 0);
-    let from = 512 * opened.at;
-    put_meta(&mut images[from..from + 512], m);
-    opened.change
+    let at = open_block(draft, store, 0);
+    let from = 512 * at;
+    put_meta(&mut draft.images[from..from + 512], m);
 }

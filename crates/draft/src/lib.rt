@@ -8,24 +8,34 @@ pub mod edit; // edit.rt: links, flags, bits and fields of a block
 
 ghost use Rattle.std.specs.Prelude.{◌≡◌, List, ℕ, ◌*◌, length};
 ghost use Rattle.lists.specs.Block.{blocks};
-ghost use Rattle.draft.specs.Draft.{Draft};
+ghost use Rattle.draft.specs.Draft.{Draft as Drafts};
 
 use store::Change;
 
-// A change, and the place of one of its blocks.
-#[derive(Clone, Copy)]
-pub struct Opened {
+// A change, and the copies of its blocks, in the same order. Who plans is lent one, and says nothing of the images past
+// the change's count.
+#[derive(Drop)]
+pub struct Draft {
     pub change: Change,
-    pub at: usize,
+    pub images: [u8; 4096],
 }
 
 // A change of no block.
-pub fn new_draft() -> Change
-    ensures count_value { result.count ≡ 0 }
-    ensures by_index { (s images : List ℕ) → length s ≡ 512 * blocks s → length images ≡ 4096 → Draft s result images s }
+pub fn no_change() -> Change
+    ensures { result.count ≡ 0 }
 {
     Change {
         count: 0,
         numbers: [0; 8],
     }
+}
+
+// Makes a draft one of no block.
+pub fn clear(draft: &mut Draft)
+    ensures count_value { draft.new.change.count ≡ 0 }
+    ensures images_value { draft.new.images ≡ draft.old.images }
+    ensures by_index { (s : List ℕ) → length s ≡ 512 * blocks s
+        → Drafts s draft.new.change draft.new.images s }
+{
+    draft.change.count = 0;
 }

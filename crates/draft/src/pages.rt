@@ -7,102 +7,80 @@ ghost use Rattle.page.specs.Gap.{Room, Held};
 ghost use Rattle.store.specs.Store.{trailer};
 ghost use Rattle.draft.specs.Draft.{Ready, Edited, PageEdited};
 
+use crate::Draft;
 use crate::open::open_block;
-use endian::raw::zero_bytes;
 use page::Entry;
 use page::edit::{insert_entry, remove_entry};
-use store::{Change, put_trailer};
+use store::{Trailer, put_trailer};
 
 // Puts `e` into slot `slot` of the page in block `k`.
-pub fn insert_at(
-    store: &[u8],
-    change: Change,
-    images: &mut [u8],
-    k: u32,
-    slot: usize,
-    e: Entry,
-) -> Change
-    requires { (d : List ℕ) × Ready store.now change images.old d k × Room (block d k) slot }
-    ensures { PageEdited store.now change images.old k (insert_at slot e)
-        result images.new }
+pub fn insert_at(draft: &mut Draft, store: &[u8], k: u32, slot: usize, e: Entry)
+    requires { (d : List ℕ) × Ready store.now draft.old.change draft.old.images d k × Room (block d k) slot }
+    ensures { PageEdited store.now draft.old.change draft.old.images k (insert_at slot e)
+        draft.new.change draft.new.images }
 {
-    let opened = open_block(store, change, images, k);
-    let from = 512 * opened.at;
-    insert_entry(&mut images[from..from + 512], slot, e);
-    opened.change
+    let at = open_block(draft, store, k);
+    let from = 512 * at;
+    insert_entry(&mut draft.images[from..from + 512], slot, e);
 }
 
 // Takes the entry out of slot `slot` of the page in block `k`.
-pub fn remove_at(store: &[u8], change: Change, images: &mut [u8], k: u32, slot: usize) -> Change
-    requires { (d : List ℕ) × Ready store.now change images.old d k × Held (block d k) slot }
-    ensures { PageEdited store.now change images.old k (remove_at slot)
-        result images.new }
+pub fn remove_at(draft: &mut Draft, store: &[u8], k: u32, slot: usize)
+    requires { (d : List ℕ) × Ready store.now draft.old.change draft.old.images d k × Held (block d k) slot }
+    ensures { PageEdited store.now draft.old.change draft.old.images k (remove_at slot)
+        draft.new.change draft.new.images }
 {
-    let opened = open_block(store, change, images, k);
-    let from = 512 * opened.at;
-    remove_entry(&mut images[from..from + 512], slot);
-    opened.change
+    let at = open_block(draft, store, k);
+    let from = 512 * at;
+    remove_entry(&mut draft.images[from..from + 512], slot);
+}
+
+// Makes a block's bytes zero but for its check.
+fn zero_block(part: &mut [u8])
+    requires { length part.old ≡ 512 }
+    ensures { part.new ≡ replicate 508 0 ++ drop 508 part.old }
+{
+    part[..508].fill(0);
 }
 
 // Makes block `k` unused: bytes 0..507 are zero.
-pub fn clear_block(store: &[u8], change: Change, images: &mut [u8], k: u32) -> Change
-    requires { (d : List ℕ) × Ready store.now change images.old d k }
-    ensures { Edited store.now change images.old k (λ b. replicate 508 0 ++ drop 508 b)
-        result images.new }
+pub fn clear_block(draft: &mut Draft, store: &[u8], k: u32)
+    requires { (d : List ℕ) × Ready store.now draft.old.change draft.old.images d k }
+    ensures { Edited store.now draft.old.change draft.old.images k (λ b. replicate 508 0 ++ drop 508 b)
+        draft.new.change draft.new.images }
 {
-    let opened = open_block(store, change, images, k);
-    let from = 512 * opened.at;
-    zero_bytes(&mut images[from..from + 512], 0, 508);
-    opened.change
+    let at = open_block(draft, store, k);
+    let from = 512 * at;
+    zero_block(&mut draft.images[from..from + 512]);
 }
 
 // Makes a page of no entry.
-fn clear_page(part: &mut [u8], prev: u32, next: u32, bucket: u32, flags: u16)
+fn clear_page(part: &mut [u8], t: Trailer)
     requires { length part.old ≡ 512 }
     ensures { part.new
-        ≡ encode_page [] (trailer prev next bucket flags ++ drop 508 part.old) }
+        ≡ encode_page [] (trailer t.prev t.next t.bucket t.flags ++ drop 508 part.old) }
 {
-    zero_bytes(part, 0, 492);
-    put_trailer(part, prev, next, bucket, flags);
+    part[..492].fill(0);
+    put_trailer(part, t);
 }
 
 // Makes block `k` a page of no entry.
-pub fn write_empty(
-    store: &[u8],
-    change: Change,
-    images: &mut [u8],
-    k: u32,
-    prev: u32,
-    next: u32,
-    bucket: u32,
-    flags: u16,
-) -> Change
-    requires { (d : List ℕ) × Ready store.now change images.old d k }
-    ensures { Edited store.now change images.old k
-        (λ b. encode_page [] (trailer prev next bucket flags ++ drop 508 b)) result images.new }
+pub fn write_empty(draft: &mut Draft, store: &[u8], k: u32, t: Trailer)
+    requires { (d : List ℕ) × Ready store.now draft.old.change draft.old.images d k }
+    ensures { Edited store.now draft.old.change draft.old.images k
+        (λ b. encode_page [] (trailer t.prev t.next t.bucket t.flags ++ drop 508 b)) draft.new.change draft.new.images }
 {
-    let opened = open_block(store, change, images, k);
-    let from = 512 * opened.at;
-    clear_page(&mut images[from..from + 512], prev, next, bucket, flags);
-    opened.change
+    let at = open_block(draft, store, k);
+    let from = 512 * at;
+    clear_page(&mut draft.images[from..from + 512], t);
 }
 
 // Makes block `k` a page of the one entry `e`.
-pub fn write_page(
-    store: &[u8],
-    change: Change,
-    images: &mut [u8],
-    k: u32,
-    e: Entry,
-    prev: u32,
-    next: u32,
-    bucket: u32,
-    flags: u16,
-) -> Change
-    requires { (d : List ℕ) × Ready store.now change images.old d k }
-    ensures { Edited store.now change images.old k
-        (λ b. encode_page (e ∷ []) (trailer prev next bucket flags ++ drop 508 b)) result images.new }
+pub fn write_page(draft: &mut Draft, store: &[u8], k: u32, e: Entry, t: Trailer)
+    requires { (d : List ℕ) × Ready store.now draft.old.change draft.old.images d k }
+    ensures { Edited store.now draft.old.change draft.old.images k
+        (λ b. encode_page (e ∷ []) (trailer t.prev t.next t.bucket t.flags ++ drop 508 b)) draft.new.change draft.new.images }
 {
-    let empty = write_empty(store, change, images, k, prev, next, bucket, flags);
-    insert_at(store, empty, images, k, 0, e)
+    write_empty(draft, store, k, t);
+    insert_at(draft, store, k, 0, e);
 }

@@ -3,12 +3,12 @@ ghost use Rattle.std.specs.Prelude.{◌≡◌, List, ℕ, ◌+◌, ◌≤◌, �
 ghost use Rattle.lists.specs.Block.{block, set_block};
 ghost use Rattle.store.specs.Store.{covered};
 ghost use Rattle.store.specs.Change.{Fits};
-ghost use Rattle.draft.specs.Draft.{Draft};
+ghost use Rattle.draft.specs.Draft.{Draft as Drafts};
 ghost use Rattle.draft.specs.Trim.{alike, Kept, Trimmed};
 
-use crate::new_draft;
 use crate::open::copy_image;
-use store::{Change, block_at};
+use crate::{Draft, clear};
+use store::block_at;
 
 // Whether two blocks are the same but for their checks. Without an early return, so that the compiler vectorises it.
 fn same_bytes(a: &[u8], b: &[u8]) -> bool
@@ -16,50 +16,40 @@ fn same_bytes(a: &[u8], b: &[u8]) -> bool
     ensures { result ≡ alike (covered a.now) (covered b.now) }
 {
     let mut same = true;
-    let mut i = 0;
-    while i < 508 {
+    for i in 0..508 {
         if a[i] != b[i] {
             same = false;
         }
-        i += 1;
     }
     same
 }
 
 // Lists `k` after the blocks that are kept, with image `i`.
-fn keep_image(kept: Change, images: &mut [u8], i: usize, k: u32) -> Change
-    requires { (kept.count ≤ i) × (i < 8) × (length images.old ≡ 4096) }
-    ensures kept { Kept kept k result }
-    ensures images_after { images.new
-        ≡ set_block images.old kept.count (block images.old i) }
+fn keep_image(draft: &mut Draft, i: usize, k: u32)
+    requires { (draft.old.change.count ≤ i) × (i < 8) }
+    ensures kept { Kept draft.old.change k draft.new.change }
+    ensures images_after { draft.new.images
+        ≡ set_block draft.old.images draft.old.change.count (block draft.old.images i) }
 {
-    let count = kept.count;
-    let mut numbers = kept.numbers;
-    numbers[count] = k;
-    copy_image(images, i, count);
-    Change {
-        count: count + 1,
-        numbers,
-    }
+    let count = draft.change.count;
+    copy_image(&mut draft.images, i, count);
+    draft.change.numbers[count] = k;
+    draft.change.count = count + 1;
 }
 
-// The change without the blocks that it leaves as they are.
-pub fn drop_unchanged(store: &[u8], change: Change, images: &mut [u8]) -> Change
-    requires fits { Fits store.now change.numbers change.count }
-    requires images_len { length images.old ≡ 4096 }
-    ensures { (d : List ℕ) → Draft store.now change images.old d
-        → Trimmed store.now d result images.new }
+// Leaves out of the draft the blocks that it leaves as they are.
+pub fn drop_unchanged(draft: &mut Draft, store: &[u8])
+    requires { Fits store.now draft.old.change.numbers draft.old.change.count }
+    ensures { (d : List ℕ) → Drafts store.now draft.old.change draft.old.images d
+        → Trimmed store.now d draft.new.change draft.new.images }
 {
-    let count = change.count;
-    let numbers = change.numbers;
-    let mut kept = new_draft();
-    let mut i = 0;
-    while i < count {
+    let count = draft.change.count;
+    let numbers = draft.change.numbers;
+    clear(draft);
+    for i in 0..count {
         let k = numbers[i];
-        if !same_bytes(block_at(store, k as usize), block_at(images, i)) {
-            kept = keep_image(kept, images, i, k);
+        if !same_bytes(block_at(store, k as usize), block_at(&draft.images, i)) {
+            keep_image(draft, i, k);
         }
-        i += 1;
     }
-    kept
 }

@@ -1,7 +1,7 @@
 -- A planned change laid into a lent buffer answers what the first half of a call does.
 use Rattle.model.specs.declared.Listing.{Listing}
 use Rattle.model.specs.declared.LentError.{LentError}
-use Rattle.std.specs.Prelude.{◌≡◌, List, [], ℕ, length, Ok, Err}
+use Rattle.std.specs.Prelude.{◌≡◌, Result as Outcome, Ok, Err, List, [], ℕ, length}
 use Rattle.std.proofs.Common.{sym, ap, ◌∙◌}
 use Rattle.store.specs.declared.Change.{Change}
 use Rattle.store.specs.Store.{number_at}
@@ -22,7 +22,6 @@ use Rattle.journal.specs.Journal.{disk}
 use Rattle.journal.specs.Altered.{stores_to}
 use Rattle.journal.specs.Planned.{plan_to, plan_over}
 use Rattle.cuts.specs.Halves.{answering, planned_to, planned_as, planned_step}
-use Rattle.plan.specs.declared.Advance.{Advance}
 use Rattle.plan.specs.Plan.{Plans, Settles, accepted, declined, Advances, advanced, halted}
 use Rattle.index.specs.WrittenLaws.{none-lays}
 
@@ -60,20 +59,20 @@ module _ (s : List ℕ) (c : Change) (images buffer after : List ℕ) (n : ℕ)
     step_is : planned_step (disk s []) buffer (step_store k s) ≡ planned_step (disk s []) buffer (step_on q)
     step_is = ap (planned_step (disk s []) buffer) (step-read k s ∙ ap step_on is)
 
-    pub advances-laid : {a : Advance} → Advances s c images q a → a ≡ Advance.Next
+    pub advances-laid : {X : Type 0} {a : Outcome X Stop} → Advances s c images q a → {x : X} → a ≡ Ok x
         → planned_step (disk s []) buffer (step_store k s) ≡ record { answer = Ok (Listing.Stores n); plan = after }
     advances-laid h e = step_is ∙ go h e
       where
-        go : {q : Step Index} {a : Advance} → Advances s c images q a → a ≡ Advance.Next
+        go : {X : Type 0} {q : Step Index} {a : Outcome X Stop} → Advances s c images q a → {x : X} → a ≡ Ok x
             → planned_step (disk s []) buffer (step_on q) ≡ record { answer = Ok (Listing.Stores n); plan = after }
         go (advanced p) e = made p
         go (halted z) e = never (cc)
 
-    pub advances-stopped : {a : Advance} → Advances s c images q a → (r : Stop) → a ≡ Advance.Stopped r
+    pub advances-stopped : {X : Type 0} {a : Outcome X Stop} → Advances s c images q a → (r : Stop) → a ≡ Err r
         → planned_step (disk s []) buffer (step_store k s) ≡ record { answer = Ok (Listing.Stopped r); plan = after }
     advances-stopped h r e = step_is ∙ go h e
       where
-        go : {q : Step Index} {a : Advance} → Advances s c images q a → a ≡ Advance.Stopped r
+        go : {X : Type 0} {q : Step Index} {a : Outcome X Stop} → Advances s c images q a → a ≡ Err r
             → planned_step (disk s []) buffer (step_on q) ≡ record { answer = Ok (Listing.Stopped r); plan = after }
         go (advanced p) e = never (cc)
         go (halted {r = u} z) e =

@@ -1,6 +1,6 @@
 -- A planned change written to a sound store makes what the outcome says; steps one after the other make work's, and
 -- squeeze's.
-use Rattle.std.specs.Prelude.{◌≡◌, List, ℕ, suc, ◌+◌, ◌-◌, ◌≤◌, ◌<◌, length, Ok, Err}
+use Rattle.std.specs.Prelude.{◌≡◌, List, ℕ, suc, ◌+◌, ◌-◌, ◌≤◌, ◌<◌, length, Result as Outcome, Ok, Err, IfOk}
 use Rattle.std.proofs.Math.Path.{refl, ap}
 use Rattle.std.proofs.Common.{sym, ◌∙◌, subst, zero-add, arith}
 use Rattle.lists.specs.Block.{block}
@@ -23,7 +23,6 @@ use Rattle.image.specs.Decode.{decode}
 use Rattle.image.proofs.EncodeDecodeLaws.{decode-encode}
 use Rattle.outcomes.specs.Outcomes.{changed, step_on}
 use Rattle.outcomes.proofs.OutcomeLaws.{step-read}
-use Rattle.plan.specs.declared.Advance.{Advance}
 use Rattle.journal.specs.Journal.{Disk, disk}
 use Rattle.journal.specs.Altered.{written}
 use Rattle.journal.proofs.CrashTheorem.{idle}
@@ -77,49 +76,34 @@ module _ {s : List ℕ} {c : Change} {images : List ℕ} where
 
   -- ---- a step
 
-  pub advances-alters : {q : Step Index} {a : Advance} → Advances s c images q a → Alters s c images
+  pub advances-alters : {X : Type 0} {q : Step Index} {a : Outcome X Stop} → Advances s c images q a → Alters s c images
   advances-alters (advanced p) = plans-alters p
   advances-alters (halted e) = none-alters e
 
-  module _ (k : Kind) (r : Sound s) {a : Advance} (p : Advances s c images (step_index k (decode s)) a) (j : List ℕ) {e : Disk}
-      (w : written (disk s j) (finished s c images) ≡ e) (made : e.store ≡ finished s c images) where
-    made-by : {q : Step Index} {b : Advance} → Advances s c images q b → q ≡ step_index k (decode s) → b ≡ Advance.Next
-        → (y : Index) × (q ≡ next y) × (e.store ≡ encode y) × (written (disk s j) (encode y) ≡ e)
-    made-by (advanced {y} h) q n = (y, refl, made ∙ h.makes, ap (written (disk s j)) (sym h.makes) ∙ w)
-    made-by (halted z) q n = never (cc)
+  pub advances-stepped : {X : Type 0} (k : Kind) → Sound s → {q : Step Index} {a : Outcome X Stop} → Advances s c images q a
+      → step_index k (decode s) ≡ q → (j : List ℕ) (e : Disk) → written (disk s j) (finished s c images) ≡ e
+      → e.store ≡ finished s c images → Stepped k (disk s j) a e
+  unfolding step_journalled
+  advances-stepped k r (advanced {y} p) q j e f made =
+      moved
+      (ap (step_to (disk s j)) (step-read k s ∙ ap step_on q)
+      ∙ ap next (ap (written (disk s j)) (sym p.makes) ∙ f))
+      (subst Sound (sym (made ∙ p.makes)) (sound-encode y (kind-wf k (decode s) y r.wf q)))
+    where
+      sound-encode : (y : Index) → WF y → Sound (encode y)
+      sound-encode y w = let q = encode-reads y w in record { wf = q.wf; bytes = q.bytes; meta = refl }
+  advances-stepped k r (halted n) q j e f made =
+      stayed (ap (step_to (disk s j)) (step-read k s ∙ ap step_on q))
+      (sym f ∙ ap (written (disk s j)) (finished-none s c images n) ∙ idle (disk s j))
 
-    -- one that goes on, told to go on with x
-    pub steps-on : {X : Type 0} (x : X) → a ≡ Advance.Next → Stepped k (disk s j) (Ok x) e
-    unfolding step_journalled
-    steps-on x n =
-        let f = made-by p refl n in
-        moved
-        (ap (step_to (disk s j)) (step-read k s ∙ ap step_on f.1) ∙ ap next f.3)
-        (subst Sound (sym f.2) (sound-encode f.0 (kind-wf k (decode s) f.0 r.wf f.1)))
-      where
-        sound-encode : (y : Index) → WF y → Sound (encode y)
-        sound-encode y v = let q = encode-reads y v in record { wf = q.wf; bytes = q.bytes; meta = refl }
-
-    -- what is so of the index that it makes is so of the store that it leaves
-    pub step-leaves : (P : Index → Type 0) → ((y : Index) → step_index k (decode s) ≡ next y → P y) → a ≡ Advance.Next
-        → P (decode e.store)
-    step-leaves P g n =
-        let f = made-by p refl n in
-        subst P (sym (ap decode f.2 ∙ decode-encode f.0 (kind-wf k (decode s) f.0 r.wf f.1))) (g f.0 f.1)
-
-    -- one that stops
-    pub step-stops : {X : Type 0} (t : Stop) → a ≡ Advance.Stopped t → Stepped k (disk s j) {X = X} (Err t) e
-    unfolding step_journalled
-    step-stops {X} t n = go p refl n
-      where
-        go : {q : Step Index} {b : Advance} → Advances s c images q b → q ≡ step_index k (decode s)
-            → b ≡ Advance.Stopped t → Stepped k (disk s j) {X = X} (Err t) e
-        go (advanced h) q n = never (cc)
-        go (halted {r = u} z) q n =
-            let same : u ≡ t = cc in
-            subst (λ (v : Stop). Stepped k (disk s j) {X = X} (Err v) e) same
-            (stayed (ap (step_to (disk s j)) (step-read k s ∙ ap step_on (sym q)))
-            (sym w ∙ ap (written (disk s j)) (finished-none s c images z) ∙ idle (disk s j)))
+  -- what is so of the index that it makes is so of the store that it leaves
+  pub advances-leaves : {X : Type 0} (k : Kind) → Sound s → {q : Step Index} {a : Outcome X Stop} → Advances s c images q a
+      → step_index k (decode s) ≡ q → (t : List ℕ) → t ≡ finished s c images → (P : Index → X → Type 0)
+      → IfOk a (λ p. (y : Index) → step_index k (decode s) ≡ next y → P y p) → IfOk a (P (decode t))
+  advances-leaves k r (advanced {y} {x} p) e t f P g =
+      subst (λ (z : Index). P z x)
+      (sym (ap decode (f ∙ p.makes) ∙ decode-encode y (kind-wf k (decode s) y r.wf e))) (g y e)
+  advances-leaves k r (halted z) e t f P g = tt
 
 -- ---- steps one after the other
 

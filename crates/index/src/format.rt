@@ -16,8 +16,20 @@ use image::Meta;
 use meta::{check_fill, put_meta};
 use model::{Answer, Order, Refusal};
 use store::flags::{BITMAP, BUCKET, META, NO_LINK};
-use store::{Change, finish_as, put_block, put_trailer};
+use store::{Change, Trailer, finish_as, put_block, put_trailer};
 use verify::check_length;
+
+// The trailer of a block that is no page of a chain.
+fn no_links(flags: u16) -> Trailer
+    ensures { result ≡ record { prev = no_link; next = no_link; bucket = no_link; flags = flags } }
+{
+    Trailer {
+        prev: NO_LINK,
+        next: NO_LINK,
+        bucket: NO_LINK,
+        flags,
+    }
+}
 
 // The blocks of a new store, without their checks.
 
@@ -44,7 +56,7 @@ fn build_meta(size: u32, order: Order) -> [u8; 512]
             number: order.number,
         },
     );
-    put_trailer(&mut body, NO_LINK, NO_LINK, NO_LINK, META);
+    put_trailer(&mut body, no_links(META));
     body
 }
 
@@ -53,7 +65,13 @@ fn build_bucket(bucket: u32) -> [u8; 512]
     ensures { covered result ≡ paged (replicate 492 0) 1 no_link bucket bucket_flags }
 {
     let mut body = [0u8; 512];
-    put_trailer(&mut body, 1, NO_LINK, bucket, BUCKET);
+    let trailer = Trailer {
+        prev: 1,
+        next: NO_LINK,
+        bucket,
+        flags: BUCKET,
+    };
+    put_trailer(&mut body, trailer);
     body
 }
 
@@ -63,7 +81,7 @@ fn build_bitmap() -> [u8; 512]
 {
     let mut body = [0u8; 512];
     body[..256].copy_from_slice(&[255; 256]);
-    put_trailer(&mut body, NO_LINK, NO_LINK, NO_LINK, BITMAP);
+    put_trailer(&mut body, no_links(BITMAP));
     body
 }
 

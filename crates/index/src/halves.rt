@@ -8,6 +8,7 @@ ghost use Rattle.index.specs.Halves.{planned_place};
 use crate::laid::{lay_insert, lay_remove, lay_squeeze, lay_step};
 use crate::ready::{test_pair_ready, test_ready};
 use crate::squeezing::test_squeeze;
+use draft::{Draft, no_change};
 use journal::plan::{plan_count, plan_name, store_planned};
 use model::{LentError, Place, PlaceAnswer, PlanAnswer, Refusal};
 use verify::check_length;
@@ -28,8 +29,11 @@ pub fn plan_insert(
         return Err(LentError::Short);
     }
     let pair = test_pair_ready(store, journal, hash, block, offset)?;
-    let mut images = [0u8; 4096];
-    lay_insert(store, pair, &mut images, plan)
+    let mut draft = Draft {
+        change: no_change(),
+        images: [0u8; 4096],
+    };
+    lay_insert(&mut draft, store, pair, plan)
 }
 
 pub fn plan_remove(
@@ -48,8 +52,11 @@ pub fn plan_remove(
         return Err(LentError::Short);
     }
     let pair = test_pair_ready(store, journal, hash, block, offset)?;
-    let mut images = [0u8; 4096];
-    lay_remove(store, pair, &mut images, plan)
+    let mut draft = Draft {
+        change: no_change(),
+        images: [0u8; 4096],
+    };
+    lay_remove(&mut draft, store, pair, plan)
 }
 
 // One step of a split.
@@ -61,8 +68,11 @@ pub fn plan_work(store: &[u8], journal: &[u8], plan: &mut [u8]) -> PlanAnswer
         return Err(LentError::Short);
     }
     test_ready(store, journal, true)?;
-    let mut images = [0u8; 4096];
-    lay_step(store, &mut images, plan)
+    let mut draft = Draft {
+        change: no_change(),
+        images: [0u8; 4096],
+    };
+    lay_step(&mut draft, store, plan)
 }
 
 // One step of a squeeze.
@@ -74,8 +84,11 @@ pub fn plan_squeeze(store: &[u8], journal: &[u8], bucket: u32, plan: &mut [u8]) 
         return Err(LentError::Short);
     }
     test_squeeze(store, journal, bucket, true)?;
-    let mut images = [0u8; 4096];
-    lay_squeeze(store, bucket, &mut images, plan)
+    let mut draft = Draft {
+        change: no_change(),
+        images: [0u8; 4096],
+    };
+    lay_squeeze(&mut draft, store, bucket, plan)
 }
 
 // Where the `n`-th block store of a plan writes; refusal 2 where the plan has none, or it is outside of the store.

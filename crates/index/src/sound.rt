@@ -8,6 +8,7 @@ ghost use Rattle.cuts.specs.Journalled.{journalled};
 ghost use Rattle.index.specs.Sound.{Sound};
 
 use crate::written::write_change;
+use draft::{Draft, no_change};
 use image::Meta;
 use insertion::insert::plan_insert;
 use meta::read_meta;
@@ -30,10 +31,13 @@ pub fn insert_sound(store: &mut [u8], pair: Pair) -> Answer
         ≡ record { answer = result; store = store.new } }
 {
     let m = read_fields(store);
-    let mut images = [0u8; 4096];
-    let plan = plan_insert(store, m, pair, &mut images);
-    finish(store, plan.change, &mut images);
-    plan.answer
+    let mut draft = Draft {
+        change: no_change(),
+        images: [0u8; 4096],
+    };
+    let answer = plan_insert(&mut draft, store, m, pair);
+    finish(store, draft.change, &mut draft.images);
+    answer
 }
 
 // The same written with a journal, and the removal.
@@ -45,10 +49,13 @@ pub fn insert_written(store: &mut [u8], journal: &mut [u8], pair: Pair) -> Answe
         ≡ record { answer = result; disk = disk store.new journal.new } }
 {
     let m = read_fields(store);
-    let mut images = [0u8; 4096];
-    let plan = plan_insert(store, m, pair, &mut images);
-    write_change(store, journal, &images, plan.change);
-    plan.answer
+    let mut draft = Draft {
+        change: no_change(),
+        images: [0u8; 4096],
+    };
+    let answer = plan_insert(&mut draft, store, m, pair);
+    write_change(store, journal, &draft.images, draft.change);
+    answer
 }
 
 pub fn remove_written(store: &mut [u8], journal: &mut [u8], pair: Pair) -> Answer
@@ -58,8 +65,11 @@ pub fn remove_written(store: &mut [u8], journal: &mut [u8], pair: Pair) -> Answe
         ≡ record { answer = result; disk = disk store.new journal.new } }
 {
     let m = read_fields(store);
-    let mut images = [0u8; 4096];
-    let plan = plan_remove(store, m, pair, &mut images);
-    write_change(store, journal, &images, plan.change);
-    plan.answer
+    let mut draft = Draft {
+        change: no_change(),
+        images: [0u8; 4096],
+    };
+    let answer = plan_remove(&mut draft, store, m, pair);
+    write_change(store, journal, &draft.images, draft.change);
+    answer
 }

@@ -96,3 +96,10 @@ module _ {s : List ℕ} {m : Meta} (r : Reads s m) (p : Pair) (ok : pair_ok p �
         go : {o : Option Index} {t : Bool} → Places s c images o t → t ≡ false → or_no_room o ≡ refused Refusal.NoRoom
         go (placed q) h = let z : ◌≡◌ {A = ℕ} 0 1 = cc in absurd (omega arith)
         go (full z) h = refl
+
+    pub put-none : room ≡ false → c.count ≡ 0
+    put-none h = go at h
+      where
+        go : {o : Option Index} {t : Bool} → Places s c images o t → t ≡ false → c.count ≡ 0
+        go (placed q) h = let z : ◌≡◌ {A = ℕ} 0 1 = cc in absurd (omega arith)
+        go (full z) h = z

@@ -7,30 +7,26 @@ ghost use Rattle.plan.specs.Plan.{Settles};
 
 use crate::put::plan_put;
 use address::bucket_of;
+use draft::{Draft, clear};
 use image::Meta;
 use model::{Answer, Refusal};
 use page::{Entry, Pair};
-use plan::{Plan, refuse};
 use view::held::is_held;
 
 // Plans an insert.
-pub fn plan_insert(store: &[u8], m: Meta, pair: Pair, images: &mut [u8]) -> Plan
-    requires { (Reads store.now m) × (length images.old ≡ 4096) × (pair_ok pair ≡ true) }
-    ensures { Settles store.now result.change images.new
-        (insert (decode store.now) pair) result.answer }
+pub fn plan_insert(draft: &mut Draft, store: &[u8], m: Meta, pair: Pair) -> Answer
+    requires { (Reads store.now m) × (pair_ok pair ≡ true) }
+    ensures { Settles store.now draft.new.change draft.new.images (insert (decode store.now) pair) result }
 {
     if is_held(store, m, pair) {
-        return refuse(Refusal::HeldAlready);
+        clear(draft);
+        return Err(Refusal::HeldAlready);
     }
     let b = bucket_of(pair.hash, m.max);
     let e = Entry { pair, moved: false };
-    let put = plan_put(store, m, b, e, m.count + 1, images);
-    if put.room {
-        let change = put.change;
-        return Plan {
-            answer: Ok(()),
-            change,
-        };
+    if plan_put(draft, store, m, b, e, m.count + 1) {
+        Ok(())
+    } else {
+        Err(Refusal::NoRoom)
     }
-    refuse(Refusal::NoRoom)
 }

@@ -23,40 +23,45 @@ use address::{bit_block, made_blocks};
 use chain::Room;
 use chain::bitmap::lowest_free;
 use draft::edit::{put_bit, put_fields, put_next};
-use draft::new_draft;
 use draft::pages::{insert_at, write_page};
 use draft::trim::drop_unchanged;
-use endian::raw::copy_over;
+use draft::{Draft, clear};
 use image::Meta;
 use page::Entry;
 use page::search::find_place;
-use plan::{PutPlan, with_fields};
+use plan::with_fields;
 use store::flags::{NO_LINK, OVERFLOW};
-use store::{Change, block_at};
+use store::{Trailer, block_at};
 use view::chains::room_in;
 
 // Puts the entry into the page in block `k`, the first with room in a chain.
-fn put_in_page(store: &[u8], m: Meta, k: u32, e: Entry, held: u32, images: &mut [u8]) -> Change
-    requires by_index { (b : ℕ) × InRoom store.now m k e held b }
-    requires images_len { length images.old ≡ 4096 }
+fn put_in_page(draft: &mut Draft, store: &[u8], m: Meta, k: u32, e: Entry, held: u32)
+    requires { (b : ℕ) × InRoom store.now m k e held b }
     ensures { (b : ℕ) → InRoom store.now m k e held b
-        → Plans store.now result images.new (entered (decode store.now) b e) }
+        → Plans store.now draft.new.change draft.new.images (entered (decode store.now) b e) }
 {
     let slot = find_place(block_at(store, k as usize), e.pair);
-    let page = insert_at(store, new_draft(), images, k, slot, e);
-    let spares = m.spares;
-    let change = put_fields(store, page, images, with_fields(m, held, m.free, spares));
-    drop_unchanged(store, change, images)
+    clear(draft);
+    insert_at(draft, store, k, slot, e);
+    put_fields(draft, store, with_fields(m, held, m.free, m.spares));
+    drop_unchanged(draft, store);
 }
 
 // Makes block `k` a page of the one entry, after the page in block `last`.
-fn link_page(store: &[u8], b: u32, last: u32, k: u32, e: Entry, images: &mut [u8]) -> Change
-    requires store_len { (length store.now ≡ 512 * blocks store.now) × (length images.old ≡ 4096) }
+fn link_page(draft: &mut Draft, store: &[u8], b: u32, last: u32, k: u32, e: Entry)
+    requires store_len { length store.now ≡ 512 * blocks store.now }
     requires last_bound { (last < blocks store.now) × (k < blocks store.now) }
-    ensures { Linked store.now b last k e result images.new }
+    ensures { Linked store.now b last k e draft.new.change draft.new.images }
 {
-    let linked = put_next(store, new_draft(), images, last, k);
-    write_page(store, linked, images, k, e, last, NO_LINK, b, OVERFLOW)
+    clear(draft);
+    put_next(draft, store, last, k);
+    let trailer = Trailer {
+        prev: last,
+        next: NO_LINK,
+        bucket: b,
+        flags: OVERFLOW,
+    };
+    write_page(draft, store, k, e, trailer);
 }
 
 // The lowest free bit of a bitmap after bit `n` is taken, `top` without one.
@@ -65,7 +70,7 @@ fn next_free(map: &[u8], n: u32, top: u32) -> u32
     ensures { result ≡ free_or top (lowest_free (put_bit map.now n true)) }
 {
     let mut part = [0u8; 512];
-    copy_over(&mut part, map);
+    part.copy_from_slice(map);
     let at = (n / 8) as usize;
     part[at] = part[at] | (1u8 << (n % 8));
     lowest_free(&part).unwrap_or(top)
@@ -73,6 +78,7 @@ fn next_free(map: &[u8], n: u32, top: u32) -> u32
 
 // Puts the entry into the free page of overflow bit `n`, after the page in block `last`.
 fn put_in_free(
+    draft: &mut Draft,
     store: &[u8],
     m: Meta,
     b: u32,
@@ -80,11 +86,10 @@ fn put_in_free(
     n: u32,
     e: Entry,
     held: u32,
-    images: &mut [u8],
-) -> Change
+)
     requires at_end { AtEnd store.now m b last e held (decode store.now).spares n }
-    requires free { (IsFree (decode store.now) n) × (length images.old ≡ 4096) }
-    ensures { Plans store.now result images.new
+    requires free { IsFree (decode store.now) n }
+    ensures { Plans store.now draft.new.change draft.new.images
         (extended (decode store.now) (decode store.now).spares b n e) }
 {
     let spares = m.spares;
@@ -92,28 +97,19 @@ fn put_in_free(
     let top = spares[s];
     let map = bit_block(spares, m.point, 0);
     let k = bit_block(spares, m.point, n);
-    let linked = link_page(store, b, last, k, e, images);
-    let taken = put_bit(store, linked, images, map, n, true);
+    link_page(draft, store, b, last, k, e);
+    put_bit(draft, store, map, n, true);
     let free = next_free(block_at(store, map as usize), n, top);
-    let change = put_fields(store, taken, images, with_fields(m, held, free, spares));
-    drop_unchanged(store, change, images)
+    put_fields(draft, store, with_fields(m, held, free, spares));
+    drop_unchanged(draft, store);
 }
 
 // Puts the entry into the next block past the made ones, after the page in block `last`.
-fn put_in_fresh(
-    store: &[u8],
-    m: Meta,
-    b: u32,
-    last: u32,
-    e: Entry,
-    held: u32,
-    images: &mut [u8],
-) -> Change
+fn put_in_fresh(draft: &mut Draft, store: &[u8], m: Meta, b: u32, last: u32, e: Entry, held: u32)
     requires at_end { AtEnd store.now m b last e held (more_spares (decode store.now)) (top_bit (decode store.now)) }
     requires store_bound { (made (decode store.now).spares (point (decode store.now).max_bucket) < (decode store.now).size)
         × (lowest_free (block store.now (map_block (decode store.now))) ≡ None) }
-    requires images_len { length images.old ≡ 4096 }
-    ensures { Plans store.now result images.new
+    ensures { Plans store.now draft.new.change draft.new.images
         (extended (decode store.now) (more_spares (decode store.now)) b
         (top_bit (decode store.now)) e) }
 {
@@ -122,63 +118,55 @@ fn put_in_fresh(
     let k = made_blocks(spares, m.point) as u32;
     let top = spares[s] + 1;
     spares[s] = top;
-    let linked = link_page(store, b, last, k, e, images);
-    let change = put_fields(store, linked, images, with_fields(m, held, top, spares));
-    drop_unchanged(store, change, images)
+    link_page(draft, store, b, last, k, e);
+    put_fields(draft, store, with_fields(m, held, top, spares));
+    drop_unchanged(draft, store);
 }
 
 // Puts the entry into a page at the end of bucket `b`'s chain, which has no room; its last page is in block `last`.
 fn put_at_end(
+    draft: &mut Draft,
     store: &[u8],
     m: Meta,
     b: u32,
     last: u32,
     e: Entry,
     held: u32,
-    images: &mut [u8],
-) -> PutPlan
-    requires reads { (Reads store.now m) × (b ≤ m.max) × (length images.old ≡ 4096) }
+) -> bool
+    requires reads { (Reads store.now m) × (b ≤ m.max) }
     requires b_value { (chain_room (chain (decode store.now) b) ≡ false)
         × (last ≡ last_block (decode store.now) b) }
     requires wf { (y : Index) → put (decode store.now) b e ≡ some y → (WF y) × (count y ≡ held) }
-    ensures { Places store.now result.change images.new
-        (put (decode store.now) b e) result.room }
+    ensures { Places store.now draft.new.change draft.new.images (put (decode store.now) b e) result }
 {
     let spares = m.spares;
     let map = bit_block(spares, m.point, 0);
     if let Some(n) = lowest_free(block_at(store, map as usize)) {
-        return PutPlan {
-            room: true,
-            change: put_in_free(store, m, b, last, n, e, held, images),
-        };
+        put_in_free(draft, store, m, b, last, n, e, held);
+        return true;
     }
     if made_blocks(spares, m.point) < m.size as u64 {
-        return PutPlan {
-            room: true,
-            change: put_in_fresh(store, m, b, last, e, held, images),
-        };
+        put_in_fresh(draft, store, m, b, last, e, held);
+        return true;
     }
-    PutPlan {
-        room: false,
-        change: new_draft(),
-    }
+    clear(draft);
+    false
 }
 
 // Plans the entry into bucket `b`'s chain: the first page with room, else a page taken at the chain's end, else no
-// room. `held` is the count of held pairs afterwards.
-pub fn plan_put(store: &[u8], m: Meta, b: u32, e: Entry, held: u32, images: &mut [u8]) -> PutPlan
-    requires reads { (Reads store.now m) × (b ≤ m.max) × (length images.old ≡ 4096) }
+// room, which it tells. `held` is the count of held pairs afterwards.
+pub fn plan_put(draft: &mut Draft, store: &[u8], m: Meta, b: u32, e: Entry, held: u32) -> bool
+    requires reads { (Reads store.now m) × (b ≤ m.max) }
     requires b_value { any (is e.pair) (entries_at (decode store.now) b) ≡ false }
     requires wf { (y : Index) → put (decode store.now) b e ≡ some y → (WF y) × (count y ≡ held) }
-    ensures { Places store.now result.change images.new
-        (put (decode store.now) b e) result.room }
+    ensures { Places store.now draft.new.change draft.new.images (put (decode store.now) b e) result }
 {
     let room = room_in(store, m, b);
     match room {
-        Room::Page { block } => PutPlan {
-            room: true,
-            change: put_in_page(store, m, block, e, held, images),
-        },
-        Room::Full { last } => put_at_end(store, m, b, last, e, held, images),
+        Room::Page { block } => {
+            put_in_page(draft, store, m, block, e, held);
+            true
+        }
+        Room::Full { last } => put_at_end(draft, store, m, b, last, e, held),
     }
 }

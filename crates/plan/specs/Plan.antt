@@ -1,6 +1,6 @@
 -- A plan: a change, with its images, that makes the store of one index that of another; and what planned calls, steps and puts
 -- come to.
-use Rattle.std.specs.Prelude.{◌≡◌, ◌≢◌, Bool, true, false, List, ℕ, Ok, Err}
+use Rattle.std.specs.Prelude.{◌≡◌, ◌≢◌, Bool, true, false, Result as Outcome, Ok, Err, List, ℕ}
 use Rattle.std.proofs.Math.Option.{Option, none, some}
 use Rattle.lists.specs.Block.{block}
 use Rattle.store.specs.declared.Change.{Change}
@@ -14,7 +14,6 @@ use Rattle.model.specs.Steps.{Step, next, stopped}
 use Rattle.model.specs.Calls.{Result, done, refused}
 use Rattle.image.specs.Layout.{encode}
 use Rattle.draft.specs.Draft.{Listed}
-use Rattle.plan.specs.declared.Advance.{Advance}
 
 -- the change, sealed and written, makes the store s that of y, and lists exactly the blocks that it alters
 pub record Plans (s : List ℕ) (c : Change) (images : List ℕ) (y : Index) : Type 0 where
@@ -28,10 +27,10 @@ module _ (s : List ℕ) (c : Change) (images : List ℕ) where
     accepted : {y : Index} → Plans s c images y → Settles (done y) (Ok tt)
     declined : {r : Refusal} → c.count ≡ 0 → Settles (refused r) (Err r)
 
-  -- a step
-  pub data Advances : Step Index → Advance → Type 0 where
-    advanced : {y : Index} → Plans s c images y → Advances (next y) Advance.Next
-    halted : {r : Stop} → c.count ≡ 0 → Advances (stopped r) (Advance.Stopped r)
+  -- a step, which goes on with some value, or a stop
+  pub data Advances {X : Type 0} : Step Index → Outcome X Stop → Type 0 where
+    advanced : {y : Index} {x : X} → Plans s c images y → Advances (next y) (Ok x)
+    halted : {r : Stop} → c.count ≡ 0 → Advances (stopped r) (Err r)
 
   -- an entry put into a chain
   pub data Places : Option Index → (room : Bool) → Type 0 where

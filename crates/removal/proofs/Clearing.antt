@@ -21,7 +21,7 @@ use Rattle.plan.specs.Shape.{Shaped}
 use Rattle.plan.specs.ShapeLaws.{shaped-bit}
 use Rattle.plan.specs.Sketch.{Sketch}
 use Rattle.plan.specs.SketchLaws.{ready, ready-again, sketch-here, sketch-there, sketch-more, sketch-again}
-use Rattle.removal.specs.declared.Freed.{Freed}
+use Rattle.std.specs.Prelude.{Option, Some, None}
 use Rattle.removal.specs.Freeing.{clears}
 use Rattle.removal.specs.Ending.{MapSketch, Cleared}
 use Rattle.removal.specs.ShowLaws.{sketch-wider}
@@ -36,9 +36,9 @@ module _ {s : List ℕ} {c : Change} {images : List ℕ} {k : ℕ} {bit : ℕ �
   pub map-sketch : Sketch s c images d 7 a.ks
   map-sketch = ⊎_elim (λ g. sketch-wider g 7 (omega arith)) (λ w. w.0) a.room
 
-  pub cleared-none : (f : Freed) → f ≡ Freed.Nothing → Cleared s c images k (clears f bit) d
+  pub cleared-none : (f : Option ℕ) → f ≡ None → Cleared s c images k (clears f bit) d
   cleared-none f q =
-      subst (λ (f : Freed). Cleared s c images k (clears f bit) d) (sym q)
+      subst (λ (f : Option ℕ). Cleared s c images k (clears f bit) d) (sym q)
       (record { d' = d; sketch = a; rest = λ j h ne. refl })
 
   module _ (n : ℕ) (small : n < 2048) {r : Change} {images' : List ℕ}
@@ -63,7 +63,7 @@ module _ {s : List ℕ} {c : Change} {images : List ℕ} {k : ℕ} {bit : ℕ �
     room (inl g) = sketch-more g k a.inside _ full e.lists (e.draft d g.draft)
     room (inr w) = sketch-again w.0 k a.inside _ full e.lists (e.draft d w.0.draft) w.1
 
-    cleared : Cleared s r images' k (clears (Freed.Bit n) bit) d
+    cleared : Cleared s r images' k (clears (Some n) bit) d
     cleared =
         record {
           d' = set_block d k (put_bit (block d k) n false);
@@ -74,14 +74,14 @@ module _ {s : List ℕ} {c : Change} {images : List ℕ} {k : ℕ} {bit : ℕ �
                 inside = a.inside;
                 two = two;
                 shape =
-                    subst (λ (l : List ℕ). Shaped l (map_front (clears (Freed.Bit n) bit)) no_link no_link no_link 4)
+                    subst (λ (l : List ℕ). Shaped l (map_front (clears (Some n) bit)) no_link no_link no_link 4)
                     (sym (sketch-here map-sketch k a.inside _ full))
-                    (shaped-bit bit (clears (Freed.Bit n) bit) a.two n false small
+                    (shaped-bit bit (clears (Some n) bit) a.two n false small
                     (ap (λ (t : Bool). cond t 0 (bit n)) (eq-eqb n n refl))
                     (λ i h ne. ap (λ (t : Bool). cond t 0 (bit i)) (ne_eqb i n ne)) a.shape);
               };
           rest = sketch-there map-sketch k a.inside _ full;
         }
 
-    pub cleared-some : (f : Freed) → f ≡ Freed.Bit n → Cleared s r images' k (clears f bit) d
-    cleared-some f q = subst (λ (f : Freed). Cleared s r images' k (clears f bit) d) (sym q) cleared
+    pub cleared-some : (f : Option ℕ) → f ≡ Some n → Cleared s r images' k (clears f bit) d
+    cleared-some f q = subst (λ (f : Option ℕ). Cleared s r images' k (clears f bit) d) (sym q) cleared

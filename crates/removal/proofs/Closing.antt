@@ -35,12 +35,12 @@ use Rattle.plan.specs.Sketch.{Sketch}
 use Rattle.plan.specs.SketchLaws.{ready, sketch-here, sketch-there, sketch-more}
 use Rattle.plan.specs.StoreLaws.{map-inside, meta-shape, map-shape}
 use Rattle.plan.specs.PlanLaws.{plans-of}
-use Rattle.removal.specs.declared.Freed.{Freed}
+use Rattle.std.specs.Prelude.{Option}
 use Rattle.removal.specs.Freeing.{clears, lowers}
 use Rattle.removal.specs.Ending.{MapSketch, Cleared, Ending}
 use Rattle.removal.proofs.Clearing.{map-sketch}
 
-module _ {s : List ℕ} {m : Meta} {c : Change} {images : List ℕ} {held : ℕ} {f g : Freed} {y : Index}
+module _ {s : List ℕ} {m : Meta} {c : Change} {images : List ℕ} {held : ℕ} {f g : Option ℕ} {y : Index}
     (e : Ending s m c images held f g y) {k : ℕ} (at : k ≡ map_block (decode s)) where
   abbrev x : Index
   x = decode s

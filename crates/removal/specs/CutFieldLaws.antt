@@ -20,16 +20,16 @@ use Rattle.frame.specs.CutLaws.{frees-none}
 use Rattle.frame.specs.FreedLaws.{freed-map}
 use Rattle.frame.specs.MetaLaws.{thin-free}
 use Rattle.plan.specs.Fields.{fields_after}
-use Rattle.removal.specs.declared.Freed.{Freed}
+use Rattle.std.specs.Prelude.{Option, Some, None}
 use Rattle.removal.specs.Freeing.{freed_if, freed_at, clears, lowers, Below}
 use Rattle.removal.specs.PairLaws.{pair-at}
 use Rattle.removal.specs.CutLaws.{freed-some}
 use Rattle.removal.specs.FirstFreeLaws.{first-freed}
 
-pub clears-same : (f : Freed) (bit bit' : ℕ → ℕ) → ((i : ℕ) → bit i ≡ bit' i) → (i : ℕ)
+pub clears-same : (f : Option ℕ) (bit bit' : ℕ → ℕ) → ((i : ℕ) → bit i ≡ bit' i) → (i : ℕ)
     → clears f bit i ≡ clears f bit' i
-clears-same (Freed.Bit n) bit bit' e i = ap (cond (eqb i n) 0) (e i)
-clears-same Freed.Nothing bit bit' e i = e i
+clears-same (Some n) bit bit' e i = ap (cond (eqb i n) 0) (e i)
+clears-same None bit bit' e i = e i
 
 module _ (x : Index) (l : Laid x) (b : ℕ) (fits : b < length x.chains) (p : Pair)
     (once : tally (is p) (entries_at x b) ≤ 1) where
@@ -54,23 +54,23 @@ module _ (x : Index) (l : Laid x) (b : ℕ) (fits : b < length x.chains) (p : Pa
           (omega (arith, any-no (is p) (entries_at x b) q, tally-append (is p) (chain x b).first (on_pages gs))) in
           never (cc)
 
-  freed-made : (n : ℕ) → freed_at x b p ≡ Freed.Bit n → n < top_bit x
+  freed-made : (n : ℕ) → freed_at x b p ≡ Some n → n < top_bit x
   freed-made n e =
       let gs = (chain x b).more in
       let i : ℕ = (get_or gs (more_place p gs) no_page).bit in
       let g = freed-some x b p n e in
       let at = pair-at p b (chain x b) once (freed-stands g) in
       let made = page-made x l b (more_place p gs) (omega (arith, at.inside, at.over g)) in
-      let q : Freed.Bit i ≡ Freed.Bit n = sym (ap (λ (t : Bool). freed_if t gs p) g) ∙ e in
+      let q : Some i ≡ Some n = sym (ap (λ (t : Bool). freed_if t gs p) g) ∙ e in
       let r : i ≡ n = cc in
       omega (arith, made.1)
 
   pub cut_below : Below (freed_at x b p)
   cut_below = go (freed_at x b p) refl
     where
-      go : (f : Freed) → freed_at x b p ≡ f → Below f
-      go (Freed.Bit n) e = omega (arith, freed-made n e, top_small x l)
-      go Freed.Nothing e = tt
+      go : (f : Option ℕ) → freed_at x b p ≡ f → Below f
+      go (Some n) e = omega (arith, freed-made n e, top_small x l)
+      go None e = tt
 
   pub cut-free : first_free (cut p b x) ≡ lowers (freed_at x b p) (first_free x)
   cut-free =

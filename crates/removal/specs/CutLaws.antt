@@ -36,7 +36,7 @@ use Rattle.draft.specs.Draft.{Draft, PageEdited}
 use Rattle.draft.specs.ShapeLaws.{held-page}
 use Rattle.plan.specs.ShapeLaws.{shaped-page, shaped-length, shaped-entries, covered-entries}
 use Rattle.plan.specs.SketchLaws.{page-edited, sketch-here, sketch-there, sketch-more}
-use Rattle.removal.specs.declared.Freed.{Freed}
+use Rattle.std.specs.Prelude.{Some, None}
 use Rattle.removal.specs.Freeing.{emptied, freed_if, freed_at}
 use Rattle.removal.specs.Cutting.{Shows, ShapedAt, Sketches, Findable, Cuttable}
 use Rattle.removal.specs.PairLaws.{slot-inside, remove-thin, page-ok, place_role, PairAt, pair-at}
@@ -191,20 +191,20 @@ module _ {s : List ℕ} {m : Meta} {c : Change} {images : List ℕ} {k slot n b 
 
 -- ---- what is freed tells whether the page stays
 
-pub freed-some : (x : Index) (b : ℕ) (p : Pair) (i : ℕ) → freed_at x b p ≡ Freed.Bit i → frees_at x b p ≡ true
+pub freed-some : (x : Index) (b : ℕ) (p : Pair) (i : ℕ) → freed_at x b p ≡ Some i → frees_at x b p ≡ true
 freed-some x b p i e = go (frees_at x b p) refl e
   where
     go : (t : Bool) → frees_at x b p ≡ t
-        → freed_if t (chain x b).more p ≡ Freed.Bit i
+        → freed_if t (chain x b).more p ≡ Some i
         → frees_at x b p ≡ true
     go true q e = q
     go false q e = never (cc)
 
-pub freed-none : (x : Index) (b : ℕ) (p : Pair) → freed_at x b p ≡ Freed.Nothing → frees_at x b p ≡ false
+pub freed-none : (x : Index) (b : ℕ) (p : Pair) → freed_at x b p ≡ None → frees_at x b p ≡ false
 freed-none x b p e = go (frees_at x b p) refl e
   where
     go : (t : Bool) → frees_at x b p ≡ t
-        → freed_if t (chain x b).more p ≡ Freed.Nothing
+        → freed_if t (chain x b).more p ≡ None
         → frees_at x b p ≡ false
     go true q e = never (cc)
     go false q e = q

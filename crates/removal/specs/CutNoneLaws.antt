@@ -12,7 +12,7 @@ use Rattle.model.specs.WellFormed.{Laid}
 use Rattle.model.specs.ChainLaws.{thin-none, pages-none}
 use Rattle.model.specs.StandLaws.{set_back}
 use Rattle.frame.specs.CutLaws.{frees-none}
-use Rattle.removal.specs.declared.Freed.{Freed}
+use Rattle.std.specs.Prelude.{None}
 use Rattle.removal.specs.Freeing.{freed_if, freed_at}
 
 module _ (x : Index) (l : Laid x) (b : ℕ) (p : Pair) (none : any (is p) (entries_at x b) ≡ false) where
@@ -27,7 +27,7 @@ module _ (x : Index) (l : Laid x) (b : ℕ) (p : Pair) (none : any (is p) (entri
       let c : without p (chain x b) ≡ chain x b = λ i. record { first = a i; more = e i } in
       ap (λ (c : Chain). set_chain x x.spares b c) c ∙ set_back x b
 
-  pub freed-nothing : Freed.Nothing ≡ freed_at x b p
+  pub freed-nothing : None ≡ freed_at x b p
   freed-nothing =
       let gs = (chain x b).more in
       sym (ap (λ (e : Bool). freed_if e gs p)

@@ -15,7 +15,7 @@ use Rattle.model.proofs.FrameLaws.{SameStore}
 use Rattle.plan.specs.Fields.{fields_after}
 use Rattle.plan.specs.Shape.{Shaped}
 use Rattle.plan.specs.Sketch.{Sketch}
-use Rattle.removal.specs.declared.Freed.{Freed}
+use Rattle.std.specs.Prelude.{Option}
 use Rattle.removal.specs.Freeing.{clears, lowers, Below}
 use Rattle.removal.specs.Cutting.{Sketches}
 
@@ -34,7 +34,7 @@ pub record Cleared (s : List ℕ) (c : Change) (images : List ℕ) (k : ℕ) (bi
   pub rest : (j : ℕ) → j < blocks s → j ≢ k → block d' j ≡ block d j
 
 -- the change shows y, but for two freed bits, the count and the first free bit; js are the blocks that may alter
-pub record Ending (s : List ℕ) (m : Meta) (c : Change) (images : List ℕ) (held : ℕ) (f g : Freed) (y : Index)
+pub record Ending (s : List ℕ) (m : Meta) (c : Change) (images : List ℕ) (held : ℕ) (f g : Option ℕ) (y : Index)
     : Type 0 where
   pub reads : Reads s m
   pub sketches : Sketches s c images 6 y

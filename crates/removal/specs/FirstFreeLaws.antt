@@ -13,7 +13,7 @@ use Rattle.image.specs.Layout.{map_bit}
 use Rattle.image.proofs.BoundLaws.{top_small}
 use Rattle.image.specs.FreeLaws.{first-zero}
 use Rattle.frame.specs.ListsLaws.{find-hit, find-pass}
-use Rattle.removal.specs.declared.Freed.{Freed}
+use Rattle.std.specs.Prelude.{Option as Freed, Some, None}
 use Rattle.removal.specs.Freeing.{clears, lowers}
 
 -- the first number of a run that passes, or top
@@ -57,8 +57,8 @@ module _ (t u : ℕ → Bool) (j top : ℕ) (here : u j ≡ true) (else : (k : �
 
 -- ---- of an index
 
-pub first-freed : (x y : Index) → Laid x → Laid y → top_bit y ≡ top_bit x → (f : Freed)
-    → ((i : ℕ) → map_bit y i ≡ clears f (map_bit x) i) → ((n : ℕ) → f ≡ Freed.Bit n → n < top_bit x)
+pub first-freed : (x y : Index) → Laid x → Laid y → top_bit y ≡ top_bit x → (f : Freed ℕ)
+    → ((i : ℕ) → map_bit y i ≡ clears f (map_bit x) i) → ((n : ℕ) → f ≡ Some n → n < top_bit x)
     → first_free y ≡ lowers f (first_free x)
 first-freed x y l m top f bits small =
     sym (first-zero y (map_bit y) (omega (arith, top_small y m)) (λ n h. refl))
@@ -66,16 +66,16 @@ first-freed x y l m top f bits small =
     ∙ go f bits small
     ∙ ap (lowers f) (first-zero x (map_bit x) (omega (arith, top_small x l)) (λ n h. refl))
   where
-    go : (f : Freed) → ((i : ℕ) → map_bit y i ≡ clears f (map_bit x) i) → ((n : ℕ) → f ≡ Freed.Bit n → n < top_bit x)
+    go : (f : Freed ℕ) → ((i : ℕ) → map_bit y i ≡ clears f (map_bit x) i) → ((n : ℕ) → f ≡ Some n → n < top_bit x)
         → first_or (λ n. eqb (map_bit y n) 0) 0 2048 (top_bit x)
         ≡ lowers f (first_or (λ n. eqb (map_bit x n) 0) 0 2048 (top_bit x))
-    go (Freed.Bit n) b s =
+    go (Some n) b s =
         let h : n < top_bit x = s n refl in
         first-lower (λ i. eqb (map_bit x i) 0) (λ i. eqb (map_bit y i) 0) n (top_bit x)
         (ap (λ (v : ℕ). eqb v 0) (b n ∙ ap (λ (e : Bool). cond e 0 (map_bit x n)) (eq-eqb n n refl)))
         (λ k ne. ap (λ (v : ℕ). eqb v 0) (b k ∙ ap (λ (e : Bool). cond e 0 (map_bit x k)) (ne_eqb k n ne)))
         (omega arith) 0 2048 (omega arith) (omega (arith, top_small x l))
-    go Freed.Nothing b s =
+    go None b s =
         ap (λ (o : Option ℕ). get_or o (top_bit x))
         (find-same _ _ 0 2048 2048 (omega arith) (λ k i h. ap (λ (v : ℕ). eqb v 0) (b k))
         (λ k i h. absurd (omega arith)))

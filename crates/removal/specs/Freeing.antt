@@ -12,39 +12,39 @@ use Rattle.store.specs.Flags.{no_link}
 use Rattle.frame.specs.Frame.{more_place, frees_at}
 use Rattle.frame.specs.ImagesLaws.{no_page}
 use Rattle.plan.specs.Sketch.{Sketch}
-use Rattle.removal.specs.declared.Freed.{Freed}
+use Rattle.std.specs.Prelude.{Option, Some, None}
 
 -- ---- the bit
 
 -- that of a page with these entries, one of which is taken out: an overflow page of one entry is left empty
-abbrev pub emptied : Role → (entries : ℕ) → Freed
-emptied meta n = Freed.Nothing
-emptied (bucket_page b) n = Freed.Nothing
-emptied (bit_page i) n = cond (eqb n 1) (Freed.Bit i) Freed.Nothing
-emptied unmade n = Freed.Nothing
+abbrev pub emptied : Role → (entries : ℕ) → Option ℕ
+emptied meta n = None
+emptied (bucket_page b) n = None
+emptied (bit_page i) n = cond (eqb n 1) (Some i) None
+emptied unmade n = None
 
 -- that of the first overflow page with the pair, if that is left empty
-abbrev pub freed_if : (empty : Bool) → List Page → Pair → Freed
-freed_if empty gs p = cond empty (Freed.Bit (get_or gs (more_place p gs) no_page).bit) Freed.Nothing
+abbrev pub freed_if : (empty : Bool) → List Page → Pair → Option ℕ
+freed_if empty gs p = cond empty (Some (get_or gs (more_place p gs) no_page).bit) None
 
 -- that of the page which the pair leaves empty in bucket b's chain
-abbrev pub freed_at : Index → (b : ℕ) → Pair → Freed
+abbrev pub freed_at : Index → (b : ℕ) → Pair → Option ℕ
 freed_at x b p = freed_if (frees_at x b p) (chain x b).more p
 
 -- "its bit set to 0"
-abbrev pub clears : Freed → (ℕ → ℕ) → ℕ → ℕ
-clears (Freed.Bit n) bit i = cond (eqb i n) 0 (bit i)
-clears Freed.Nothing bit i = bit i
+abbrev pub clears : Option ℕ → (ℕ → ℕ) → ℕ → ℕ
+clears (Some n) bit i = cond (eqb i n) 0 (bit i)
+clears None bit i = bit i
 
 -- the first free bit then
-abbrev pub lowers : Freed → ℕ → ℕ
-lowers (Freed.Bit n) free = min n free
-lowers Freed.Nothing free = free
+abbrev pub lowers : Option ℕ → ℕ → ℕ
+lowers (Some n) free = min n free
+lowers None free = free
 
 -- it is one of the bitmap's
-abbrev pub Below : Freed → Type 0
-Below (Freed.Bit n) = n < 2048
-Below Freed.Nothing = Unit {0}
+abbrev pub Below : Option ℕ → Type 0
+Below (Some n) = n < 2048
+Below None = Unit {0}
 
 -- ---- the page after the freed one, if there is one, gets its previous field
 

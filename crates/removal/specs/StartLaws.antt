@@ -25,9 +25,11 @@ use Rattle.draft.specs.Draft.{Draft}
 use Rattle.plan.specs.Fields.{fields_after}
 use Rattle.plan.specs.SketchLaws.{sketch-none}
 use Rattle.plan.specs.StoreLaws.{block-is}
-use Rattle.removal.specs.declared.Freed.{Freed}
+use Rattle.std.specs.Prelude.{Option, None}
 use Rattle.removal.specs.Freeing.{freed_at, clears, lowers, Below}
-use Rattle.removal.specs.Cutting.{Sketches, Findable}
+use Rattle.chain.specs.Search.{at_slot}
+use Rattle.view.specs.Places.{find_at}
+use Rattle.removal.specs.Cutting.{Sketches, Findable, Cuttable}
 use Rattle.removal.specs.Ending.{Ending}
 use Rattle.plan.specs.FieldLaws.{read-free}
 use Rattle.removal.specs.ShowLaws.{sketch-wider}
@@ -71,15 +73,19 @@ module _ {s : List ℕ} {m : Meta} (r : Reads s m) (p : Pair) where
             };
       }
 
+  pub cuttable : {c : Change} {images : List ℕ} → Draft s c images s → c.count ≡ 0 → (b : ℕ) → b ≤ m.max
+      → {k slot : ℕ} → find_at (decode s) b p ≡ at_slot k slot → Cuttable s m c images k slot 0 b p (decode s)
+  cuttable g e b h found = record { findable = findable g e b h; found = found }
+
   -- ---- one cut
 
   module _ (b : ℕ) (made : b ≤ m.max) where
     abbrev once : tally (is p) (entries_at (decode s) b) ≤ 1
     once = stands-once x r.wf p b
 
-    pub one-ending : {c : Change} {images : List ℕ} {held : ℕ} {f : Freed} → f ≡ freed_at (decode s) b p
+    pub one-ending : {c : Change} {images : List ℕ} {held : ℕ} {f : Option ℕ} → f ≡ freed_at (decode s) b p
         → Sketches s c images 3 (cut p b (decode s)) → count (cut p b (decode s)) ≡ held
-        → Ending s m c images held f Freed.Nothing (cut p b (decode s))
+        → Ending s m c images held f None (cut p b (decode s))
     unfolding cut
     one-ending {c} {images} {held} {f} e g n =
         let l = reads-laid r in
@@ -91,7 +97,7 @@ module _ {s : List ℕ} {m : Meta} (r : Reads s m) (p : Pair) where
           same = record { size = refl; number = refl };
           map = refl;
           below = (subst Below (sym e) (cut_below x l b i p once), tt);
-          bits = λ j. cut-bits x l b i p once j ∙ ap (λ (f : Freed). clears f (map_bit x) j) (sym e);
+          bits = λ j. cut-bits x l b i p once j ∙ ap (λ (f : Option ℕ). clears f (map_bit x) j) (sym e);
           meta =
               cut-meta x l b i p once
               ∙ (λ t. fields_after (sym (reads-meta r) t) (n t)
@@ -134,7 +140,7 @@ module _ {s : List ℕ} {m : Meta} (r : Reads s m) (p : Pair) where
           sketches = g;
         }
 
-    pub two-ending : {c : Change} {images : List ℕ} {held : ℕ} {f g : Freed} → f ≡ freed_at (decode s) o p
+    pub two-ending : {c : Change} {images : List ℕ} {held : ℕ} {f g : Option ℕ} → f ≡ freed_at (decode s) o p
         → g ≡ freed_at (cut p o (decode s)) n p → Sketches s c images 6 (cut p n (cut p o (decode s)))
         → count (cut p n (cut p o (decode s))) ≡ held
         → Ending s m c images held f g (cut p n (cut p o (decode s)))

@@ -4,7 +4,6 @@ pub mod Seek
 pub mod SeekLaws
 pub mod OldChainLaws
 pub mod MoverLaws
-pub mod Step
 pub mod StepLaws
 pub mod SpotLaws
 pub mod FromLaws

@@ -1,5 +1,5 @@
 -- What a step is, by the job and by what its tests find; and what a planned put comes to as a step.
-use Rattle.std.specs.Prelude.{◌≡◌, Bool, true, false, List, ℕ}
+use Rattle.std.specs.Prelude.{◌≡◌, Bool, true, false, Result as Outcome, Ok, Err, List, ℕ}
 use Rattle.std.proofs.Common.{sym, ◌∙◌, subst}
 use Rattle.std.proofs.Math.Path.{ap}
 use Rattle.std.proofs.Math.Option.{Option}
@@ -11,11 +11,10 @@ use Rattle.model.specs.declared.Phase.{Phase}
 use Rattle.model.specs.Index.{Job, idle, copying, clearing, Index, entries_at, new_bucket, old_bucket}
 use Rattle.model.specs.Held.{wanted}
 use Rattle.model.specs.Steps.{Step, stopped, or_full, begin, moves, to_copy, copy_in, clear_in, step_in, step}
+use Rattle.model.proofs.MachineLaws.{never}
 use Rattle.model.specs.PhaseLaws.{job_in, job-phase}
 use Rattle.reader.specs.Job.{phase_of}
-use Rattle.plan.specs.declared.Advance.{Advance}
 use Rattle.plan.specs.Plan.{Advances, advanced, halted, Places, placed, full}
-use Rattle.split.specs.Step.{advance_of}
 
 -- ---- the step of an index
 
@@ -44,16 +43,20 @@ job-at x p e = sym (ap job_in e ∙ job-phase x.job (old_bucket x) (new_bucket x
 
 -- ---- its plan
 
--- a put, or a begin
-pub places-advances : {s : List ℕ} {c : Change} {images : List ℕ} {o : Option Index} {room : Bool}
-    → Places s c images o room → Advances s c images (or_full o) (advance_of room)
-places-advances (placed p) = advanced p
-places-advances (full e) = halted e
+module _ {s : List ℕ} {c : Change} {images : List ℕ} where
+  -- a put, or a begin, that has room
+  pub places-next : {X : Type 0} {o : Option Index} {room : Bool} → Places s c images o room → room ≡ true → (x : X)
+      → Advances s c images (or_full o) (Ok x)
+  places-next (placed p) e x = advanced p
+  places-next (full z) e x = never (cc)
 
--- the plan r, whose parts are another's
-pub advances-as : {s : List ℕ} {c r : Change} {images : List ℕ} {n t : Step Index} {a b : Advance}
-    → Advances s c images n a → r ≡ c → b ≡ a → t ≡ n → Advances s r images t b
-advances-as {s} {c} {r} {images} {n} {t} {a} {b} h q e k =
-    subst (λ (d : Change). Advances s d images t b) (sym q)
-    (subst (λ (d : Advance). Advances s c images t d) (sym e)
-    (subst (λ (d : Step Index). Advances s c images d a) (sym k) h))
+  -- or none
+  pub places-stop : {X : Type 0} {o : Option Index} {room : Bool} → Places s c images o room → room ≡ false
+      → Advances s c images {X = X} (or_full o) (Err Stop.NoRoom)
+  places-stop (placed p) e = never (cc)
+  places-stop (full z) e = halted z
+
+  -- the step t is another's
+  pub advances-as : {X : Type 0} {n t : Step Index} {a : Outcome X Stop} → Advances s c images n a → t ≡ n
+      → Advances s c images t a
+  advances-as {a = a} h e = subst (λ (d : Step Index). Advances s c images d a) (sym e) h

@@ -1,5 +1,5 @@
 // The begin of a split: the new bucket is max bucket + 1, and the old one is its parent.
-ghost use Rattle.std.specs.Prelude.{◌≡◌, true, length};
+ghost use Rattle.std.specs.Prelude.{◌≡◌, true};
 ghost use Rattle.std.proofs.Math.Option.{some};
 ghost use Rattle.model.specs.Index.{Index, idle};
 ghost use Rattle.model.specs.Held.{count, wanted};
@@ -15,13 +15,12 @@ ghost use Rattle.split.specs.Begin.{Begun};
 use crate::job::mark_bucket;
 use address::{bucket_block, buckets_at, high_mask, low_mask, parent_of, point_of};
 use draft::edit::{put_fields, put_prev};
-use draft::new_draft;
 use draft::pages::write_empty;
 use draft::trim::drop_unchanged;
+use draft::{Draft, clear};
 use image::Meta;
-use plan::PutPlan;
 use reader::roles::home_of;
-use store::Change;
+use store::Trailer;
 use store::flags::{NO_LINK, POPULATED, SPLIT};
 
 // Whether the new bucket's overflow point is made or has room to be: where it is made, the made blocks are at most N.
@@ -54,48 +53,49 @@ fn begin_fields(m: Meta) -> Meta
 }
 
 // The new bucket's page, without entries and being populated, and the old one's, being split.
-fn begin_pages(store: &[u8], m: Meta, images: &mut [u8]) -> Change
-    requires reads { (Reads store.now m) × (length images.old ≡ 4096) }
+fn begin_pages(draft: &mut Draft, store: &[u8], m: Meta)
+    requires reads { Reads store.now m }
     requires store_value { (y : Index) × (begin (decode store.now) ≡ some y) }
-    ensures { Begun store.now result images.new }
+    ensures { Begun store.now draft.new.change draft.new.images }
 {
-    let spares = m.spares;
     let new = m.max + 1;
     let old = parent_of(new);
-    let to = bucket_block(spares, new);
+    let to = bucket_block(m.spares, new);
     let from = home_of(m, old);
-    let made = write_empty(store, new_draft(), images, to, new, NO_LINK, new, POPULATED);
-    let linked = put_prev(store, made, images, from, new);
-    mark_bucket(store, m, linked, images, old, SPLIT)
+    let trailer = Trailer {
+        prev: new,
+        next: NO_LINK,
+        bucket: new,
+        flags: POPULATED,
+    };
+    clear(draft);
+    write_empty(draft, store, to, trailer);
+    put_prev(draft, store, from, new);
+    mark_bucket(draft, store, m, old, SPLIT);
 }
 
-fn begin_split(store: &[u8], m: Meta, images: &mut [u8]) -> Change
-    requires reads { (Reads store.now m) × (length images.old ≡ 4096) }
+fn begin_split(draft: &mut Draft, store: &[u8], m: Meta)
+    requires reads { Reads store.now m }
     requires store_value { ((decode store.now).job ≡ idle) × (wanted (decode store.now) ≡ true) }
     requires store_value_2 { (y : Index) × (begin (decode store.now) ≡ some y) }
     ensures { (y : Index) → begin (decode store.now) ≡ some y
-        → Plans store.now result images.new y }
+        → Plans store.now draft.new.change draft.new.images y }
 {
-    let pages = begin_pages(store, m, images);
-    let fields = put_fields(store, pages, images, begin_fields(m));
-    drop_unchanged(store, fields, images)
+    begin_pages(draft, store, m);
+    put_fields(draft, store, begin_fields(m));
+    drop_unchanged(draft, store);
 }
 
-// Begins the split that is wanted, if there is room for the new bucket.
-pub fn plan_begin(store: &[u8], m: Meta, images: &mut [u8]) -> PutPlan
-    requires reads { (Reads store.now m) × (length images.old ≡ 4096) }
+// Begins the split that is wanted, if there is room for the new bucket, which it tells.
+pub fn plan_begin(draft: &mut Draft, store: &[u8], m: Meta) -> bool
+    requires reads { Reads store.now m }
     requires store_value { ((decode store.now).job ≡ idle) × (wanted (decode store.now) ≡ true) }
-    ensures { Places store.now result.change images.new
-        (begin (decode store.now)) result.room }
+    ensures { Places store.now draft.new.change draft.new.images (begin (decode store.now)) result }
 {
     if !has_room(m) {
-        return PutPlan {
-            room: false,
-            change: new_draft(),
-        };
+        clear(draft);
+        return false;
     }
-    PutPlan {
-        room: true,
-        change: begin_split(store, m, images),
-    }
+    begin_split(draft, store, m);
+    true
 }

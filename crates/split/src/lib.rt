@@ -8,7 +8,6 @@ mod begin; // begin.rt: the begin of a split
 pub mod step; // step.rt: one step
 
 use page::Entry;
-use plan::StepPlan;
 
 // An entry of the old chain that a step copies or clears, its place, which is a number of entries from the
 // chain's start, and its block and slot.
@@ -35,11 +34,4 @@ pub struct Position {
     pub place: usize,
     pub fresh: bool,
     pub page: Option<Spot>,
-}
-
-// A planned step, and the position that the next one may search from.
-#[derive(Clone, Copy)]
-pub struct SplitPlan {
-    pub step: StepPlan,
-    pub next: Position,
 }

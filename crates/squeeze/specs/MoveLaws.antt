@@ -44,7 +44,7 @@ use Rattle.plan.specs.ShapeLaws.{shaped-paged, shaped-length, shaped-page, shape
 use Rattle.plan.specs.Sketch.{Sketch}
 use Rattle.plan.specs.SketchLaws.{ready, sketch-here, sketch-there, sketch-more, page-edited}
 use Rattle.insertion.specs.Put.{entered}
-use Rattle.removal.specs.declared.Freed.{Freed}
+use Rattle.std.specs.Prelude.{Option as Freed, None}
 use Rattle.removal.specs.Freeing.{freed_at, clears, lowers, Below}
 use Rattle.removal.specs.Cutting.{Shows, ShapedAt, Sketches}
 use Rattle.removal.specs.Ending.{Ending}
@@ -173,14 +173,14 @@ module _ {s : List ℕ} {m : Meta} {b : ℕ} {e : Entry} {last from k : ℕ} (h 
       map-bits j = ap (λ (f : Bool). b2n (not f)) (room-free z b (cut_fits h) e j)
 
       free-is : first_free y ≡ first_free z
-      free-is = first-freed z y (laid-cut h) (moved-wf h).laid refl Freed.Nothing map-bits (λ n w. never (cc))
+      free-is = first-freed z y (laid-cut h) (moved-wf h).laid refl None map-bits (λ n w. never (cc))
 
       meta-is : meta_of y ≡ fields_after (meta_of x) (count y) (first_free y)
       unfolding meta_of cut
       meta-is = refl
 
-      pub move-ending : {f : Freed} → f ≡ freed_at (decode s) b e.pair
-          → Ending s m c₁ images₁ m.count f Freed.Nothing (entered (cut e.pair b (decode s)) b e)
+      pub move-ending : {f : Freed ℕ} → f ≡ freed_at (decode s) b e.pair
+          → Ending s m c₁ images₁ m.count f None (entered (cut e.pair b (decode s)) b e)
       move-ending {f} w =
           let l = reads-laid h.reads in
           let p = e.pair in
@@ -195,7 +195,7 @@ module _ {s : List ℕ} {m : Meta} {b : ℕ} {e : Entry} {last from k : ℕ} (h 
             below = (subst Below (sym w) (cut_below x l b (fits h) p (once h)), tt);
             bits =
                 λ j. map-bits j ∙ cut-bits x l b (fits h) p (once h) j
-                ∙ ap (λ (f : Freed). clears f (map_bit x) j) (sym w);
+                ∙ ap (λ (f : Freed ℕ). clears f (map_bit x) j) (sym w);
             meta =
                 meta-is
                 ∙ (λ t. fields_after (sym (reads-meta h.reads) t) (moved-count h t)

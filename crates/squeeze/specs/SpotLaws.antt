@@ -2,7 +2,7 @@
 -- job's buckets.
 use Rattle.std.proofs.Math.Path.{◌≡◌, refl, sym, ap, subst, subst₂}
 use Rattle.std.proofs.Common.{◌∙◌, arith}
-use Rattle.std.specs.Prelude.{◌≢◌, Bool, true, false, not, ◌&&◌, List, ℕ, suc, ◌≤◌, ◌<◌, eqb, length, get_or, drop}
+use Rattle.std.specs.Prelude.{◌≢◌, Bool, true, false, not, ◌&&◌, Some, None, Result as Outcome, Ok, Err, List, ℕ, suc, ◌≤◌, ◌<◌, eqb, length, get_or, drop}
 use Rattle.std.proofs.Math.Bool.{cond}
 use Rattle.std.proofs.Math.Option.{Option, none, some}
 use Rattle.std.proofs.lemmas.List.{length-map}
@@ -37,7 +37,6 @@ use Rattle.view.specs.Places.{find_at, room_at}
 use Rattle.view.specs.FirstLaws.{get_d_default, find-drop}
 use Rattle.view.specs.ChainLaws.{walk-read, walk-bounded, page-read}
 use Rattle.view.specs.PlacesLaws.{room-place, room-read}
-use Rattle.plan.specs.declared.Advance.{Advance}
 use Rattle.plan.specs.Plan.{Plans, Advances, advanced, halted}
 use Rattle.plan.specs.StoreLaws.{page-under, page-few}
 use Rattle.insertion.specs.Put.{room_block, last_block, RoomIn}
@@ -51,11 +50,14 @@ use Rattle.squeeze.specs.LastLaws.{final-get_or, mover-last, room-inside, last-u
 
 -- ---- the spot, of an index
 
+abbrev spot : (last target : ℕ) → Spot
+spot last target = record { last = last; target = target }
+
 module _ (x : Index) (b : ℕ) where
   spot-by : (t : Bool) → room_before (chain x b) ≡ t
-      → cond t (Spot.At (last_block x b) (room_block x b)) Spot.Nothing ≡ spot_at x b
+      → cond t (Some (spot (last_block x b) (room_block x b))) None ≡ spot_at x b
   unfolding spot_at
-  spot-by t e = ap (λ (t : Bool). cond t (Spot.At (last_block x b) (room_block x b)) Spot.Nothing) (sym e)
+  spot-by t e = ap (λ (t : Bool). cond t (Some (spot (last_block x b) (room_block x b))) None) (sym e)
 
   -- the last page, and the first page with room, are two
   pub record Two (last target : ℕ) : Type 0 where
@@ -63,14 +65,17 @@ module _ (x : Index) (b : ℕ) where
     pub last-is : last ≡ last_block x b
     pub target_is : target ≡ room_block x b
 
-  pub spot-at : (last target : ℕ) → Spot.At last target ≡ spot_at x b → Two last target
-  spot-at last target e = go (room_before (chain x b)) refl
+  pub spot-at : (v : Spot) → Some v ≡ spot_at x b → Two v.last v.target
+  spot-at v e = go (room_before (chain x b)) refl
     where
-      go : (t : Bool) → room_before (chain x b) ≡ t → Two last target
-      go true q = let f = spot-by true q in record { room = q; last-is = cc; target_is = cc }
+      go : (t : Bool) → room_before (chain x b) ≡ t → Two v.last v.target
+      go true q =
+          let f = spot-by true q in
+          let same : v ≡ spot (last_block x b) (room_block x b) = cc in
+          record { room = q; last-is = ap (λ (w : Spot). w.last) same; target_is = ap (λ (w : Spot). w.target) same }
       go false q = let f = spot-by false q in never (cc)
 
-  spot-not : Spot.Nothing ≡ spot_at x b → room_before (chain x b) ≡ false
+  spot-not : None ≡ spot_at x b → room_before (chain x b) ≡ false
   spot-not e = go (room_before (chain x b)) refl
     where
       go : (t : Bool) → room_before (chain x b) ≡ t → t ≡ false
@@ -78,15 +83,15 @@ module _ (x : Index) (b : ℕ) where
       go false q = refl
 
   -- no page has room
-  spot-none : (k : ℕ) → room_at x b ≡ Room.Full k → Spot.Nothing ≡ spot_at x b
+  spot-none : (k : ℕ) → room_at x b ≡ Room.Full k → None ≡ spot_at x b
   spot-none k e =
       spot-by false
       (ap (λ (t : Bool). t && not (eqb (room_place (chain x b)) (last_place (chain x b)))) (room_at-full x b k e).room)
 
   -- ---- the step
 
-  pub halts : {s : List ℕ} {c : Change} {images : List ℕ} {a : Advance} → Spot.Nothing ≡ spot_at x b
-      → a ≡ Advance.Stopped Stop.Idle → c.count ≡ 0 → Advances s c images (squeeze_step b x) a
+  pub halts : {s : List ℕ} {c : Change} {images : List ℕ} {a : Outcome Span Stop} → None ≡ spot_at x b
+      → a ≡ Err Stop.Idle → c.count ≡ 0 → Advances s c images (squeeze_step b x) a
   unfolding squeeze_step
   halts {s} {c} {images} e q z =
       let none_moves : mover (chain x b) ≡ none =
@@ -94,11 +99,11 @@ module _ (x : Index) (b : ℕ) where
       ∙ ap (λ (t : Bool). cond t (final (place_entries (chain x b) (last_place (chain x b)))) none) (spot-not e) in
       subst₂ (Advances s c images) (sym (ap (λ (o : Option Entry). squeeze_in o b x) none_moves)) (sym q) (halted z)
 
-  pub moves-on : {s : List ℕ} {c : Change} {images : List ℕ} (e : Entry) → mover (chain x b) ≡ some e
-      → Plans s c images (moved_to x b e) → Advances s c images (squeeze_step b x) Advance.Next
+  pub moves-on : {s : List ℕ} {c : Change} {images : List ℕ} (e : Entry) (v : Span) → mover (chain x b) ≡ some e
+      → Plans s c images (moved_to x b e) → Advances s c images (squeeze_step b x) (Ok v)
   unfolding squeeze_step
-  moves-on {s} {c} {images} e h p =
-      subst (λ (t : Step Index). Advances s c images t Advance.Next)
+  moves-on {s} {c} {images} e v h p =
+      subst (λ (t : Step Index). Advances s c images t (Ok v))
       (sym (ap (λ (o : Option Entry). squeeze_in o b x) h)) (advanced p)
 
   pub moves-to : (e : Entry) → mover (chain x b) ≡ some e → (y : Index) → squeeze_step b x ≡ next y → moved_to x b e ≡ y
@@ -160,23 +165,23 @@ module _ {s : List ℕ} {m : Meta} (r : Reads s m) (b : ℕ) (made : b ≤ m.max
       inside = room-inside c room.room
 
       spot_is : (t : Bool) → eqb (room_place c) (last_place c) ≡ t
-          → cond (not t) (Spot.At (last_block x b) (room_block x b)) Spot.Nothing ≡ spot_at x b
+          → cond (not t) (Some (spot (last_block x b) (room_block x b))) None ≡ spot_at x b
       spot_is t e = spot-by x b (not t) (λ i. room.room i && not (e i))
 
-      pub spot-one : k ≡ v.last → Spot.Nothing ≡ spot_at (decode s) b
+      pub spot-one : k ≡ v.last → None ≡ spot_at (decode s) b
       spot-one q =
           let same = page-same x (reads-laid r) b (room_place c) b (last_place c) low inside low (omega arith)
           (sym room.page ∙ q ∙ w.last) in
           spot_is true (eqb_yes (room_place c) (last_place c) same.1)
 
-      pub spot-two : k ≢ v.last → Spot.At v.last k ≡ spot_at (decode s) b
+      pub spot-two : k ≢ v.last → Some (spot v.last k) ≡ spot_at (decode s) b
       spot-two ne =
-          (λ i. Spot.At (w.last i) (room.page i))
+          (λ i. Some (spot (w.last i) (room.page i)))
           ∙ spot_is false
           (eqb_no (room_place c) (last_place c) (λ q. ne (room.page ∙ ap (page_block x b) q ∙ sym w.last)))
 
     -- no page has room
-    pub spot-full : {q : ℕ} → room_in s (walk s v.first) ≡ Room.Full q → Spot.Nothing ≡ spot_at (decode s) b
+    pub spot-full : {q : ℕ} → room_in s (walk s v.first) ≡ Room.Full q → None ≡ spot_at (decode s) b
     unfolding room_in
     spot-full {q} found =
         spot-none x b (last_of (chain_blocks x b c))

@@ -70,15 +70,24 @@ pub fn id_at(part: &[u8]) -> u16
     get_u16(part, 506)
 }
 
+// The fields of a block's trailer but for the page id, which is the same in all.
+#[derive(Clone, Copy)]
+pub struct Trailer {
+    pub prev: u32,
+    pub next: u32,
+    pub bucket: u32,
+    pub flags: u16,
+}
+
 // Writes a block's trailer, with the page id.
-pub fn put_trailer(image: &mut [u8], prev: u32, next: u32, bucket: u32, flags: u16)
+pub fn put_trailer(image: &mut [u8], t: Trailer)
     requires { length image.old ≡ 512 }
-    ensures { image.new ≡ sets image.old 492 (trailer prev next bucket flags) }
+    ensures { image.new ≡ sets image.old 492 (trailer t.prev t.next t.bucket t.flags) }
 {
-    put_u32(image, 492, prev);
-    put_u32(image, 496, next);
-    put_u32(image, 500, bucket);
-    put_u16(image, 504, flags);
+    put_u32(image, 492, t.prev);
+    put_u32(image, 496, t.next);
+    put_u32(image, 500, t.bucket);
+    put_u16(image, 504, t.flags);
     put_u16(image, 506, PAGE_ID);
 }
 

@@ -1,4 +1,5 @@
-use Rattle.std.proofs.Common.{Bool, List, ap, arith, drop, false, get_or, get_or-take, refl, sym, true, ℕ, ◌&&◌, ◌+◌, ◌-◌, ◌<◌, ◌∙◌, ◌≡◌, ◌≤◌}
+use Rattle.std.proofs.Common.{◌≡◌, ◌∙◌, refl, sym, ap, Bool, true, false, ◌&&◌, ℕ, List, ◌+◌, ◌≤◌, ◌<◌, get_or, drop, arith}
+use lib.Seq.{get_or-take}
 use Rattle.lists.specs.ListsLaws.{and-false}
 use Rattle.store.specs.Store.{covered}
 use Rattle.store.proofs.CheckLaws.{length-covered}
@@ -16,19 +17,7 @@ and-true true = refl
 and-true false = refl
 
 pub loop-i-init : goal.loop-i-init
-loop-i-init c = (omega arith, refl)
-
-pub bounds-a-i : goal.bounds-a-i
-bounds-a-i c = omega arith
-
-pub bounds-b-i : goal.bounds-b-i
-bounds-b-i c = omega arith
-
-pub overflow_add-i : goal.overflow_add-i
-overflow_add-i c = omega arith
-
-pub loop-i-smaller : goal.loop-i-smaller
-loop-i-smaller c = omega arith
+loop-i-init c = refl
 
 pub loop-i-preserved : goal.loop-i-preserved
 loop-i-preserved c =
@@ -39,20 +28,18 @@ loop-i-preserved c =
     let lb = length-covered b (omega arith) in
     let ga = get_or-covered a l.i (omega arith) in
     let gb = get_or-covered b l.i (omega arith) in
-    let left = alike (drop (l.i + 1) (covered a)) (drop (l.i + 1) (covered b)) in (
-      omega arith,
-      elim c.if-a-i.branch [
-        | then-a-i w ↦ l.invariant.1
-            ∙ ap (λ (t : Bool). l.same && t)
-            (alike-stop (covered a) (covered b) l.i (omega arith) (omega arith) (λ e. w.if-a-i.true (sym ga ∙ e ∙ gb)))
-            ∙ and-false l.same
-            ∙ sym (ap (λ (t : Bool). t && left) w.same-is)
-        | else-a-i w ↦ l.invariant.1
-            ∙ ap (λ (t : Bool). l.same && t)
-            (alike-more (covered a) (covered b) l.i (omega arith) (omega arith) (ga ∙ w.if-a-i.false ∙ sym gb))
-            ∙ sym (ap (λ (t : Bool). t && left) w.same-is)
-      ],
-    )
+    let left = alike (drop (l.i + 1) (covered a)) (drop (l.i + 1) (covered b)) in
+    elim c.if-a-i.branch [
+      | then-a-i w ↦ l.invariant
+          ∙ ap (λ (t : Bool). l.same && t)
+          (alike-stop (covered a) (covered b) l.i (omega arith) (omega arith) (λ e. w.if-a-i.true (sym ga ∙ e ∙ gb)))
+          ∙ and-false l.same
+          ∙ sym (ap (λ (t : Bool). t && left) w.same-is)
+      | else-a-i w ↦ l.invariant
+          ∙ ap (λ (t : Bool). l.same && t)
+          (alike-more (covered a) (covered b) l.i (omega arith) (omega arith) (ga ∙ w.if-a-i.false ∙ sym gb))
+          ∙ sym (ap (λ (t : Bool). t && left) w.same-is)
+    ]
 
 pub returns : goal.returns
 returns c =
@@ -62,6 +49,6 @@ returns c =
     let la = length-covered a (omega arith) in
     let lb = length-covered b (omega arith) in
     sym
-    (l.invariant.1
+    (l.invariant
     ∙ ap (λ (t : Bool). l.same && t) (alike_end (covered a) (covered b) l.i (omega arith) (omega arith))
     ∙ and-true l.same)

@@ -14,5 +14,4 @@ loop-steps-preserved g c =
           working-next _ i.working c.loop-steps-test.true c.in-Ok.ensures.stepped c.write_step.auto.store
           (c.write_step.auto.journal ∙ i.working.sixteen);
       begins = c.in-Ok.ensures.begins;
-      images = c.write_step.auto.images ∙ i.images;
     }

@@ -38,7 +38,7 @@ put_in_free-requires c =
     let q = found a.store.now (c.bit_block-map.ensures ∙ read-bit r 0) c.block_at.ensures c.in-Some.ensures in
     record {
       at_end = end-again r a.b c.requires.reads.1 a.e a.held c.requires.wf a.last end _ q;
-      free = (bit-free r a.b c.requires.reads.1 a.e a.held c.requires.wf a.last end _ q, c.requires.reads.2);
+      free = bit-free r a.b c.requires.reads.1 a.e a.held c.requires.wf a.last end _ q;
     }
 
 pub returns-in-Some : goal.returns-in-Some
@@ -63,7 +63,6 @@ put_in_fresh-requires c =
     record {
       at_end = end_fresh r a.b c.requires.reads.1 a.e a.held c.requires.wf a.last end q l;
       store_bound = (blocks-left r a.b c.requires.reads.1 a.e a.held c.requires.wf a.last end q l, q);
-      images_len = c.requires.reads.2;
     }
 
 pub returns-then-made_blocks-m : goal.returns-then-made_blocks-m
@@ -84,4 +83,4 @@ returns c =
     let at = c.bit_block-map.ensures ∙ read-bit r 0 in
     let q = found a.store.now at c.block_at.ensures (sym c.in_default.is ∙ c.lowest_free.ensures) in
     let l = rw c.made_blocks.ensures at c.if-made_blocks-m.false in
-    places-none (put-nowhere r a.b c.requires.reads.1 a.e a.held c.requires.wf a.last end q l) c.new_draft.ensures.count_value
+    places-none (put-nowhere r a.b c.requires.reads.1 a.e a.held c.requires.wf a.last end q l) c.clear.ensures.count_value

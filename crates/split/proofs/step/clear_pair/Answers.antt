@@ -19,22 +19,22 @@ is-old r e = e ∙ ap split_from (reads-max r)
 
 pub plan_cut-requires-clause-reads : goal.plan_cut-requires-clause-reads
 plan_cut-requires-clause-reads c =
-    let r = c.requires.reads in (r.0, old-low (reads_known r.0) c.parent_of.result c.parent_of.ensures, r.1)
+    let r = c.requires.reads in (r, old-low (reads_known r) c.parent_of-old.result c.parent_of-old.ensures)
 
 pub plan_cut-requires-clause-pair_value : goal.plan_cut-requires-clause-pair_value
 plan_cut-requires-clause-pair_value c =
     let v = c.args.mover in
-    subst (λ (b : ℕ). find_at (decode c.args.store.now) b v.entry.pair ≡ at_slot v.block v.slot) (sym (is-old c.requires.reads.0 c.parent_of.ensures))
+    subst (λ (b : ℕ). find_at (decode c.args.store.now) b v.entry.pair ≡ at_slot v.block v.slot) (sym (is-old c.requires.reads c.parent_of-old.ensures))
     c.requires.located
 
 pub plan_cut-requires-clause-wf : goal.plan_cut-requires-clause-wf
 plan_cut-requires-clause-wf c =
     let x = decode c.args.store.now in
     let p = c.args.mover.entry.pair in
-    subst (λ (b : ℕ). (WF (cut p b x)) × (count (cut p b x) ≡ c.args.m.count)) (sym (is-old c.requires.reads.0 c.parent_of.ensures)) c.requires.wf
+    subst (λ (b : ℕ). (WF (cut p b x)) × (count (cut p b x) ≡ c.args.m.count)) (sym (is-old c.requires.reads c.parent_of-old.ensures)) c.requires.wf
 
 pub returns : goal.returns
 returns c =
-    subst (λ (b : ℕ). Plans c.args.store.now c.plan_cut.result c.plan_cut.new.images
+    subst (λ (b : ℕ). Plans c.args.store.now c.plan_cut.new.draft.change c.plan_cut.new.draft.images
     (cut c.args.mover.entry.pair b (decode c.args.store.now)))
-    (is-old c.requires.reads.0 c.parent_of.ensures) c.plan_cut.ensures
+    (is-old c.requires.reads c.parent_of-old.ensures) c.plan_cut.ensures

@@ -1,32 +1,30 @@
-use Rattle.std.proofs.Common.{sym, subst}
 use Rattle.image.specs.Decode.{decode}
 use Rattle.plan.specs.Plan.{advanced}
-use Rattle.split.specs.Seek.{Leads}
-use Rattle.split.specs.FromLaws.{clear-leads}
+use Rattle.split.specs.FromLaws.{leads-start, clear-leads}
 use Rattle.split.specs.StepLaws.{step-clears, advances-as}
 use Rattle.split.specs.CopyLaws.{clear_next}
 use Rattle.split.proofs.step.step_clearing.Goals as goal
 
 pub returns-in_default-clause-advances : goal.returns-in_default-clause-advances
 returns-in_default-clause-advances c =
-    let k = c.advance_by.ensures in
-    advances-as (advanced c.plan_cleared.ensures) k.0 k.1
+    advances-as (advanced c.plan_cleared.ensures)
     (step-clears (decode c.args.store.now) c.requires.store_value.0 c.in_default.ensures.seeks)
+
+pub returns-in_default-clause-leads : goal.returns-in_default-clause-leads
+returns-in_default-clause-leads c = leads-start (decode c.args.store.now) c.start.result c.start.ensures
 
 pub clear_pair-requires-clause-wf : goal.clear_pair-requires-clause-wf
 clear_pair-requires-clause-wf c =
-    clear_next c.requires.reads.0 c.requires.store_value.0 c.in-Some.mover.entry c.in-Some.ensures.seeks.0
+    clear_next c.requires.reads c.requires.store_value.0 c.in-Some.mover.entry c.in-Some.ensures.seeks.0
 
 pub returns-clause-advances : goal.returns-clause-advances
 returns-clause-advances c =
-    let k = c.advance_by-2.ensures in
-    advances-as (advanced c.clear_pair.ensures) k.0 k.1
+    advances-as (advanced c.clear_pair.ensures)
     (step-clears (decode c.args.store.now) c.requires.store_value.0 c.in-Some.ensures.seeks.0)
 
 pub returns-clause-leads : goal.returns-clause-leads
 returns-clause-leads c =
     let x = decode c.args.store.now in
     let found = c.in-Some.ensures.seeks in
-    subst (Leads x) (sym c.advance_by-2.ensures.2)
-    (clear-leads x c.requires.reads.0.wf c.in-Some.mover.entry c.requires.store_value.0 found.0 c.in-Some.mover.place
-    found.1.first c.find_spot-page.result c.args.from.place c.find_spot-page.ensures _ c.keep_spot.ensures)
+    clear-leads x c.requires.reads.wf c.in-Some.mover.entry c.requires.store_value.0 found.0 c.in-Some.mover.place
+    found.1.first c.find_spot-page.result c.args.from.place c.find_spot-page.ensures _ c.keep_spot.ensures
