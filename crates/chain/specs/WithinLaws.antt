@@ -1,8 +1,9 @@
--- Loops over a walk by index: the page at index i, and the entries on the pages from it on.
-use Rattle.std.specs.Prelude.{◌≡◌, true, List, [], ◌∷◌, ◌++◌, ℕ, suc, ◌+◌, ◌*◌, ◌≤◌, ◌<◌, length, get_or, take, drop, replicate}
-use Rattle.std.proofs.Common.{sym, ap, ◌∙◌, add-one, arith, drop-cons}
+-- Loops over a walk by index: the page at index i, a search in the blocks from it on, and the entries on them.
+use Rattle.std.specs.Prelude.{◌≡◌, true, List, [], ◌∷◌, ◌++◌, ℕ, suc, ◌+◌, ◌*◌, ◌≤◌, ◌<◌, length, get_or, take, drop, replicate, Bool, false}
+use Rattle.std.proofs.Common.{sym, ap, ◌∙◌, add-one, arith, drop-cons, drop_of_length-le, get_or-take}
+use Rattle.std.proofs.Math.Option.{none, some}
 use Rattle.std.proofs.lemmas.List.{length-replicate}
-use Rattle.lists.specs.Lists.{bind, Each}
+use Rattle.lists.specs.Lists.{bind, Each, find}
 use Rattle.lists.specs.Block.{blocks, block}
 use Rattle.lists.specs.BlockLaws.{length-block}
 use Rattle.page.specs.SublistLaws.{each-get_or, all-each}
@@ -13,6 +14,7 @@ use Rattle.address.specs.Limits.{max_blocks}
 use Rattle.chain.specs.Walk.{walk, Sized, Walked}
 use Rattle.chain.specs.WalkLaws.{walk-some, walk-few}
 use Rattle.chain.specs.Within.{entries_on, PagesOk, Within, PageOn}
+use Rattle.chain.specs.FindLaws.{find-here, find-later, find-end}
 
 -- ---- an array that holds a walk
 
@@ -26,6 +28,9 @@ module _ {s : List ℕ} {first : ℕ} {bs : List ℕ} {n : ℕ} (held : Walked s
 
   pub walked-few : Sized s → n ≤ suc max_blocks
   walked-few sized = omega (arith, held.count, walk-few s first, sized.few)
+
+  pub walked-get_or : (i : ℕ) → i < n → get_or bs i 0 ≡ get_or (walk s first) i 0
+  walked-get_or i h = sym (get_or-take n bs i 0 h) ∙ ap (λ (ks : List ℕ). get_or ks i 0) held.blocks
 
   pub walked-within : Sized s → Each (λ k. k < blocks s) (walk s first) → Within s (take n bs)
   walked-within sized inside =
@@ -47,21 +52,43 @@ module _ {s ks : List ℕ} (ok : Within s ks) (i : ℕ) (more : i < length ks) w
   pub block-length : length (block s at) ≡ 512
   block-length = length-block s at block-whole
 
+  pub block-fine : PagesOk s ks → page_ok (block s at) ≡ true
+  block-fine pages =
+      each-get_or (λ k. page_ok (block s k) ≡ true) ks i 0 (all-each (λ k. page_ok (block s k)) ks pages) more
+
   pub block-sorted : PagesOk s ks → Sorted (block s at)
-  block-sorted pages =
-      let each = all-each (λ k. page_ok (block s k)) ks pages in
-      page_ok-sorted (block s at) block-length (each-get_or (λ k. page_ok (block s k) ≡ true) ks i 0 each more)
+  block-sorted pages = page_ok-sorted (block s at) block-length (block-fine pages)
 
   pub block-page : {l : List ℕ} → l ≡ block s at → PageOn s ks i l
   block-page e = record { page = e; whole = rw e block-length; sorted = λ pages. rw e (block-sorted pages) }
 
--- ---- what is left of the entries on a walk from index i on
+-- ---- what is left of a walk, and of the entries on it, from index i on
 
-pub rest-turn : (s ks : List ℕ) (i : ℕ) → i < length ks
-    → bind (drop i ks) (entries_on s) ≡ entries_on s (get_or ks i 0) ++ bind (drop (i + 1) ks) (entries_on s)
-rest-turn s ks i more =
-    ap (λ (js : List ℕ). bind js (entries_on s))
-    (drop-cons ks i 0 more ∙ ap (λ (j : ℕ). get_or ks i 0 ∷ drop j ks) (sym (add-one i)))
+module _ (s ks : List ℕ) (i : ℕ) where
+  module _ (more : i < length ks) where
+    pub walk_turn : drop i ks ≡ get_or ks i 0 ∷ drop (i + 1) ks
+    walk_turn = drop-cons ks i 0 more ∙ ap (λ (j : ℕ). get_or ks i 0 ∷ drop j ks) (sym (add-one i))
+
+    pub rest-turn : bind (drop i ks) (entries_on s)
+        ≡ entries_on s (get_or ks i 0) ++ bind (drop (i + 1) ks) (entries_on s)
+    rest-turn = ap (λ (js : List ℕ). bind js (entries_on s)) walk_turn
+
+    -- a search ends here or goes on
+    module _ (t : ℕ → Bool) where
+      pub search-here : t (get_or ks i 0) ≡ true → find t (drop i ks) ≡ some (get_or ks i 0)
+      search-here h = find-here t ks i 0 more h
+
+      pub search-later : t (get_or ks i 0) ≡ false → find t (drop i ks) ≡ find t (drop (i + 1) ks)
+      search-later h = find-later t ks i 0 more h
+
+  pub search-end : (t : ℕ → Bool) → length ks ≤ i → find t (drop i ks) ≡ none
+  search-end t past = find-end t ks i past
+
+  pub walk-done : length ks ≤ i → drop i ks ≡ []
+  walk-done past = drop_of_length-le ks {i = i} past
+
+  pub rest-done : length ks ≤ i → bind (drop i ks) (entries_on s) ≡ []
+  rest-done past = ap (λ (js : List ℕ). bind js (entries_on s)) (walk-done past)
 
 -- a walk of no block
 pub within_none : (s : List ℕ) → Within s []
