@@ -1,11 +1,12 @@
 -- A line read by its first two bytes and the numbers after them.
-use Rattle.std.specs.Prelude.{◌≡◌, refl, Bool, true, false, cond, Option, Some, None, List, [], ◌∷◌, ◌++◌, ℕ, ◌+◌, ◌≤◌, ◌<◌, eqb, length, drop, get_or}
-use Rattle.std.proofs.Common.{sym, ap, ◌∙◌, arith, le-leb, eq-eqb, ne_eqb, eqb-true}
+use Rattle.std.specs.Prelude.{◌≡◌, refl, Bool, true, false, cond, Option, Some, None, List, [], ◌∷◌, ◌++◌, ℕ, ◌+◌, ◌≤◌, ◌<◌, eqb, length, drop, get_or, suc, ◌-◌, ltb, take}
+use Rattle.std.proofs.Common.{sym, ap, ◌∙◌, arith, le-leb, eq-eqb, ne_eqb, eqb-true, ltb-true, ltb-false, length-drop, take_all, drop-drop}
 use Rattle.std.proofs.lemmas.Bool.{lt-leb}
 use Rattle.std.proofs.lemmas.List.{at_drop_more}
 use Rattle.line.specs.declared.Fields.{Fields}
 use Rattle.line.specs.declared.Command.{Command}
-use Rattle.line.specs.Words.{parts_from, words, number_of}
+use Rattle.line.specs.Words.{parts_from, words, number_of, span}
+use Rattle.line.specs.WordsLaws.{span-le, parts_last, parts_more}
 use Rattle.line.specs.Command.{fields_from, add_number, command_of, command_with, command_from, max_line, read_line}
 
 pub cond_same : (t : Bool) (c : Option Command) → cond t c c ≡ c
@@ -101,3 +102,56 @@ fields-turn f ws i w h e =
     (λ (x : List ℕ).
     elim (add_number f (number_of x)) [ Some g ↦ fields_from g (drop (i + 1) ws) | None ↦ None ])
     (sym e)
+
+-- after a word that is no number the line stays wrong
+pub fields-wrong : (f : Fields) (w : List ℕ) (ws : List (List ℕ)) → add_number f (number_of w) ≡ None
+    → fields_from f (w ∷ ws) ≡ None
+fields-wrong f w ws e = ap (λ (o : Option Fields). elim o [ Some g ↦ fields_from g ws | None ↦ None ]) e
+
+-- ---- the word from one place of a line to another, and the numbers from there on
+
+pub record Word (line : List ℕ) (at end : ℕ) : Type 0 where
+  pub from : at ≤ end
+  pub upto : end ≤ length line
+  pub spans : end - at ≡ span 32 (drop at line)
+
+pub word_at : (line : List ℕ) (at end : ℕ) → at ≤ length line → end ≡ at + span 32 (drop at line) → Word line at end
+word_at line at end h e =
+    let short : span 32 (drop at line) ≤ length line - at = rw length-drop at (span-le 32 (drop at line)) in
+    record { from = omega arith; upto = omega arith; spans = omega arith }
+
+module _ {line : List ℕ} {at end : ℕ} (w : Word line at end) (f : Fields) where
+  -- the numbers f and that of the word
+  abbrev added : Option Fields
+  added = add_number f (number_of (take (end - at) (drop at line)))
+
+  pub fields-last : end ≡ length line → fields_from f (words (drop at line))
+      ≡ add_number f (number_of (take (end - at) (drop at line)))
+  fields-last e =
+      let all : length (drop at line) ≤ end - at = rw length-drop (omega arith) in
+      let none : length (drop at line) ≤ span 32 (drop at line) = omega (arith, w.spans) in
+      rw (parts_last 32 (drop at line) none, take_all (end - at) (drop at line) all)
+      (go (add_number f (number_of (drop at line))))
+    where
+      go : (o : Option Fields) → Path (Option Fields) (elim o [ Some g ↦ Some g | None ↦ None ]) o
+      go (Some g) = refl
+      go None = refl
+
+  pub fields-more : end < length line
+      → fields_from f (words (drop at line))
+      ≡ elim (add_number f (number_of (take (end - at) (drop at line)))) [
+        | Some g ↦ fields_from g (words (drop (end + 1) line))
+        | None ↦ None
+      ]
+  fields-more h =
+      let some : span 32 (drop at line) < length (drop at line) = rw length-drop (omega (arith, w.from, w.spans)) in
+      let next : at + suc (end - at) ≡ end + 1 = omega (arith, w.from) in
+      rw (parts_more 32 (drop at line) some, ← w.spans, drop-drop (suc (end - at)) at line)
+      (ap (λ (k : ℕ). elim added [ Some g ↦ fields_from g (words (drop k line)) | None ↦ None ]) next)
+
+  pub fields-stop : number_of (take (end - at) (drop at line)) ≡ None → fields_from f (words (drop at line)) ≡ None
+  fields-stop e = go (ltb end (length line)) refl
+    where
+      go : (t : Bool) → ltb end (length line) ≡ t → fields_from f (words (drop at line)) ≡ None
+      go true q = fields-more (ltb-true end (length line) q) ∙ rw e
+      go false q = fields-last (omega (arith, ltb-false end (length line) q, w.upto)) ∙ rw e

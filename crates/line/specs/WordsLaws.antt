@@ -1,5 +1,5 @@
 -- Words read from a place on, and digits one after the other.
-use Rattle.std.specs.Prelude.{◌≡◌, refl, Bool, true, false, cond, Option, Some, None, List, [], ◌∷◌, ◌++◌, ℕ, suc, ◌+◌, ◌-◌, ◌*◌, ◌≤◌, ◌<◌, eqb, length, drop, get_or}
+use Rattle.std.specs.Prelude.{◌≡◌, refl, Bool, true, false, cond, Option, Some, None, List, [], ◌∷◌, ◌++◌, ℕ, suc, ◌+◌, ◌-◌, ◌*◌, ◌≤◌, ◌<◌, eqb, length, drop, get_or, take}
 use Rattle.std.proofs.Common.{sym, ap, ◌∙◌, append_assoc, append-nil, add-one, arith, le-leb, eq-eqb, ne_eqb, drop_of_length-le, drop-cons}
 use Rattle.std.proofs.lemmas.Bool.{lt-leb}
 use Rattle.std.specs.List.{slice_split, onto_first}
@@ -16,6 +16,64 @@ module _ (sep : ℕ) where
           → ◌≤◌ (elim t [ true ↦ 0 | false ↦ suc (span sep bs) ]) (suc (length bs))
       go true h = omega arith
       go false h = omega arith
+
+  -- read from i on
+  pub span-end : (l : List ℕ) (i : ℕ) → length l ≤ i → span sep (drop i l) ≡ 0
+  span-end l i h = ap (span sep) (drop_of_length-le l h)
+
+  pub span-hit : (l : List ℕ) (i : ℕ) → i < length l → get_or l i 0 ≡ sep → span sep (drop i l) ≡ 0
+  span-hit l i h e = rw (drop-cons l i 0 h, span, eq-eqb (get_or l i 0) sep e)
+
+  pub span-miss : (l : List ℕ) (i : ℕ) → i < length l → (get_or l i 0 ≡ sep → ⊥) → span sep (drop i l)
+      ≡ suc (span sep (drop (i + 1) l))
+  span-miss l i h e = rw (add-one i, drop-cons l i 0 h, span, ne_eqb (get_or l i 0) sep e)
+
+  -- the first part, and what follows it
+  parts_from-last : (acc l : List ℕ) → length l ≤ span sep l → parts_from sep acc l ≡ (acc ++ l) ∷ []
+  parts_from-last acc [] h = ap (λ (x : List ℕ). x ∷ []) (sym (append-nil acc))
+  parts_from-last acc (b ∷ bs) h = go (eqb b sep) h (parts_from-last (acc ++ (b ∷ [])) bs)
+    where
+      go : (t : Bool) → suc (length bs) ≤ (elim t [ true ↦ 0 | false ↦ suc (span sep bs) ])
+          → (length bs ≤ span sep bs → parts_from sep (acc ++ (b ∷ [])) bs ≡ (acc ++ (b ∷ []) ++ bs) ∷ [])
+          → Path (List (List ℕ)) (elim t [
+            | true ↦ acc ∷ parts_from sep [] bs
+            | false ↦ parts_from sep
+                (acc ++ (b ∷ [])) bs
+          ])
+          ((acc ++ (b ∷ bs)) ∷ [])
+      go true h ih = absurd (omega arith)
+      go false h ih = ih (omega arith) ∙ ap (λ (x : List ℕ). x ∷ []) (append_assoc acc (b ∷ []) bs)
+
+  parts_from-more : (acc l : List ℕ) → span sep l < length l
+      → parts_from sep acc l ≡ (acc ++ take (span sep l) l) ∷ parts sep (drop (suc (span sep l)) l)
+  parts_from-more acc [] h = absurd (omega arith)
+  parts_from-more acc (b ∷ bs) h = go (eqb b sep) h (parts_from-more (acc ++ (b ∷ [])) bs)
+    where
+      at : Bool → ℕ
+      at t = elim t [ true ↦ 0 | false ↦ suc (span sep bs) ]
+
+      go : (t : Bool) → at t < suc (length bs)
+          → (span sep bs < length bs
+          → parts_from sep (acc ++ (b ∷ [])) bs
+          ≡ (acc ++ (b ∷ []) ++ take (span sep bs) bs) ∷ parts sep (drop (suc (span sep bs)) bs))
+          → Path (List (List ℕ)) (elim t [
+            | true ↦ acc ∷ parts_from sep [] bs
+            | false ↦ parts_from sep
+                (acc ++ (b ∷ [])) bs
+          ])
+          ((acc ++ take (at t) (b ∷ bs)) ∷ parts sep (drop (at t) bs))
+      go true h ih = ap (λ (x : List ℕ). x ∷ parts_from sep [] bs) (sym (append-nil acc))
+      go false h ih =
+          ih (omega arith)
+          ∙ ap (λ (x : List ℕ). x ∷ parts sep (drop (suc (span sep bs)) bs))
+          (append_assoc acc (b ∷ []) (take (span sep bs) bs))
+
+  pub parts_last : (l : List ℕ) → length l ≤ span sep l → parts sep l ≡ l ∷ []
+  parts_last l h = parts_from-last [] l h
+
+  pub parts_more : (l : List ℕ) → span sep l < length l
+      → parts sep l ≡ take (span sep l) l ∷ parts sep (drop (suc (span sep l)) l)
+  parts_more l h = parts_from-more [] l h
 
 -- ---- the parts that std's split gives
 

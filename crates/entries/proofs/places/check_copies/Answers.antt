@@ -3,7 +3,7 @@ use Rattle.lists.specs.Lists.{all}
 use Rattle.lists.specs.Bytes.{Bytes}
 use Rattle.page.specs.declared.Entry.{Entry}
 use Rattle.image.specs.Decode.{max_at}
-use Rattle.merge.specs.WalksLaws.{merge-pages}
+use Rattle.merge.specs.WalksLaws.{alone-pages}
 use Rattle.reader.specs.KnownLaws.{max-is}
 use Rattle.entries.specs.Tests.{marked_by}
 use Rattle.entries.specs.WalkedLaws.{walk-within, walk-some, walk-pages, walk-merged}
@@ -15,7 +15,7 @@ all_marked-requires-clause-new_pages c =
     let bytes : Bytes c.args.store.now = λ i. omega (arith, c.type_inv.store i) in
     let made : c.args.new ≤ max_at c.args.store.now = omega (arith, c.requires.1, max-is k.known.known.known) in
     let walked = c.walk_bucket-n.ensures in (
-      merge-pages bytes (walk-within c.args.new made walked k.known) (walk-pages c.args.new made walked k),
+      alone-pages bytes (walk-within c.args.new made walked k.known) (walk-pages c.args.new made walked k),
       walk-some c.args.new made walked,
     )
 
@@ -25,7 +25,7 @@ all_marked-requires-clause-old_pages c =
     let bytes : Bytes c.args.store.now = λ i. omega (arith, c.type_inv.store i) in
     let made : c.args.old ≤ max_at c.args.store.now = omega (arith, c.requires.2, max-is k.known.known.known) in
     let walked = c.walk_bucket-k.ensures in (
-      merge-pages bytes (walk-within c.args.old made walked k.known) (walk-pages c.args.old made walked k),
+      alone-pages bytes (walk-within c.args.old made walked k.known) (walk-pages c.args.old made walked k),
       walk-some c.args.old made walked,
     )
 

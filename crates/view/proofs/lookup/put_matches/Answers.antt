@@ -1,10 +1,7 @@
-use Rattle.std.proofs.Common.{◌≡◌, ◌+◌, ◌-◌, ◌++◌, ◌≤◌, ◌<◌, List, [], ◌∷◌, ℕ, Bool, false, length, sym, ap, ap₂, ◌∙◌, subst, arith, rules, length-append}
+use Rattle.std.proofs.Common.{◌≡◌, ◌+◌, ◌-◌, ◌++◌, ◌≤◌, List, [], ◌∷◌, ℕ, Bool, false, length, sym, ap, ap₂, ◌∙◌, subst, arith, rules, length-append}
 use Rattle.lists.specs.Bytes.{Bytes}
-use Rattle.lists.specs.ListsLaws.{each_append, all_append}
-use Rattle.lists.specs.Block.{blocks, block}
 use Rattle.page.specs.declared.Pair.{Pair}
 use Rattle.page.specs.declared.Entry.{Entry}
-use Rattle.page.specs.Rule.{page_ok}
 use Rattle.model.specs.Held.{sorted}
 use Rattle.chain.specs.Within.{Within, PagesOk}
 use Rattle.chain.specs.Pairs.{pairs_in}
@@ -12,7 +9,7 @@ use Rattle.chain.specs.Along.{pairs_along}
 use Rattle.merge.specs.Tree.{max_pages}
 use Rattle.merge.specs.Merge.{joined}
 use Rattle.merge.specs.Heads.{page_at, Pages}
-use Rattle.merge.specs.WalksLaws.{merge-pages, alone-entries, first-entries, second-entries}
+use Rattle.merge.specs.WalksLaws.{joined-append, alone-pages, joined-pages, alone-entries, joined-first, joined-second}
 use Rattle.view.specs.Left.{pairs_left}
 use Rattle.view.specs.Lookup.{written, Listable}
 use Rattle.view.proofs.lookup.put_matches.Goals as goal
@@ -37,20 +34,17 @@ module _ (s own old : List ℕ) where
   together-pages : Bytes s → Within s own → PagesOk s own → Within s old → PagesOk s old
       → length own + length old ≤ max_pages → Pages s (own ++ old) (length (own ++ old))
   together-pages bytes w fine v fine' few =
-      merge-pages bytes
-      (record {
-        few = simp length-append (omega arith);
-        inside = each_append (λ k. k < blocks s) own old w.inside v.inside;
-      })
-      (all_append (λ k. page_ok (block s k)) own old fine fine')
+      subst (Pages s (own ++ old)) (sym (length-append own old))
+      (joined-pages bytes (joined-append own old) w fine v fine' few)
 
   together : (h : ℕ) (fresh : Bool)
       → pairs_left (page_at s (own ++ old)) (length own) (length (own ++ old) - length own) h fresh
       ≡ pairs_along s own old h fresh
   together h fresh =
       let k : length (own ++ old) - length own ≡ length old = omega (arith, length-append own old) in
-      pairs-by h fresh (first-entries s own old)
-      (ap (joined (page_at s (own ++ old)) (length own)) k ∙ second-entries s own old)
+      let both = joined-append own old in
+      pairs-by h fresh (joined-first s both)
+      (ap (joined (page_at s (own ++ old)) (length own)) k ∙ joined-second s both)
 
 pub put_pages-requires : goal.put_pages-requires
 put_pages-requires c =
@@ -58,7 +52,7 @@ put_pages-requires c =
     let bytes : Bytes a.store.now = λ i. omega (arith, c.type_inv.store i) in
     let none : length a.old.now ≡ 0 = search rules in
     let w = c.requires.own_walk in (
-      merge-pages bytes w.0 w.1,
+      alone-pages bytes w.0 w.1,
       c.requires.sizes.0,
       omega arith,
       subst (λ (ps : List Pair). Listable ps a.output.now)
