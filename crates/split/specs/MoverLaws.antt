@@ -1,6 +1,6 @@
 -- Whether an entry is left to move, as code tests it, and the search for one among a page's slots.
-use Rattle.std.specs.Prelude.{◌≡◌, Bool, true, false, not, ◌&&◌, List, ℕ, ◌+◌, ◌≤◌, ◌<◌, refl, eqb, length, get_or, take, is_some}
-use Rattle.std.proofs.Common.{sym, ◌∙◌, subst, arith}
+use Rattle.std.specs.Prelude.{◌≡◌, Bool, true, false, not, ◌&&◌, List, ℕ, ◌+◌, ◌≤◌, ◌<◌, refl, eqb, length, get_or, take, is_some, ◌≢◌, Option}
+use Rattle.std.proofs.Common.{sym, ◌∙◌, subst, arith, eq-eqb, ne_eqb}
 use Rattle.std.proofs.Math.Path.{ap}
 use Rattle.std.proofs.Math.Option.{none, some}
 use Rattle.lists.specs.Lists.{all, any, find}
@@ -22,6 +22,7 @@ use Rattle.model.specs.Steps.{moves}
 use Rattle.image.specs.declared.Meta.{Meta}
 use Rattle.image.specs.Decode.{block_of, decode}
 use Rattle.frame.specs.Frame.{chain_blocks}
+use Rattle.chain.specs.declared.Found.{Found}
 use Rattle.chain.specs.Walk.{Walked}
 use Rattle.chain.specs.Search.{at_slot, find_in}
 use Rattle.chain.specs.Within.{PagesOk, Within}
@@ -32,7 +33,7 @@ use Rattle.view.specs.PlacesLaws.{find-read}
 use Rattle.view.specs.ChainLaws.{blocks-within, blocks-pages, walks-blocks, walks-count}
 use Rattle.view.specs.HeldLaws.{is_some-find_at}
 use Rattle.split.specs.Mover.{movable, copied, NewChain, Copies}
-use Rattle.split.specs.Seek.{Before, Fresh, AnswersFrom, Stands, found_on}
+use Rattle.split.specs.Seek.{Before, Fresh, AnswersFrom, Stands, found_on, After}
 use Rattle.split.specs.SeekLaws.{before-find, before-all, before-next, after-at}
 
 -- ---- the walk along the new chain
@@ -98,6 +99,38 @@ module _ {s : List ℕ} {m : Meta} (r : Reads s m) where
   copy-answers false bs n h es k fresh i d le lt =
       let e = get_or es i d in ap (λ (b : Bool). moves x e && not b) (found-copy h e.pair)
 
+-- b is the bucket that its hash code maps to
+module _ {s : List ℕ} {m : Meta} (r : Reads s m) (e : Entry) (b : ℕ) (at : b ≡ bucket_of m.max e.pair.hash) where
+  goes : moves (decode s) e ≡ eqb b m.max
+  goes = sym (moves-read (decode s) e (reads-max r) at)
+
+  pub movable-other : (c : Bool) → b ≢ m.max → false ≡ movable c (decode s) e
+  movable-other true ne =
+      sym (ap (λ (u : Bool). u && not (copied (decode s) e)) (goes ∙ ne_eqb b m.max ne))
+  movable-other false ne = sym (goes ∙ ne_eqb b m.max ne)
+
+  moves-home : b ≡ m.max → moves (decode s) e ≡ true
+  moves-home q = goes ∙ eq-eqb b m.max q
+
+  pub movable-clear : (c : Bool) → c ≡ false → b ≡ m.max → true ≡ movable c (decode s) e
+  movable-clear c k q = sym (ap (λ (d : Bool). movable d (decode s) e) k ∙ moves-home q)
+
+  pub movable-fresh : (c : Bool) → c ≡ true → copied (decode s) e ≡ false → b ≡ m.max → true ≡ movable c (decode s) e
+  movable-fresh c k z q =
+      sym
+      (ap (λ (d : Bool). movable d (decode s) e) k
+      ∙ ap (λ (u : Bool). u && not (copied (decode s) e)) (moves-home q)
+      ∙ ap not z)
+
+  -- f is what the search for a copy found in the new chain
+  pub movable-copy : {c : Bool} {bs : List ℕ} {n : ℕ} → c ≡ true → NewChain (decode s) bs n → b ≡ m.max
+      → (f : Option Found) → f ≡ find_in s (take n bs) e.pair → not (is_some f) ≡ movable c (decode s) e
+  movable-copy k h q f g =
+      sym
+      (ap (λ (d : Bool). movable d (decode s) e) k
+      ∙ ap (λ (u : Bool). u && not (copied (decode s) e)) (moves-home q)
+      ∙ ap not (sym (ap is_some g ∙ found-copy r h e.pair)))
+
 -- another entry of its pair is as much to move
 pub movable-same : (c : Bool) (x : Index) (e : Entry) → movable c x e ≡ true → (d : Entry) → is e.pair d ≡ true
     → movable c x d ≡ true
@@ -146,6 +179,12 @@ module _ (t : Entry → Bool) (l : List ℕ) (i : ℕ) where
           → {b : Bool} → post e b → b ≡ t e
       slot-answers {post} h le {b} p =
           h.at i e b le in_list (subst (λ (d : Entry). post d b) (sym is-there) p) ∙ ap t is-there
+
+    -- where none from slot k on passes, it does not
+    pub slot-after : (k : ℕ) → After t (entries_of l) k → k ≤ i → t (entry_at l i) ≡ false
+    slot-after k z h =
+        ap t (sym (get_or-entries_of l i (entry_at l i) more))
+        ∙ after-at t (entries_of l) k i (entry_at l i) z h in_list
 
   -- past the last slot
   pub slot-end : Before t (entries_of l) i → u16_at l 0 ≤ i → find t (entries_of l) ≡ none

@@ -11,6 +11,7 @@ use Rattle.page.specs.declared.Pair.{Pair}
 use Rattle.page.specs.declared.Entry.{Entry}
 use Rattle.frame.specs.ListsLaws.{find-zero, find-left, find-right}
 use Rattle.chain.specs.declared.Found.{Found}
+use Rattle.chain.specs.Search.{at_slot}
 use Rattle.split.specs.declared.Mover.{Mover}
 use Rattle.model.specs.Index.{Index}
 use Rattle.split.specs.Mover.{movable}
@@ -118,6 +119,23 @@ module _ (t : Entry → Bool) where
   before-from (e ∷ es) (suc k) (suc i) d z l h = omega (arith, before-from es k i d (omega arith) (omega arith) h)
 
 -- ---- what was found
+
+module _ (t : Entry → Bool) (es : List Entry) {r : Option Mover} (found : Seeks t es r) where
+  pub seeks-at : {v : Mover} → r ≡ Some v → Seeks t es (Some v)
+  seeks-at h = subst (Seeks t es) h found
+
+  pub seeks-entry : {v : Mover} → r ≡ Some v → find t es ≡ some v.entry
+  seeks-entry h = (subst (Seeks t es) h found).0
+
+  pub seeks-place : {v : Mover} → r ≡ Some v → Stands t es v.entry v.place
+  seeks-place h = (subst (Seeks t es) h found).1
+
+  pub seeks-none : r ≡ None → find t es ≡ none
+  seeks-none h = subst (Seeks t es) h found
+
+pub located-at : (f : Pair → Option Found) {r : Option Mover} → Located f r → {v : Mover} → r ≡ Some v
+    → f v.entry.pair ≡ at_slot v.block v.slot
+located-at f found h = subst (Located f) h found
 
 -- where another search finds the same
 pub located-as : {f : Pair → Option Found} (r : Option Mover) → Located f r → (g : Pair → Option Found) → ((p : Pair) → f p ≡ g p)

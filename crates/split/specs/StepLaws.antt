@@ -1,5 +1,5 @@
 -- What a step is, by the job and by what its tests find; and what a planned put comes to as a step.
-use Rattle.std.specs.Prelude.{◌≡◌, Bool, true, false, Result as Outcome, Ok, Err, List, ℕ}
+use Rattle.std.specs.Prelude.{◌≡◌, Bool, true, false, Result as Outcome, Ok, Err, List, ℕ, cond, refl}
 use Rattle.std.proofs.Common.{sym, ◌∙◌, subst}
 use Rattle.std.proofs.Math.Path.{ap}
 use Rattle.std.proofs.Math.Option.{Option}
@@ -56,7 +56,21 @@ module _ {s : List ℕ} {c : Change} {images : List ℕ} where
   places-stop (placed p) e = never (cc)
   places-stop (full z) e = halted z
 
+  -- the two as one
+  pub places-advances : {X : Type 0} {o : Option Index} {room : Bool} → Places s c images o room → (x : X)
+      → Advances s c images (or_full o) (cond room (Ok x) (Err Stop.NoRoom))
+  places-advances (placed p) x = advanced p
+  places-advances (full z) x = halted z
+
+  -- the plan r, whose parts are another's
+  pub advances-by : {X : Type 0} {r : Change} {n t : Step Index} {a b : Outcome X Stop} → Advances s c images n a
+      → r ≡ c → b ≡ a → t ≡ n → Advances s r images t b
+  advances-by {X} {r} {n} {t} {a} {b} h q e k =
+      subst (λ (d : Change). Advances s d images t b) (sym q)
+      (subst (λ (d : Outcome X Stop). Advances s c images t d) (sym e)
+      (subst (λ (d : Step Index). Advances s c images d a) (sym k) h))
+
   -- the step t is another's
   pub advances-as : {X : Type 0} {n t : Step Index} {a : Outcome X Stop} → Advances s c images n a → t ≡ n
       → Advances s c images t a
-  advances-as {a = a} h e = subst (λ (d : Step Index). Advances s c images d a) (sym e) h
+  advances-as h e = advances-by h refl refl e
