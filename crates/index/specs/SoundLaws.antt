@@ -11,11 +11,12 @@ use Rattle.store.proofs.FinishLaws.{finished-none}
 use Rattle.model.specs.Answers.{Answer, work_of}
 use Rattle.model.specs.declared.Stop.{Stop}
 use Rattle.model.specs.Index.{Index}
-use Rattle.model.specs.Steps.{Step, next, stopped, Worked, iterate}
+use Rattle.model.specs.Steps.{Step, next, stopped, Worked, iterate, step}
 use Rattle.model.specs.Machine.{Kind, step_index}
 use Rattle.model.specs.Calls.{Result}
 use Rattle.model.specs.WellFormed.{WF}
 use Rattle.model.proofs.BoundLaws.{laid-size}
+use Rattle.model.proofs.StepLaws.{step-wf}
 use Rattle.model.proofs.KindLaws.{kind-wf}
 use Rattle.model.proofs.MachineLaws.{never}
 use Rattle.image.specs.Layout.{encode}
@@ -30,6 +31,8 @@ use Rattle.cuts.specs.Journalled.{journalled, step_to, step_journalled, worked_b
 use Rattle.plan.specs.Plan.{Plans, Settles, accepted, declined, Advances, advanced, halted}
 use Rattle.plan.specs.PlanLaws.{fits-none}
 use Rattle.view.specs.ReadsLaws.{reads-laid, reads-size, reads_whole, encode-reads}
+use Rattle.split.specs.declared.Position.{Position}
+use Rattle.split.specs.Seek.{From, Leads}
 use Rattle.index.specs.Sound.{Sound, Stepped, moved, stayed}
 use Rattle.index.specs.Written.{Alters}
 
@@ -104,6 +107,15 @@ module _ {s : List ℕ} {c : Change} {images : List ℕ} where
       subst (λ (z : Index). P z x)
       (sym (ap decode (f ∙ p.makes) ∙ decode-encode y (kind-wf k (decode s) y r.wf e))) (g y e)
   advances-leaves k r (halted z) e t f P g = tt
+
+  -- the position that a step gives is one to search from in the store that it leaves
+  pub advances-from : {X : Type 0} → Sound s → {q : Step Index} {a : Outcome X Stop} → Advances s c images q a
+      → step (decode s) ≡ q → (t : List ℕ) → t ≡ finished s c images → (k : Position) → Leads (decode s) k
+      → {x : X} → a ≡ Ok x → From (decode t) k
+  advances-from r (advanced {y} p) e t f k g n =
+      subst (λ (z : Index). From z k)
+      (sym (ap decode (f ∙ p.makes) ∙ decode-encode y (step-wf (decode s) y r.wf e))) (g y e)
+  advances-from r (halted z) e t f k g n = never (cc)
 
 -- ---- steps one after the other
 

@@ -1,23 +1,31 @@
 -- What squeeze's outcome is, by what its tests find; what a step leaves the next one.
-use Rattle.std.specs.Prelude.{◌≡◌, Bool, ℕ, ◌≤◌, ◌<◌, Ok, Err}
+use Rattle.std.specs.Prelude.{◌≡◌, Bool, ℕ, ◌≤◌, ◌<◌, Ok, Err, List, Result as Outcome}
 use Rattle.std.proofs.Math.Path.{refl, sym, ap}
-use Rattle.std.proofs.Common.{◌∙◌}
+use Rattle.std.proofs.Common.{◌∙◌, subst}
 use Rattle.std.proofs.Math.Bool.{true, false}
 use Rattle.std.proofs.Math.Option.{Option, none, some}
 use borrow.Author.Tests.{leb-true, le-leb, lt-leb}
 use Rattle.std.proofs.Math.Dec.{leb}
 use Rattle.lists.specs.Bytes.{Bytes}
 use Rattle.model.specs.declared.Refusal.{Refusal}
+use Rattle.model.specs.declared.Stop.{Stop}
 use Rattle.model.specs.Index.{Index}
-use Rattle.model.specs.Steps.{iterate}
-use Rattle.model.specs.Squeeze.{is_busy, bucket_in, bucket_test}
+use Rattle.model.specs.Steps.{iterate, Step}
+use Rattle.model.specs.Squeeze.{is_busy, bucket_in, bucket_test, squeeze_step}
+use Rattle.model.proofs.SqueezeStepLaws.{squeeze-wf}
 use Rattle.model.specs.Machine.{of_squeeze}
 use Rattle.model.specs.Calls.{budget_ok}
 use Rattle.model.proofs.MachineLaws.{never}
 use Rattle.image.specs.Decode.{decode}
+use Rattle.image.proofs.EncodeDecodeLaws.{decode-encode}
 use Rattle.outcomes.specs.Outcomes.{Tested, passed, failed, unless_refused, bucket_tested}
 use Rattle.journal.specs.Journal.{Disk}
 use Rattle.cuts.specs.Journalled.{tested_with, step_journalled, worked_by, work_on, squeeze_journalled}
+use Rattle.store.specs.declared.Change.{Change}
+use Rattle.store.specs.Finish.{finished}
+use Rattle.plan.specs.Plan.{Advances, advanced, halted}
+use Rattle.squeeze.specs.declared.Span.{Span}
+use Rattle.squeeze.specs.Span.{Spans, Leads}
 use Rattle.index.specs.Tested.{test_of}
 use Rattle.index.specs.TestedLaws.{failed-is}
 use Rattle.index.specs.ReadyLaws.{ready-sound, ready-passed}
@@ -95,6 +103,16 @@ module _ (d : Disk) (b : ℕ) (numbers : Bool) where
           go : (q : Option Refusal) → test_of (unless_refused q x) ≡ Ok tt → unless_refused q x ≡ passed x
           go none h = refl
           go (some r) h = never (cc)
+
+-- ---- the pages that the next step looks at are there in the store that a step leaves
+
+pub advances-spans : {s : List ℕ} {c : Change} {images : List ℕ} {X : Type 0} (b : ℕ) → Sound s
+    → {q : Step Index} {a : Outcome X Stop} → Advances s c images q a → squeeze_step b (decode s) ≡ q → (t : List ℕ)
+    → t ≡ finished s c images → {v : Span} → Leads (decode s) b v → {x : X} → a ≡ Ok x → Spans (decode t) b v
+advances-spans {s} b r (advanced {y} p) e t f {v} g n =
+    subst (λ (x : Index). Spans x b v)
+    (sym (ap decode (f ∙ p.makes) ∙ decode-encode y (squeeze-wf b (decode s) y r.wf e))) (g y e)
+advances-spans b r (halted z) e t f g n = never (cc)
 
 -- ---- the outcome
 
