@@ -18,7 +18,7 @@ use Rattle.interpreter.specs.Script.{script_blocks}
 use Rattle.interpreter.specs.Feed.{next_line, line_turn, line_ends, feed_outcome, finish_outcome}
 use Rattle.interpreter.specs.Runs.{Runs, Room}
 use Rattle.interpreter.specs.Held.{kept}
-use Rattle.interpreter.specs.HeldLaws.{kept-gathered}
+use Rattle.interpreter.specs.HeldLaws.{kept-gathered, Gathered, gather_in, up_to, gather-is}
 
 -- ---- room
 
@@ -121,21 +121,56 @@ module _ (c : ScriptState) (store input out : List ℕ) where
   unfolding feed_outcome
   feed-ready e = rw e
 
+  -- as gather_in has it
+  module _ (g : Gathered) (e : g ≡ gather_in c input) (whole : length c.line ≡ 80)
+      (y : ready c store out ≡ true) where
+    to-lf : g ≡ up_to c input (span 10 input)
+    to-lf = e ∙ gather-is c input whole (ready-seen c store out y)
+
+    pub held-seen : g.state.seen ≤ too_many
+    held-seen = let q = ap (λ (x : Gathered). x.state.seen) to-lf in omega (arith, q)
+
+    pub held-blocks : g.state.blocks ≡ c.blocks
+    held-blocks = ap (λ (x : Gathered). x.state.blocks) to-lf
+
+    pub held-room : Room g.state.blocks store out
+    held-room = subst (λ (m : ℕ). Room m store out) (sym held-blocks) (ready-room c store out y)
+
+    abbrev by : Gathered → Feeding
+    by x = cond x.ended (line_ends x.used x.state store out) (still true x.used x.state store out)
+
+    pick : (u : Bool) (n : ℕ) (x : ScriptState)
+        → cond u (line_ends (suc n) x store out) (still true n x store out)
+        ≡ by (record { state = x; used = cond u (suc n) n; ended = u })
+    pick true n x = refl
+    pick false n x = refl
+
+    pub feed-gathered : (t : Bool) → g.ended ≡ t
+        → feed_outcome c store input out
+        ≡ cond t (line_ends g.used g.state store out) (still true g.used g.state store out)
+    feed-gathered t h =
+        let n = span 10 input in
+        feed-ready y ∙ pick (nat_lt n (length input)) n (gathered c (take n input)) ∙ ap by (sym to-lf)
+        ∙ ap (λ (u : Bool).
+        cond u (line_ends g.used g.state store out) (still true g.used g.state store out))
+        h
+
+  -- as kept has it, one byte after the other
   module _ (whole : length c.line ≡ 80) (y : ready c store out ≡ true) where
-    held : (bs : List ℕ) → fold kept c bs ≡ gathered c bs
-    held bs = kept-gathered c bs whole (ready-seen c store out y)
+    folded : (bs : List ℕ) → fold kept c bs ≡ gathered c bs
+    folded bs = kept-gathered c bs whole (ready-seen c store out y)
 
-    pub held-room : (bs : List ℕ) → Room (fold kept c bs).blocks store out
-    held-room bs =
-        subst (λ (x : ScriptState). Room x.blocks store out) (sym (held bs)) (ready-room c store out y)
+    pub folded-room : (bs : List ℕ) → Room (fold kept c bs).blocks store out
+    folded-room bs =
+        subst (λ (x : ScriptState). Room x.blocks store out) (sym (folded bs)) (ready-room c store out y)
 
-    pub held-ready : (bs : List ℕ) → ready (fold kept c bs) store out ≡ true
-    held-ready bs =
-        let q = ap (λ (x : ScriptState). x.seen) (held bs) in
-        room-ready (fold kept c bs) store out (omega (arith, q)) (held-room bs)
+    pub folded-ready : (bs : List ℕ) → ready (fold kept c bs) store out ≡ true
+    folded-ready bs =
+        let q = ap (λ (x : ScriptState). x.seen) (folded bs) in
+        room-ready (fold kept c bs) store out (omega (arith, q)) (folded-room bs)
 
-    abbrev by : ℕ → Bool → Feeding
-    by n u =
+    abbrev cut_at : ℕ → Bool → Feeding
+    cut_at n u =
         cond u (line_ends (suc n) (gathered c (take n input)) store out)
         (still true n (gathered c (take n input)) store out)
 
@@ -144,8 +179,8 @@ module _ (c : ScriptState) (store input out : List ℕ) where
         → feed_outcome c store input out ≡ line_ends (n + 1) (fold kept c (take n input)) store out
     feed-line n e =
         let at = lf-at input n e in
-        feed-ready y ∙ ap (by (span 10 input)) at.1 ∙ ap (λ (k : ℕ). by k true) at.0
-        ∙ ap (λ (x : ScriptState). line_ends (suc n) x store out) (sym (held (take n input)))
+        feed-ready y ∙ ap (cut_at (span 10 input)) at.1 ∙ ap (λ (k : ℕ). cut_at k true) at.0
+        ∙ ap (λ (x : ScriptState). line_ends (suc n) x store out) (sym (folded (take n input)))
         ∙ ap (λ (k : ℕ). line_ends k (fold kept c (take n input)) store out) (sym (add-one n))
 
     -- there is none
@@ -153,10 +188,10 @@ module _ (c : ScriptState) (store input out : List ℕ) where
         → feed_outcome c store input out ≡ still true (length input) (fold kept c input) store out
     feed-part e =
         let at = lf-none input e in
-        feed-ready y ∙ ap (by (span 10 input)) at.1 ∙ ap (λ (k : ℕ). by k false) at.0
+        feed-ready y ∙ ap (cut_at (span 10 input)) at.1 ∙ ap (λ (k : ℕ). cut_at k false) at.0
         ∙ ap (λ (l : List ℕ). still true (length input) (gathered c l) store out)
         (take_all (length input) input (omega arith))
-        ∙ ap (λ (x : ScriptState). still true (length input) x store out) (sym (held input))
+        ∙ ap (λ (x : ScriptState). still true (length input) x store out) (sym (folded input))
 
 -- ---- finish
 

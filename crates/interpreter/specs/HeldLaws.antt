@@ -1,6 +1,6 @@
 -- The pending line of the struct: byte by byte, as feed's outcome has it, and as the machine has it.
-use Rattle.std.specs.Prelude.{◌≡◌, ℕ, suc, ◌+◌, ◌*◌, ◌<◌, ◌≤◌, min, Bool, true, false, cond, ltb, List, [], ◌∷◌, ◌++◌, length, take, ◌==◌, nat_le, nat_lt, slice_set, refl}
-use Rattle.std.proofs.Common.{sym, ap, ◌∙◌, append-nil, add-one, arith, le-leb, lt-ltb, le-ltb, leb-true, ltb-true, ltb-false, length-set, length-take-le, take-suc-set}
+use Rattle.std.specs.Prelude.{◌≡◌, ℕ, suc, ◌+◌, ◌*◌, ◌<◌, ◌≤◌, min, Bool, true, false, cond, ltb, List, [], ◌∷◌, ◌++◌, length, take, ◌==◌, nat_le, nat_lt, slice_set, refl, drop, ◌≢◌, slice_index}
+use Rattle.std.proofs.Common.{sym, ap, ◌∙◌, append-nil, add-one, arith, le-leb, lt-ltb, le-ltb, leb-true, ltb-true, ltb-false, length-set, length-take-le, take-suc-set, zero-add, add-zero, add_assoc, one-add, eq-eqb, ne_eqb, drop_of_length-le, drop-cons}
 use Rattle.std.proofs.Math.Dec.{leb-suc-suc}
 use Rattle.std.specs.List.{fold}
 use Rattle.std.proofs.lemmas.List.Edits.{sets}
@@ -112,7 +112,7 @@ kept-gathered c [] w h = sym (gathered_none c h)
 kept-gathered c (b ∷ bs) w h =
     kept-gathered (kept c b) bs (kept_whole c b ∙ w) (kept_seen c b) ∙ gathered-more c b bs w h
 
--- ---- the bytes up to an LF
+-- ---- the bytes up to an LF, read from i on
 
 -- The state after the bytes up to an LF or the end, their number, with the LF, and whether it was an LF.
 pub record Gathered : Type 0 where
@@ -128,6 +128,34 @@ gather_in c (b ∷ bs) =
       | false ↦ let g = gather_in (kept c b) bs in
           record { state = g.state; used = suc g.used; ended = g.ended }
     ]
+
+-- i bytes before those that are gathered
+abbrev pub after : ℕ → Gathered → Gathered
+after i g = record { state = g.state; used = i + g.used; ended = g.ended }
+
+module _ (c : ScriptState) (l : List ℕ) (i : ℕ) where
+  pub gather-end : length l ≤ i → after i (gather_in c (drop i l)) ≡ record { state = c; used = i; ended = false }
+  gather-end h =
+      ap (λ (x : List ℕ). after i (gather_in c x)) (drop_of_length-le l h)
+      ∙ ap (λ (n : ℕ). record { state = c; used = n; ended = false }) (add-zero i)
+
+  pub gather-hit : i < length l → slice_index l i ≡ 10 → gather_in c (drop i l)
+      ≡ record { state = c; used = 1; ended = true }
+  gather-hit h e = rw (drop-cons l i 0 h, gather_in, eq-eqb (slice_index l i) 10 e)
+
+  pub gather-miss : i < length l → (slice_index l i ≢ 10)
+      → gather_in c (drop i l) ≡ after 1 (gather_in (kept c (slice_index l i)) (drop (i + 1) l))
+  gather-miss h e =
+      let g = gather_in (kept c (slice_index l i)) (drop (suc i) l) in
+      rw (add-one i, drop-cons l i 0 h, gather_in, ne_eqb (slice_index l i) 10 e)
+      (ap (λ (n : ℕ). record { state = g.state; used = n; ended = g.ended }) (sym (one-add g.used)))
+
+pub after_none : (g : Gathered) → g ≡ after 0 g
+after_none g = ap (λ (n : ℕ). record { state = g.state; used = n; ended = g.ended }) (sym (zero-add g.used))
+
+pub after_more : (i : ℕ) (g : Gathered) → after i (after 1 g) ≡ after (i + 1) g
+after_more i g = ap (λ (n : ℕ). record { state = g.state; used = n; ended = g.ended })
+    (sym (add_assoc i 1 g.used))
 
 -- ---- as feed's outcome has it
 

@@ -2,7 +2,7 @@ use Rattle.std.proofs.Common.{◌≡◌, ◌+◌, true, length, take, sym, ap, �
 use Rattle.interpreter.specs.declared.ScriptState.{ScriptState}
 use Rattle.interpreter.specs.Feed.{ready, still, line_ends}
 use Rattle.interpreter.specs.Runs.{Room}
-use Rattle.interpreter.specs.FeedLaws.{held-ready, held-room, ready-next, feed-unready, feed-line, feed-part}
+use Rattle.interpreter.specs.FeedLaws.{folded-ready, folded-room, ready-next, feed-unready, feed-line, feed-part}
 use Rattle.interpreter.proofs.feed.feed.Goals as goal
 
 pub returns-then-not-is_ready : goal.returns-then-not-is_ready
@@ -24,7 +24,7 @@ returns-in_default c =
       output_value = feed-part a.state store input out whole fit (sym c.find_lf.ensures ∙ c.in_default.is)
           ∙ ap (λ (s : ScriptState). still true (length input) s store out) same;
       ready_value = subst (λ (s : ScriptState). true ≡ ready s store out) same
-          (sym (held-ready a.state store input out whole fit input));
+          (sym (folded-ready a.state store input out whole fit input));
     }
 
 pub end_line-requires : goal.end_line-requires
@@ -32,7 +32,7 @@ end_line-requires c =
     let a = c.args in
     let whole : length a.state.line ≡ 80 = search rules in
     subst (λ (s : ScriptState). Room s.blocks a.store.now a.output.now) (sym c.keep-line.ensures)
-    (held-room a.state a.store.now a.input.now a.output.now whole (sym c.if-not-is_ready.ensures)
+    (folded-room a.state a.store.now a.input.now a.output.now whole (sym c.if-not-is_ready.ensures)
     (take c.in-Some.n a.input.now))
 
 pub returns : goal.returns
@@ -47,7 +47,7 @@ returns c =
     let fit = sym c.if-not-is_ready.ensures in
     let same = sym c.keep-line.ensures in
     let held = subst (λ (s : ScriptState). ready s store out ≡ true) same
-    (held-ready a.state store input out whole fit (take n input)) in
+    (folded-ready a.state store input out whole fit (take n input)) in
     record {
       output_value = feed-line a.state store input out whole fit n (sym c.find_lf.ensures ∙ c.in-Some.is)
           ∙ ap (λ (s : ScriptState). line_ends (n + 1) s store out) same ∙ e.ensures.output_value;
