@@ -63,14 +63,14 @@ module _ {s : List ℕ} {c : Change} {images : List ℕ} where
   places-advances (full z) x = halted z
 
   -- the plan r, whose parts are another's
-  pub advances-by : {X : Type 0} {r : Change} {n t : Step Index} {a b : Outcome X Stop} → Advances s c images n a
+  pub advances-as : {X : Type 0} {r : Change} {n t : Step Index} {a b : Outcome X Stop} → Advances s c images n a
       → r ≡ c → b ≡ a → t ≡ n → Advances s r images t b
-  advances-by {X} {r} {n} {t} {a} {b} h q e k =
+  advances-as {X} {r} {n} {t} {a} {b} h q e k =
       subst (λ (d : Change). Advances s d images t b) (sym q)
       (subst (λ (d : Outcome X Stop). Advances s c images t d) (sym e)
       (subst (λ (d : Step Index). Advances s c images d a) (sym k) h))
 
   -- the step t is another's
-  pub advances-as : {X : Type 0} {n t : Step Index} {a : Outcome X Stop} → Advances s c images n a → t ≡ n
+  pub advances-at : {X : Type 0} {n t : Step Index} {a : Outcome X Stop} → Advances s c images n a → t ≡ n
       → Advances s c images t a
-  advances-as h e = advances-by h refl refl e
+  advances-at h e = advances-as h refl refl e

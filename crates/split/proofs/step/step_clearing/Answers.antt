@@ -1,13 +1,13 @@
 use Rattle.image.specs.Decode.{decode}
 use Rattle.plan.specs.Plan.{advanced}
 use Rattle.split.specs.FromLaws.{leads-start, clear-leads}
-use Rattle.split.specs.StepLaws.{step-clears, advances-as}
+use Rattle.split.specs.StepLaws.{step-clears, advances-at}
 use Rattle.split.specs.CopyLaws.{clear_next}
 use Rattle.split.proofs.step.step_clearing.Goals as goal
 
 pub returns-in_default-clause-advances : goal.returns-in_default-clause-advances
 returns-in_default-clause-advances c =
-    advances-as (advanced c.plan_cleared.ensures)
+    advances-at (advanced c.plan_cleared.ensures)
     (step-clears (decode c.args.store.now) c.requires.store_value.0 c.in_default.ensures.seeks)
 
 pub returns-in_default-clause-leads : goal.returns-in_default-clause-leads
@@ -19,7 +19,7 @@ clear_pair-requires-clause-wf c =
 
 pub returns-clause-advances : goal.returns-clause-advances
 returns-clause-advances c =
-    advances-as (advanced c.clear_pair.ensures)
+    advances-at (advanced c.clear_pair.ensures)
     (step-clears (decode c.args.store.now) c.requires.store_value.0 c.in-Some.ensures.seeks.0)
 
 pub returns-clause-leads : goal.returns-clause-leads

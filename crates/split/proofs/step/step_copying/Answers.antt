@@ -1,13 +1,13 @@
 use Rattle.image.specs.Decode.{decode}
 use Rattle.plan.specs.Plan.{advanced}
 use Rattle.split.specs.FromLaws.{leads-start, copy-leads}
-use Rattle.split.specs.StepLaws.{step-copies, places-next, places-stop, advances-as}
+use Rattle.split.specs.StepLaws.{step-copies, places-next, places-stop, advances-at}
 use Rattle.split.specs.CopyLaws.{copy-absent, copy_step, copy-next}
 use Rattle.split.proofs.step.step_copying.Goals as goal
 
 pub returns-in_default-clause-advances : goal.returns-in_default-clause-advances
 returns-in_default-clause-advances c =
-    advances-as (advanced c.plan_copied.ensures)
+    advances-at (advanced c.plan_copied.ensures)
     (step-copies (decode c.args.store.now) c.requires.store_value.0 c.in_default.ensures.seeks)
 
 pub returns-in_default-clause-leads : goal.returns-in_default-clause-leads
@@ -23,12 +23,12 @@ plan_put-requires-clause-wf c =
 
 pub returns-then-not-plan_put-clause-advances : goal.returns-then-not-plan_put-clause-advances
 returns-then-not-plan_put-clause-advances c =
-    advances-as (places-stop c.plan_put.ensures c.if-not-plan_put.true)
+    advances-at (places-stop c.plan_put.ensures c.if-not-plan_put.true)
     (copy_step c.requires.reads c.requires.store_value.0 c.in-Some.mover.entry c.in-Some.ensures.seeks.0)
 
 pub returns-clause-advances : goal.returns-clause-advances
 returns-clause-advances c =
-    advances-as (places-next c.plan_put.ensures c.if-not-plan_put.false _)
+    advances-at (places-next c.plan_put.ensures c.if-not-plan_put.false _)
     (copy_step c.requires.reads c.requires.store_value.0 c.in-Some.mover.entry c.in-Some.ensures.seeks.0)
 
 pub returns-clause-leads : goal.returns-clause-leads
