@@ -1,4 +1,4 @@
--- Moving bytes up and down by twelve: a turn of a loop that does, and what twelve bytes put in or taken out make of the whole.
+-- Bytes moved up and down by twelve: a turn of such a loop, and what twelve bytes put in or taken out make of them.
 use Rattle.std.specs.Prelude.{◌≡◌, List, ◌∷◌, ◌++◌, ℕ, suc, ◌+◌, ◌-◌, ◌≤◌, ◌<◌, length, get_or, take, drop, set}
 use Rattle.std.proofs.Common.{sym, ap, ap₂, ◌∙◌, append_assoc, suc-add, arith, length-append, length-drop, take-append-drop, take-suc, take_at, take-take, drop_at, drop-drop, get_or-take, get_or-drop, get_or-append-add, length-take-le}
 use Rattle.std.proofs.Math.ListN.{get_or-append}
