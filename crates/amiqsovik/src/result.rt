@@ -2,7 +2,7 @@
 ghost use Rattle.std.specs.Prelude.{◌≡◌, ◌++◌, ◌≤◌, length, drop};
 ghost use Rattle.std.proofs.lemmas.List.Edits.{sets};
 ghost use Rattle.model.specs.Answers.{phase_no, phase_old, phase_new};
-ghost use Rattle.amiqsovik.specs.Result.{twos_complement, slack_bytes, standing_bytes, shown};
+ghost use Rattle.amiqsovik.specs.Result.{slack_bytes, standing_bytes, shown};
 
 use endian::put_u32;
 use model::{Phase, Standing, StandingAnswer};
@@ -18,21 +18,11 @@ fn phase_numbers(phase: Phase) -> (u32, u32, u32)
     }
 }
 
-// The bits of a number with a sign.
-fn slack_bits(slack: i64) -> u64
-    ensures { result ≡ twos_complement slack }
-{
-    if slack >= 0 {
-        return slack as u64;
-    }
-    18446744073709551615 - (-1 - slack) as u64
-}
-
 fn put_slack(res: &mut [u8], slack: i64)
     requires { 28 ≤ length res.old }
     ensures { res.new ≡ sets res.old 20 (slack_bytes slack) }
 {
-    let bits = slack_bits(slack);
+    let bits = slack.cast_unsigned();
     put_u32(res, 20, (bits % 4294967296) as u32);
     put_u32(res, 24, (bits / 4294967296) as u32);
 }
