@@ -1,7 +1,7 @@
 // Little-endian numbers at a place of a byte slice.
 #![tactic(auto)]
 
-pub mod raw; // raw.rt: bytes copied, made zero and tested for zero
+pub mod raw; // raw.rt: bytes tested for zero
 
 ghost use Rattle.std.specs.Prelude.{◌≡◌, ◌+◌, ◌≤◌, ◌<◌, length};
 ghost use Rattle.std.proofs.lemmas.List.Edits.{sets};
