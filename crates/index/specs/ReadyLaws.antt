@@ -9,7 +9,7 @@ use Rattle.model.specs.Answers.{Answer}
 use Rattle.model.specs.Index.{Index}
 use Rattle.model.specs.Steps.{iterate}
 use Rattle.model.specs.Machine.{of_splits}
-use Rattle.model.specs.Calls.{pair_ok, budget_ok, insert, remove}
+use Rattle.model.specs.Calls.{Result, pair_ok, budget_ok, insert, remove}
 use Rattle.model.proofs.MachineLaws.{never}
 use Rattle.image.specs.Decode.{decode}
 use Rattle.image.specs.Rules.{length_ok}
@@ -78,31 +78,37 @@ module _ (d : Disk) (p : Pair) {t : PairAnswer} (found : PairReady d p t) where
   refusal : {r : Refusal} → t ≡ Err r → tested_with (pair_ok p) d ≡ failed r
   refusal e = subst (PairReady d p) e found
 
+  module _ (f : Index → Pair → Result) where
+    pub call-refused : {r : Refusal} → t ≡ Err r
+        → change_on (tested_with (pair_ok p) d) (λ x. f x p) d ≡ record { answer = Err r; disk = d }
+    call-refused e = ap (λ (x : Tested). change_on x (λ (x : Index). f x p) d) (refusal e)
+
+    pub call-made : {q : Pair} → t ≡ Ok q
+        → change_on (tested_with (pair_ok p) d) (λ x. f x p) d ≡ journalled d (f (decode d.store) q)
+    call-made e =
+        let g = ready-pair e in
+        ap (λ (x : Tested). change_on x (λ (x : Index). f x p) d) g.4
+        ∙ ap (λ (q : Pair). journalled d (f (decode d.store) q)) (sym g.0)
+
   pub insert-refused : {r : Refusal} → t ≡ Err r
       → insert_journalled d p ≡ record { answer = Err r; disk = d }
   unfolding insert_journalled
-  insert-refused e = ap (λ (x : Tested). change_on x (λ (x : Index). insert x p) d) (refusal e)
+  insert-refused = call-refused insert
 
   pub insert-made : {q : Pair} → t ≡ Ok q
       → insert_journalled d p ≡ journalled d (insert (decode d.store) q)
   unfolding insert_journalled
-  insert-made e =
-      let g = ready-pair e in
-      ap (λ (x : Tested). change_on x (λ (x : Index). insert x p) d) g.4
-      ∙ ap (λ (q : Pair). journalled d (insert (decode d.store) q)) (sym g.0)
+  insert-made = call-made insert
 
   pub remove-refused : {r : Refusal} → t ≡ Err r
       → remove_journalled d p ≡ record { answer = Err r; disk = d }
   unfolding remove_journalled
-  remove-refused e = ap (λ (x : Tested). change_on x (λ (x : Index). remove x p) d) (refusal e)
+  remove-refused = call-refused remove
 
   pub remove-made : {q : Pair} → t ≡ Ok q
       → remove_journalled d p ≡ journalled d (remove (decode d.store) q)
   unfolding remove_journalled
-  remove-made e =
-      let g = ready-pair e in
-      ap (λ (x : Tested). change_on x (λ (x : Index). remove x p) d) g.4
-      ∙ ap (λ (q : Pair). journalled d (remove (decode d.store) q)) (sym g.0)
+  remove-made = call-made remove
 
 -- ---- work
 

@@ -1,16 +1,22 @@
 // A change in two halves: its list of block stores worked out into a lent buffer, and its n-th block store done.
 ghost use Rattle.std.specs.Prelude.{◌≡◌, ◌+◌, ◌≤◌, ◌<◌, length};
+ghost use Rattle.model.specs.Calls.{pair_ok};
 ghost use Rattle.journal.specs.Journal.{disk};
 ghost use Rattle.journal.specs.Planned.{plan_count};
+ghost use Rattle.cuts.specs.Journalled.{tested_with};
+ghost use Rattle.cuts.specs.Halves.{unless_short, plan_change};
 ghost use Rattle.cuts.specs.Halves.{plan_insert, plan_remove, plan_work, plan_squeeze, store_outcome};
 ghost use Rattle.index.specs.Halves.{planned_place};
 
-use crate::laid::{lay_insert, lay_remove, lay_squeeze, lay_step};
+use crate::laid::{lay_call, lay_step};
+use crate::pairs::{Insert, PairCall, Remove};
 use crate::ready::{test_pair_ready, test_ready};
-use crate::squeezing::test_squeeze;
+use crate::squeezing::{test_squeeze, whole_chain};
+use crate::steps::{Splits, Squeezing};
 use draft::{Draft, no_change};
 use journal::plan::{plan_count, plan_name, store_planned};
 use model::{LentError, Place, PlaceAnswer, PlanAnswer, Refusal};
+use split::step::start;
 use verify::check_length;
 
 pub fn plan_insert(
@@ -25,15 +31,7 @@ pub fn plan_insert(
         (record { hash = hash; block = block; offset = offset }) plan.old
         ≡ record { answer = result; plan = plan.new } }
 {
-    if plan.len() < 5632 {
-        return Err(LentError::Short);
-    }
-    let pair = test_pair_ready(store, journal, hash, block, offset)?;
-    let mut draft = Draft {
-        change: no_change(),
-        images: [0u8; 4096],
-    };
-    lay_insert(&mut draft, store, pair, plan)
+    plan_call(&Insert {}, store, journal, hash, block, offset, plan)
 }
 
 pub fn plan_remove(
@@ -48,6 +46,25 @@ pub fn plan_remove(
         (record { hash = hash; block = block; offset = offset }) plan.old
         ≡ record { answer = result; plan = plan.new } }
 {
+    plan_call(&Remove {}, store, journal, hash, block, offset, plan)
+}
+
+// The first half of a call with the pair of these numbers.
+fn plan_call<C: PairCall>(
+    call: &C,
+    store: &[u8],
+    journal: &[u8],
+    hash: u32,
+    block: u32,
+    offset: u32,
+    plan: &mut [u8],
+) -> PlanAnswer
+    ensures { unless_short plan.old (plan_change
+        (tested_with (pair_ok (record { hash = hash; block = block; offset = offset })) (disk store.now journal.now))
+        (λ x. C.call call.now x (record { hash = hash; block = block; offset = offset }))
+        (disk store.now journal.now) plan.old)
+        ≡ record { answer = result; plan = plan.new } }
+{
     if plan.len() < 5632 {
         return Err(LentError::Short);
     }
@@ -56,7 +73,7 @@ pub fn plan_remove(
         change: no_change(),
         images: [0u8; 4096],
     };
-    lay_remove(&mut draft, store, pair, plan)
+    lay_call(call, &mut draft, store, pair, plan)
 }
 
 // One step of a split.
@@ -72,7 +89,7 @@ pub fn plan_work(store: &[u8], journal: &[u8], plan: &mut [u8]) -> PlanAnswer
         change: no_change(),
         images: [0u8; 4096],
     };
-    lay_step(&mut draft, store, plan)
+    lay_step(&Splits {}, &mut draft, store, start(), plan)
 }
 
 // One step of a squeeze.
@@ -88,7 +105,8 @@ pub fn plan_squeeze(store: &[u8], journal: &[u8], bucket: u32, plan: &mut [u8]) 
         change: no_change(),
         images: [0u8; 4096],
     };
-    lay_squeeze(&mut draft, store, bucket, plan)
+    let span = whole_chain(store, bucket);
+    lay_step(&Squeezing { bucket }, &mut draft, store, span, plan)
 }
 
 // Where the `n`-th block store of a plan writes; refusal 2 where the plan has none, or it is outside of the store.

@@ -7,6 +7,7 @@ pub mod read; // read.rt: lookup and standing
 pub mod tests; // tests.rt: the tests before a call
 mod ready; // ready.rt: those before a call with a journal
 mod written; // written.rt: a planned change, its list worked out, written or laid into a buffer
+mod pairs; // pairs.rt: insert and remove, as they are planned
 mod sound; // sound.rt: changes of a store that passed the tests
 pub mod change; // change.rt: the insert without a journal
 pub mod journalled; // journalled.rt: insert and remove

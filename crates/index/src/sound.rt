@@ -1,12 +1,13 @@
 // What the calls do to a store that passed the tests: the change is planned, and then written.
 ghost use Rattle.std.specs.Prelude.{◌≡◌, true, length};
-ghost use Rattle.model.specs.Calls.{pair_ok, insert, remove};
+ghost use Rattle.model.specs.Calls.{pair_ok, insert};
 ghost use Rattle.image.specs.Decode.{meta_at, decode};
 ghost use Rattle.outcomes.specs.Outcomes.{changed};
 ghost use Rattle.journal.specs.Journal.{disk};
 ghost use Rattle.cuts.specs.Journalled.{journalled};
 ghost use Rattle.index.specs.Sound.{Sound};
 
+use crate::pairs::PairCall;
 use crate::written::write_change;
 use draft::{Draft, no_change};
 use image::Meta;
@@ -14,7 +15,6 @@ use insertion::insert::plan_insert;
 use meta::read_meta;
 use model::Answer;
 use page::Pair;
-use removal::plan_remove;
 use store::{block_at, finish};
 
 // The fields of the meta block.
@@ -40,12 +40,16 @@ pub fn insert_sound(store: &mut [u8], pair: Pair) -> Answer
     answer
 }
 
-// The same written with a journal, and the removal.
-
-pub fn insert_written(store: &mut [u8], journal: &mut [u8], pair: Pair) -> Answer
+// A call with a pair, written with a journal.
+pub fn call_written<C: PairCall>(
+    call: &C,
+    store: &mut [u8],
+    journal: &mut [u8],
+    pair: Pair,
+) -> Answer
     requires { (Sound store.old) × (pair_ok pair ≡ true) × (length journal.old ≡ 8192) }
     ensures { journalled (disk store.old journal.old)
-        (insert (decode store.old) pair)
+        (C.call call.now (decode store.old) pair)
         ≡ record { answer = result; disk = disk store.new journal.new } }
 {
     let m = read_fields(store);
@@ -53,23 +57,7 @@ pub fn insert_written(store: &mut [u8], journal: &mut [u8], pair: Pair) -> Answe
         change: no_change(),
         images: [0u8; 4096],
     };
-    let answer = plan_insert(&mut draft, store, m, pair);
-    write_change(store, journal, &draft.images, draft.change);
-    answer
-}
-
-pub fn remove_written(store: &mut [u8], journal: &mut [u8], pair: Pair) -> Answer
-    requires { (Sound store.old) × (pair_ok pair ≡ true) × (length journal.old ≡ 8192) }
-    ensures { journalled (disk store.old journal.old)
-        (remove (decode store.old) pair)
-        ≡ record { answer = result; disk = disk store.new journal.new } }
-{
-    let m = read_fields(store);
-    let mut draft = Draft {
-        change: no_change(),
-        images: [0u8; 4096],
-    };
-    let answer = plan_remove(&mut draft, store, m, pair);
+    let answer = call.plan(&mut draft, store, m, pair);
     write_change(store, journal, &draft.images, draft.change);
     answer
 }

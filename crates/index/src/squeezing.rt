@@ -7,6 +7,7 @@ ghost use Rattle.image.specs.Decode.{decode};
 ghost use Rattle.outcomes.specs.Outcomes.{unless_refused, bucket_tested};
 ghost use Rattle.journal.specs.Journal.{disk};
 ghost use Rattle.cuts.specs.Journalled.{tested_with, step_journalled, worked_by, squeeze_journalled};
+ghost use Rattle.squeeze.specs.Span.{Spans};
 ghost use Rattle.index.specs.Tested.{test_of};
 ghost use Rattle.index.specs.Sound.{Sound};
 
@@ -14,7 +15,7 @@ use crate::ready::test_ready;
 use crate::sound::read_fields;
 use crate::steps::{Squeezing, run_steps};
 use model::{Refusal, WorkAnswer};
-use squeeze::{is_busy, span_of};
+use squeeze::{Span, is_busy, span_of};
 
 // The tests of the bucket, which come after those of the store.
 fn test_bucket(store: &[u8], bucket: u32) -> Result<(), Refusal>
@@ -41,15 +42,23 @@ pub fn test_squeeze(store: &[u8], journal: &[u8], bucket: u32, numbers: bool) ->
     test_bucket(store, bucket)
 }
 
-// Steps on a sound store, the first of which looks at the whole chain.
+// Where the first step looks: the whole chain.
+pub fn whole_chain(store: &[u8], bucket: u32) -> Span
+    requires { (Sound store.now) × (bucket ≤ (decode store.now).max_bucket) }
+    ensures { Spans (decode store.now) bucket result }
+{
+    let m = read_fields(store);
+    span_of(store, m, bucket)
+}
+
+// Steps on a sound store.
 fn squeeze_sound(store: &mut [u8], journal: &mut [u8], bucket: u32, budget: u32) -> WorkAnswer
     requires { (Sound store.old) × (bucket ≤ (decode store.old).max_bucket) × (length journal.old ≡ 8192) }
     ensures { worked_by (iterate (step_journalled (of_squeeze bucket)) budget
         (disk store.old journal.old))
         ≡ record { answer = result; disk = disk store.new journal.new } }
 {
-    let m = read_fields(store);
-    let span = span_of(store, m, bucket);
+    let span = whole_chain(store, bucket);
     run_steps(&Squeezing { bucket }, store, journal, budget, span)
 }
 

@@ -22,11 +22,18 @@ returns-in_err-test_squeeze c =
     (step-refused a.plan.now c.if-plan-lt5632.false (of_squeeze a.bucket) a.store.now a.journal.now
     (bucket_tested (tested_with true (disk a.store.now a.journal.now)) a.bucket) _ (sym c.in_err-test_squeeze.ensures))
 
-pub lay_squeeze-requires-clause-sound : goal.lay_squeeze-requires-clause-sound
-lay_squeeze-requires-clause-sound c =
+pub whole_chain-span-requires : goal.whole_chain-span-requires
+whole_chain-span-requires c =
     let d : Disk = disk c.args.store.now c.args.journal.now in
-    let good = sym c.in_ok-test_squeeze.ensures in
-    (squeeze-sound d c.args.bucket true (λ i. omega (arith, c.type_inv.store i)) good, squeeze-range d c.args.bucket true (λ i. omega (arith, c.type_inv.store i)) good)
+    let good = sym c.in_ok-test_squeeze.ensures in (
+      squeeze-sound d c.args.bucket true (λ i. omega (arith, c.type_inv.store i)) good,
+      squeeze-range d c.args.bucket true (λ i. omega (arith, c.type_inv.store i)) good,
+    )
+
+pub lay_step-requires-clause-sound : goal.lay_step-requires-clause-sound
+lay_step-requires-clause-sound c =
+    squeeze-sound (disk c.args.store.now c.args.journal.now) c.args.bucket true
+    (λ i. omega (arith, c.type_inv.store i)) (sym c.in_ok-test_squeeze.ensures)
 
 pub returns : goal.returns
 unfolding plan_squeeze
@@ -35,4 +42,4 @@ returns c =
     step-passed a.plan.now c.if-plan-lt5632.false (of_squeeze a.bucket) a.store.now a.journal.now
     (bucket_tested (tested_with true (disk a.store.now a.journal.now)) a.bucket)
     (all-passed (disk a.store.now a.journal.now) a.bucket true (λ i. omega (arith, c.type_inv.store i)) (sym c.in_ok-test_squeeze.ensures))
-    c.lay_squeeze.ensures
+    c.lay_step.ensures

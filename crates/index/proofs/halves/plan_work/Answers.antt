@@ -4,6 +4,7 @@ use Rattle.model.specs.Machine.{of_splits}
 use Rattle.journal.specs.Journal.{disk}
 use Rattle.cuts.specs.Journalled.{tested_with}
 use Rattle.cuts.specs.Halves.{plan_work}
+use Rattle.split.specs.FromLaws.{from_start}
 use Rattle.index.specs.ReadyLaws.{ready-sound, ready-passed}
 use Rattle.index.specs.HalvesLaws.{too_short, step-refused, step-passed}
 use Rattle.index.proofs.halves.plan_work.Goals as goal
@@ -24,6 +25,9 @@ returns-in_err-test_ready c =
 pub lay_step-requires-clause-sound : goal.lay_step-requires-clause-sound
 lay_step-requires-clause-sound c =
     ready-sound true (disk c.args.store.now c.args.journal.now) (λ i. omega (arith, c.type_inv.store i)) (sym c.in_ok-test_ready.ensures)
+
+pub lay_step-requires-clause-from : goal.lay_step-requires-clause-from
+lay_step-requires-clause-from c = from_start _ _ c.start.ensures
 
 pub returns : goal.returns
 unfolding plan_work

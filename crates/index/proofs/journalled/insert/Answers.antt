@@ -1,19 +1,6 @@
-use Rattle.std.proofs.Common.{◌∙◌}
-use Rattle.std.proofs.lemmas.Result.{err_from_is_err_and}
-use Rattle.journal.specs.Journal.{disk}
-use Rattle.index.specs.ReadyLaws.{insert-refused, insert-made}
+use Rattle.cuts.specs.Journalled.{insert_journalled}
 use Rattle.index.proofs.journalled.insert.Goals as goal
 
-pub returns-in_err-pair : goal.returns-in_err-pair
-returns-in_err-pair c =
-    let a = c.args in
-    let p = err_from_is_err_and c.from_residual.result c.from_residual.ensures.1 in
-    rw (p.1, p.2)
-    (insert-refused (disk a.store.now a.journal.now) (record { hash = a.hash; block = a.block; offset = a.offset })
-    c.test_pair_ready.ensures c.in_err-pair.was)
-
 pub returns : goal.returns
-returns c =
-    let a = c.args in
-    insert-made (disk a.store.now a.journal.now) (record { hash = a.hash; block = a.block; offset = a.offset })
-    c.test_pair_ready.ensures c.in_ok-pair.was ∙ c.insert_written.ensures
+unfolding insert_journalled
+returns c = c.call_with.ensures

@@ -1,19 +1,6 @@
-use Rattle.std.proofs.Common.{◌∙◌}
-use Rattle.std.proofs.lemmas.Result.{err_from_is_err_and}
-use Rattle.journal.specs.Journal.{disk}
-use Rattle.index.specs.ReadyLaws.{remove-refused, remove-made}
+use Rattle.cuts.specs.Journalled.{remove_journalled}
 use Rattle.index.proofs.journalled.remove.Goals as goal
 
-pub returns-in_err-pair : goal.returns-in_err-pair
-returns-in_err-pair c =
-    let a = c.args in
-    let p = err_from_is_err_and c.from_residual.result c.from_residual.ensures.1 in
-    rw (p.1, p.2)
-    (remove-refused (disk a.store.now a.journal.now) (record { hash = a.hash; block = a.block; offset = a.offset })
-    c.test_pair_ready.ensures c.in_err-pair.was)
-
 pub returns : goal.returns
-returns c =
-    let a = c.args in
-    remove-made (disk a.store.now a.journal.now) (record { hash = a.hash; block = a.block; offset = a.offset })
-    c.test_pair_ready.ensures c.in_ok-pair.was ∙ c.remove_written.ensures
+unfolding remove_journalled
+returns c = c.call_with.ensures
