@@ -58,21 +58,23 @@ pub fn all_ones(map: &[u8], from: u32) -> bool
     true
 }
 
-// The lowest bit that is 0, looked for bit by bit. A byte of ones is passed by whole.
+// The lowest bit that is 0, looked for bit by bit. A byte of ones is passed by whole; the label leaves both loops.
 fn search_free(map: &[u8]) -> Option<u32>
     requires { length map.now ≡ 512 }
     ensures { result ≡ lowest_free map.now }
 {
-    for i in 0..256usize {
+    let mut free = None;
+    'bytes: for i in 0..256usize {
         if map[i] != 255 {
             for j in 0..8usize {
                 if (map[i] >> j) % 2 == 0 {
-                    return Some((8 * i + j) as u32);
+                    free = Some((8 * i + j) as u32);
+                    break 'bytes;
                 }
             }
         }
     }
-    None
+    free
 }
 
 // The lowest bit that is 0.
