@@ -30,7 +30,7 @@ use Rattle.outcomes.proofs.Demand3Theorem.{demand3-stores}
 use Rattle.journal.specs.Journal.{Disk}
 use Rattle.journal.specs.Cut.{Ready}
 use Rattle.cuts.proofs.Demand3Theorem.{Covered}
-use Rattle.gauge.specs.Gauge.{GaugeAnswer}
+use Rattle.gauge.specs.declared.GaugeAnswer.{GaugeAnswer}
 use Rattle.gauge.specs.Gauge.{quotient, pages, gauge_of, zeros, shows, gauge_on, gauge_outcome}
 use Rattle.gauge.proofs.GaugeLaws.{half, half_full, empty-zero}
 

@@ -1,15 +1,14 @@
 -- The fill gauge, docs/RULES.md 6.15: "one record of two binary64 numbers: held entries divided by buckets, and held
 -- entries divided by 40 times the pages that stand in chains".
-use Rattle.std.specs.Prelude.{true, false, List, [], ◌∷◌, ℕ, suc, ◌+◌, ◌*◌, pos, Float, Result, Ok, Err}
+use Rattle.std.specs.Prelude.{true, false, List, [], ◌∷◌, ℕ, suc, ◌+◌, ◌*◌, pos, Float, Ok, Err}
 use Rattle.std.specs.Float.{fin, binary64}
 use Rattle.std.specs.Float.Ieee.{round}
-use Rattle.model.specs.declared.Refusal.{Refusal}
-use Rattle.model.specs.Answers.{Answer}
 use Rattle.model.specs.Index.{Chain, Index}
 use Rattle.model.specs.Held.{count}
 use Rattle.model.specs.Squeeze.{pages_of}
 use Rattle.outcomes.specs.Outcomes.{Tested, passed, failed, tested}
 use Rattle.gauge.specs.declared.Gauge.{Gauge}
+use Rattle.gauge.specs.declared.GaugeAnswer.{GaugeAnswer}
 
 -- a / b, for b above 0: "the quotient of two whole numbers, rounded once to binary64"
 abbrev pub quotient : (a b : ℕ) → Float
@@ -38,26 +37,13 @@ zero64 = fin false 0 (pos 0)
 abbrev pub zeros : Gauge
 zeros = record { per_bucket = zero64; per_page = zero64 }
 
--- An answer, and the gauge.
-pub record GaugeAnswer : Type 0 where
-  pub answer : Answer
-  pub gauge : Gauge
-
 abbrev pub shows : Gauge → GaugeAnswer
 shows g = record { answer = Ok tt; gauge = g }
 
 -- "Refusals 1, 3 and 4 as everywhere; then both are 0."
-abbrev pub refuses : Refusal → GaugeAnswer
-refuses r = record { answer = Err r; gauge = zeros }
-
 abbrev pub gauge_on : Tested → GaugeAnswer
-gauge_on (failed r) = refuses r
+gauge_on (failed r) = record { answer = Err r; gauge = zeros }
 gauge_on (passed x) = shows (gauge_of x)
-
--- what the code answers, which gives no gauge on a refusal
-abbrev pub told : Result Gauge Refusal → GaugeAnswer
-told (Ok g) = shows g
-told (Err r) = refuses r
 
 unfoldable pub gauge_outcome : List ℕ → GaugeAnswer
 gauge_outcome s = gauge_on (tested true s)

@@ -6,12 +6,12 @@ mod pages; // pages.rt: the pages that stand in chains
 ghost use Rattle.std.specs.Prelude.{◌≡◌, ◌<◌};
 ghost use Rattle.image.specs.Decode.{decode};
 ghost use Rattle.view.specs.Reads.{Reads};
-ghost use Rattle.gauge.specs.Gauge.{quotient, gauge_of, gauge_outcome, told};
+ghost use Rattle.gauge.specs.Gauge.{quotient, gauge_of, gauge_outcome};
 
 use image::Meta;
 use index::tests::test_store;
 use meta::read_meta;
-use model::Refusal;
+use model::Answer;
 use pages::count_pages;
 use store::block_at;
 
@@ -20,6 +20,13 @@ use store::block_at;
 pub struct Gauge {
     pub per_bucket: f64,
     pub per_page: f64,
+}
+
+// The answer, and the gauge: both of its numbers are 0 on a refusal.
+#[derive(Clone, Copy)]
+pub struct GaugeAnswer {
+    pub answer: Answer,
+    pub gauge: Gauge,
 }
 
 // The quotient of two whole numbers, rounded once: as every u32, both are binary64 numbers exactly.
@@ -43,11 +50,24 @@ fn gauge_of(store: &[u8], m: Meta) -> Gauge
     }
 }
 
-// The gauge, or refusal 1, 3 or 4.
-pub fn read_gauge(store: &[u8]) -> Result<Gauge, Refusal>
-    ensures { gauge_outcome store.now ≡ told result }
+// The gauge: refusals 1, 3 and 4, and then both are 0.
+pub fn read_gauge(store: &[u8]) -> GaugeAnswer
+    ensures { result ≡ gauge_outcome store.now }
 {
-    test_store(store)?;
-    let m = read_meta(block_at(store, 0));
-    Ok(gauge_of(store, m))
+    match test_store(store) {
+        Err(refusal) => GaugeAnswer {
+            answer: Err(refusal),
+            gauge: Gauge {
+                per_bucket: 0.0,
+                per_page: 0.0,
+            },
+        },
+        Ok(()) => {
+            let m = read_meta(block_at(store, 0));
+            GaugeAnswer {
+                answer: Ok(()),
+                gauge: gauge_of(store, m),
+            }
+        }
+    }
 }
