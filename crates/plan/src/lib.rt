@@ -1,4 +1,5 @@
-// What a call or a step would change, as a change of some blocks: planning reads the store and writes nothing to it.
+// What planners share. specs/ say what a planned change, put, call and step come to: planning reads the store, edits a
+// draft that is lent, and writes nothing to the store.
 #![tactic(auto)]
 
 ghost use Rattle.std.specs.Prelude.{◌≡◌};
