@@ -1,9 +1,9 @@
 -- What the first half of a call answers, by what its tests find; where the n-th block store of a plan writes.
 use Rattle.model.specs.declared.LentError.{LentError}
 use Rattle.model.specs.declared.Place.{Place}
-use Rattle.std.specs.Prelude.{◌≡◌, refl, Bool, true, false, cond, ◌&&◌, List, [], ℕ, ◌+◌, ◌*◌, ◌≤◌, ◌<◌, leb, ltb, length, take}
+use Rattle.std.specs.Prelude.{◌≡◌, refl, Bool, true, false, cond, ◌&&◌, List, [], ℕ, ◌+◌, ◌*◌, ◌≤◌, ◌<◌, leb, ltb, length}
 use Rattle.std.specs.Prelude.{Ok, Err}
-use Rattle.std.proofs.Common.{sym, ap, ◌∙◌, subst, arith, leb-true, ltb-true, le-leb, lt-ltb, le-ltb, eq-eqb, length-take-le}
+use Rattle.std.proofs.Common.{sym, ap, ◌∙◌, subst, arith, leb-true, ltb-true, le-leb, lt-ltb, le-ltb, eq-eqb}
 use Rattle.std.proofs.lemmas.Bool.{lt-leb}
 use Rattle.lists.specs.ListsLaws.{and_left, and_right}
 use Rattle.lists.specs.Block.{blocks}
@@ -17,9 +17,8 @@ use Rattle.model.proofs.MachineLaws.{never}
 use Rattle.image.specs.Decode.{decode}
 use Rattle.image.specs.Rules.{length_ok}
 use Rattle.outcomes.specs.Outcomes.{Tested, passed, step_store}
-use Rattle.journal.specs.Journal.{Disk, BlockStore, disk, sixteen, do_store}
+use Rattle.journal.specs.Journal.{Disk, BlockStore, disk, do_store}
 use Rattle.journal.specs.Planned.{plan_count, plan_name, plan_store}
-use Rattle.journal.proofs.FrontLaws.{count-front, plan_store-front}
 use Rattle.journal.specs.NthLaws.{nth-image, nth-head, nth_end, nth-page, nth-wipe}
 use Rattle.cuts.specs.Journalled.{tested_with}
 use Rattle.cuts.specs.Halves.{Planned, answering, planned_as, plan_change, planned_step, plan_step, unless_short}
@@ -212,52 +211,3 @@ module _ (s j p : List ℕ) (n : ℕ) where
               let same : Refusal.Number ≡ u = cc in
               outcome-is o ∙ (λ i. record { answer = Err (LentError.Refused (same i)); disk = disk s j })
           go true o f = never (cc)
-
--- ---- a plan at the front of a longer buffer
-
-module _ (s j b : List ℕ) (long : 5632 ≤ length b) (n : ℕ) where
-  abbrev front : List ℕ
-  front = take 5632 b
-
-  store_ok-front : store_ok (disk s j) front n ≡ store_ok (disk s j) b n
-  store_ok-front =
-      ap
-      (λ (m : ℕ). leb 1 m && (leb m 8 && (ltb n (2 * m + 3) && place_ok (plan_store front n) (blocks s))))
-      (count-front b long)
-      ∙ go (leb (plan_count b) 8) refl
-    where
-      last : BlockStore → Bool
-      last q = ltb n (2 * plan_count b + 3) && place_ok q (blocks s)
-
-      go : (t : Bool) → leb (plan_count b) 8 ≡ t
-          → leb 1 (plan_count b) && (t && last (plan_store front n)) ≡ leb 1 (plan_count b) && (t && last (plan_store b n))
-      go true e =
-          ap (λ (q : BlockStore). leb 1 (plan_count b) && last q)
-          (plan_store-front b long (leb-true (plan_count b) 8 e) n)
-      go false e = refl
-
-  full : 5632 ≤ length front
-  full = omega (arith, length-take-le 5632 b long)
-
-  store_outcome-front : store_outcome (disk s j) front n ≡ store_outcome (disk s j) b n
-  unfolding store_outcome
-  store_outcome-front =
-      (λ i. store_in (le-leb 5632 (length front) full i) (length_ok s) (sixteen j) (store_ok-front i) (disk s j) front n)
-      ∙ same (length_ok s) (sixteen j) (store_ok (disk s j) b n) (λ ok. plan_store-front b long (place-few s j b n ok) n)
-      ∙ sym
-      (λ i. store_in (le-leb 5632 (length b) long i) (length_ok s) (sixteen j) (store_ok (disk s j) b n) (disk s j) b n)
-    where
-      same : (l k o : Bool) → (o ≡ true → plan_store front n ≡ plan_store b n)
-          → store_in true l k o (disk s j) front n ≡ store_in true l k o (disk s j) b n
-      same false k o f = refl
-      same true false o f = refl
-      same true true false f = refl
-      same true true true f =
-          ap (λ (q : BlockStore). record { answer = Ok (place_of q); disk = do_store q (disk s j) }) (f refl)
-
-  module _ {q : List ℕ} (is : q ≡ front) where
-    pub front-long : 5632 ≤ length q
-    front-long = omega (arith, ap length is, full)
-
-    pub outcome-front : store_outcome (disk s j) b n ≡ store_outcome (disk s j) q n
-    outcome-front = sym (ap (λ (l : List ℕ). store_outcome (disk s j) l n) is ∙ store_outcome-front)

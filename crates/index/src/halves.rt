@@ -110,7 +110,8 @@ pub fn plan_squeeze(store: &[u8], journal: &[u8], bucket: u32, plan: &mut [u8]) 
 }
 
 // Where the `n`-th block store of a plan writes; refusal 2 where the plan has none, or it is outside of the store.
-fn store_place(store: &[u8], plan: &[u8; 5632], n: u32) -> Result<Place, Refusal>
+fn store_place(store: &[u8], plan: &[u8], n: u32) -> Result<Place, Refusal>
+    requires { 5632 ≤ length plan.now }
     ensures { result ≡ planned_place store.now plan.now n }
 {
     let count = plan_count(plan);
@@ -124,8 +125,9 @@ fn store_place(store: &[u8], plan: &[u8; 5632], n: u32) -> Result<Place, Refusal
 }
 
 // The same past the images: block store `count + past`.
-fn past_place(store: &[u8], plan: &[u8; 5632], count: u32, past: u32) -> Result<Place, Refusal>
-    requires { (count ≡ plan_count plan.now) × (1 ≤ count) × (count ≤ 8) × (past < count + 3) }
+fn past_place(store: &[u8], plan: &[u8], count: u32, past: u32) -> Result<Place, Refusal>
+    requires { (5632 ≤ length plan.now) × (count ≡ plan_count plan.now) × (1 ≤ count) × (count ≤ 8)
+        × (past < count + 3) }
     ensures { result ≡ planned_place store.now plan.now (count + past) }
 {
     if past == 0 {
@@ -149,9 +151,9 @@ pub fn do_store(store: &mut [u8], journal: &mut [u8], plan: &[u8], n: u32) -> Pl
     ensures { store_outcome (disk store.old journal.old) plan.now n
         ≡ record { answer = result; disk = disk store.new journal.new } }
 {
-    let Some(plan) = plan.first_chunk() else {
+    if plan.len() < 5632 {
         return Err(LentError::Short);
-    };
+    }
     if !check_length(store) {
         return Err(LentError::Refused(Refusal::Length));
     }

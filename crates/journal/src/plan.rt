@@ -59,22 +59,24 @@ pub fn work_out(plan: &mut [u8; 5632], change: Change, number: u32)
 // ---- done
 
 // How many images a plan has.
-pub fn plan_count(plan: &[u8; 5632]) -> u32
+pub fn plan_count(plan: &[u8]) -> u32
+    requires { 5632 ≤ length plan.now }
     ensures { result ≡ plan_count plan.now }
 {
     get_u32(plan, 4)
 }
 
 // The block that image `i` is of.
-pub fn plan_name(plan: &[u8; 5632], i: usize) -> u32
-    requires { i < 8 }
+pub fn plan_name(plan: &[u8], i: usize) -> u32
+    requires { (5632 ≤ length plan.now) × (i < 8) }
     ensures { result ≡ plan_name plan.now i }
 {
     get_u32(plan, 8 + 4 * i)
 }
 
 // Does the `n`-th block store of a plan, and nothing else.
-pub fn store_planned(store: &mut [u8], journal: &mut [u8; 8192], plan: &[u8; 5632], n: usize)
+pub fn store_planned(store: &mut [u8], journal: &mut [u8; 8192], plan: &[u8], n: usize)
+    requires plan_len { 5632 ≤ length plan.now }
     requires plan_bound { (plan_count plan.now ≤ 8) × (n < 2 * plan_count plan.now + 3) }
     requires by_index { (i : ℕ) → i < plan_count plan.now → n ≡ plan_count plan.now + 2 + i
         → 512 * plan_name plan.now i + 512 ≤ length store.old }
@@ -104,8 +106,8 @@ pub fn store_planned(store: &mut [u8], journal: &mut [u8; 8192], plan: &[u8; 563
 }
 
 // Does all block stores of a plan, from the first on.
-pub fn run_plan(store: &mut [u8], journal: &mut [u8; 8192], plan: &[u8; 5632])
-    requires few { plan_count plan.now ≤ 8 }
+pub fn run_plan(store: &mut [u8], journal: &mut [u8; 8192], plan: &[u8])
+    requires plan_len { (5632 ≤ length plan.now) × (plan_count plan.now ≤ 8) }
     requires by_index { (i : ℕ) → i < plan_count plan.now → 512 * plan_name plan.now i + 512 ≤ length store.old }
     ensures { run (plan_stores plan.now) (disk store.old journal.old) ≡ disk store.new journal.new }
 {

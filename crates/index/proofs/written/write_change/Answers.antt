@@ -16,8 +16,8 @@ returns-then-change-eq0-clause-store_after c =
 pub list_stores-requires-clause-in_bounds : goal.list_stores-requires-clause-in_bounds
 list_stores-requires-clause-in_bounds c = (sound-first c.requires.sound.0, c.requires.sound.1.fits.few)
 
-pub run_plan-requires-clause-few : goal.run_plan-requires-clause-few
-run_plan-requires-clause-few c =
+pub run_plan-requires-clause-plan_len : goal.run_plan-requires-clause-plan_len
+run_plan-requires-clause-plan_len c =
     let a = c.args in
     let r = c.requires.sound.0 in
     let t = c.requires.sound.1 in
@@ -26,7 +26,7 @@ run_plan-requires-clause-few c =
     let some : 1 ≤ a.change.count = omega arith in
     let long : 5632 ≤ length c.list_stores.new.plan = omega arith in
     let n = plan-count r t c.requires.journal_len.1 eight some _ c.list_stores.ensures long in
-    omega arith
+    (long, omega arith)
 
 pub run_plan-requires-clause-by_index : goal.run_plan-requires-clause-by_index
 run_plan-requires-clause-by_index c =
