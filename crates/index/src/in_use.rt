@@ -13,7 +13,10 @@ use verify::check_length;
 fn store_in_use(store: &[u8]) -> bool
     ensures { result ≡ store_in_use store.now }
 {
-    test_store(store).is_ok() && read_meta(block_at(store, 0)).count != 0
+    match test_store(store) {
+        Ok(()) => read_meta(block_at(store, 0)).count != 0,
+        Err(_) => false,
+    }
 }
 
 // Whether a format with this order is to leave a store alone: it is in use, and the order does not overwrite.
