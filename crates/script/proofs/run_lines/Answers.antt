@@ -25,7 +25,7 @@ put_rest w out after =
 module _ (held : ScriptState) (store piece out : List ℕ) (used written : ℕ) (r : Fed) (new after : List ℕ)
     (serves : Serves held store) (test : used + 1 ≤ length piece) (room : written + line_output ≤ length out)
     (e : feed_outcome held store (take (length piece - used) (drop used piece))
-        (take (length out - written) (drop written out)) ≡ fed_as r new after) where
+    (take (length out - written) (drop written out)) ≡ fed_as r new after) where
   fed : feed_outcome held store (drop used piece) (drop written out) ≡ fed_as r new after
   fed =
       subst (λ (x : List ℕ). feed_outcome held store x (drop written out) ≡ fed_as r new after) (whole piece used)

@@ -11,7 +11,7 @@ invariant-loop-used l =
       written_within : l.written ≤ length l.output;
       serves : Serves l.held l.store;
       ran : ran_as l.held l.store (take l.written l.output)
-          ≡ on_bytes (state_of l.initial.held l.initial.store) (take l.used l.piece)
+          ≡ on_bytes (state_of l.initial.held l.initial.store) (take l.used l.piece);
     }
 
 abbrev pub decreases-loop-used : goal.decreases-loop-used

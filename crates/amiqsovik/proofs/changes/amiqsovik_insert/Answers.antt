@@ -1,0 +1,5 @@
+use Rattle.amiqsovik.proofs.Told.{told-change}
+use Rattle.amiqsovik.proofs.changes.amiqsovik_insert.Goals as goal
+
+pub returns-clause-value : goal.returns-clause-value
+returns-clause-value c = (told-change c.insert.ensures c.answer_word.ensures).0
