@@ -57,6 +57,8 @@ fn check_distinct(merge: &mut Merge, store: &[u8], walk: &[u32]) -> bool
 }
 
 // Rule 5. The walk and the merge are made once and lent to the test of every chain.
+// Not inlined: beside those of rule 7 its arrays would stand on the stack twice.
+#[inline(never)]
 pub fn check_pages(store: &[u8], m: Meta) -> bool
     requires { Known4 store.now m }
     ensures { result ≡ rule5 store.now }

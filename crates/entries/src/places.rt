@@ -115,7 +115,8 @@ fn check_marks(store: &[u8], m: Meta, phase: Phase) -> bool
     }
 }
 
-// Rule 7.
+// Rule 7. Not inlined, as rule 5.
+#[inline(never)]
 pub fn check_places(store: &[u8], m: Meta) -> bool
     requires { Known5 store.now m }
     ensures { result ≡ rule7 store.now }
