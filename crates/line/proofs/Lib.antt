@@ -1,2 +1,3 @@
+pub mod Others
 pub mod CommaLaws
 pub mod FitsLaws
