@@ -1,7 +1,7 @@
 // Cases that a program reads from its input, one on a line, with bytes in hexadecimal; every input is taken.
 #![tactic(auto)]
 
-ghost use Rattle.std.specs.Prelude.{◌≡◌, ◌<◌, IfOk, IfSome, length};
+ghost use Rattle.std.specs.Prelude.{◌≡◌, ◌<◌, ◌≤◌, Err, IfErr, IfOk, IfSome, MatchOption, drop, length};
 ghost use Rattle.cases.specs.Counts.{IsPrefixLen};
 
 use std::io;
@@ -29,9 +29,10 @@ pub fn read_full<R: Read>(input: &mut R, out: &mut [u8]) -> io::Result<usize>
     Ok(done)
 }
 
-// Shows each line of `text`, without its LF, which the last may lack.
+// Shows each line of `text`, without its LF, which the last may lack. An error is one that `show` gave.
 pub fn each_line<F: FnMut(&[u8]) -> io::Result<()>>(text: &[u8], mut show: F) -> io::Result<()>
     requires { F.IsAlwaysCallable show }
+    ensures { IfErr result (λ e. (f : _) × (line : _) × F.post f line (Err e)) }
 {
     for line in text.split_inclusive(|byte| *byte == b'\n') {
         show(line.strip_suffix(b"\n").unwrap_or(line))?;
@@ -51,7 +52,10 @@ pub fn digit_of(byte: u8) -> Option<u8>
 }
 
 // Takes the byte whose two hexadecimal digits `rest` begins with.
-fn take_byte(rest: &mut &[u8]) -> Option<u8> {
+fn take_byte(rest: &mut &[u8]) -> Option<u8>
+    ensures { MatchOption result (rest.new.now ≡ rest.old.now)
+        (λ byte. (2 ≤ length rest.old.now) × (rest.new.now ≡ drop 2 rest.old.now)) }
+{
     let [high, low, more @ ..] = *rest else {
         return None;
     };
