@@ -1,5 +1,6 @@
 // What the crates compute for an example, on a line of standard output.
 ghost use Rattle.std.specs.Prelude.{◌≤◌};
+ghost use Rattle.vectors.specs.Rest.{RestOf};
 ghost use Rattle.vectors.specs.Small.{Small};
 
 use crate::parse::{read_number, read_spares, skip_byte};
@@ -20,6 +21,7 @@ const PLACED_BUCKETS: u32 = 1792;
 // Block and previous field of each bucket that `rest` begins with. Takes the whole rest where one is not placed.
 fn show_buckets(rt: &impl Print, rest: &mut &[u8], max: u32, spares: [u32; 16]) -> io::Result<()>
     requires { Small spares }
+    ensures { RestOf rest.new.now rest.old.now }
 {
     while let Some(bucket) = read_number(rest) {
         if PLACED_BUCKETS <= bucket {
