@@ -157,6 +157,7 @@ pub fn first_to_copy(store: &[u8], m: Meta, from: Position, spot: Spot) -> Optio
         from.place) × (SpotIn (decode store.now) spot from.place) }
     ensures seeks { Seeks (movable true (decode store.now))
         (entries_at (decode store.now) (old_bucket (decode store.now))) result }
+    ensures located { Located (find_at (decode store.now) (old_bucket (decode store.now))) result }
     ensures result_bound { IfSome result (λ v. v.place < 40 * suc max_blocks) }
 {
     let mut blocks = zero_walk();
@@ -180,6 +181,7 @@ pub fn first_to_clear(store: &[u8], m: Meta, from: usize, spot: Spot) -> Option<
     ensures seeks { Seeks (movable false (decode store.now))
         (entries_at (decode store.now) (old_bucket (decode store.now))) result }
     ensures located { Located (find_at (decode store.now) (old_bucket (decode store.now))) result }
+    ensures result_bound { IfSome result (λ v. v.place < 40 * suc max_blocks) }
 {
     first_in_old(store, m, from, spot, &|e: Entry| is_moving(m, e))
 }

@@ -19,6 +19,15 @@ slice_bounds-blocks-end c =
 pub slice_bounds-copies-end : goal.slice_bounds-copies-end
 slice_bounds-copies-end c = copies-count c.requires.reads c.args.from.fresh _ _ c.walk_copies-walked.ensures
 
+pub returns-clause-located : goal.returns-clause-located
+returns-clause-located c =
+    (c.first_in_old.ensures.searches true c.requires.before.0
+    (record {
+      at = λ i d b le lt p.
+          let q = copy-answers c.requires.reads c.args.from.fresh _ _ c.walk_copies-walked.ensures _ _ c.requires.before.1 i d le lt in
+          search rules;
+    })).1
+
 pub returns-clause-seeks : goal.returns-clause-seeks
 returns-clause-seeks c =
     (c.first_in_old.ensures.searches true c.requires.before.0
