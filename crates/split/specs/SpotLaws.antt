@@ -64,6 +64,19 @@ front-size f zero ks = refl
 front-size f (suc i) [] = refl
 front-size f (suc i) (k ∷ ks) = omega (arith, length-append (f k) (bind (take i ks) f), front-size f i ks)
 
+-- the page that is known, or the first one
+pub first-spot : (s : List ℕ) (first : ℕ) (o : StdOption Spot) (k : ℕ) → IfSome o (λ g. SpotOn s (walk s first) g k)
+    → SpotOn s (walk s first) (unwrap_or o (first_page first)) k
+first-spot s first (Some g) k h = h
+first-spot s first None k h =
+    record {
+      inside = omega (arith, walk-some s first);
+      block = sym (walk_first s first);
+      passed = refl;
+      near = omega arith;
+      few = omega arith;
+    }
+
 module _ {s : List ℕ} {m : Meta} (r : Reads s m) where
   abbrev o : ℕ
   o = old_bucket (decode s)
@@ -98,18 +111,11 @@ module _ {s : List ℕ} {m : Meta} (r : Reads s m) where
     pub spot_on : {g : Spot} {k : ℕ} → SpotIn (decode s) g k → SpotOn s (walk s first) g k
     spot_on h = marks-as h (sym blocks-read) (λ i. sym (sizes-read i))
 
-    -- the page that is known, or the first one
+    -- the same of the page that is known in the old chain
     pub spot_known : (o : StdOption Spot) (k : ℕ) → IfSome o (λ g. SpotIn (decode s) g k)
         → SpotOn s (walk s first) (unwrap_or o (first_page first)) k
-    spot_known (Some g) k h = spot_on h
-    spot_known None k h =
-        record {
-          inside = omega (arith, walk-some s first);
-          block = sym (walk_first s first);
-          passed = refl;
-          near = omega arith;
-          few = omega arith;
-        }
+    spot_known (Some g) k h = first-spot s first (Some g) k (spot_on h)
+    spot_known None k h = first-spot s first None k h
 
 -- ---- over a copy that is put into the new chain
 
