@@ -157,7 +157,7 @@ pub fn do_store(store: &mut [u8], journal: &mut [u8], plan: &[u8], n: u32) -> Pl
     if !check_length(store) {
         return Err(LentError::Refused(Refusal::Length));
     }
-    let Some(journal) = journal.as_mut_array() else {
+    let Some(journal) = journal.as_mut_array::<8192>() else {
         return Err(LentError::Refused(Refusal::JournalLength));
     };
     let place = store_place(store, plan, n)?;

@@ -19,7 +19,7 @@ pub fn test_ready(store: &[u8], journal: &[u8], numbers: bool) -> Result<(), Ref
     if !check_length(store) {
         return Err(Refusal::Length);
     }
-    let Some(journal) = journal.as_array() else {
+    let Some(journal) = journal.as_array::<8192>() else {
         return Err(Refusal::JournalLength);
     };
     if !numbers {

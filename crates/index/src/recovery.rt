@@ -16,7 +16,7 @@ pub fn recover(store: &mut [u8], journal: &mut [u8]) -> Answer
     if !check_length(store) {
         return Err(Refusal::Length);
     }
-    let Some(journal) = journal.as_mut_array() else {
+    let Some(journal) = journal.as_mut_array::<8192>() else {
         return Err(Refusal::JournalLength);
     };
     recover_store(store, journal);
@@ -27,7 +27,7 @@ pub fn recover(store: &mut [u8], journal: &mut [u8]) -> Answer
 pub fn wipe(journal: &mut [u8]) -> Answer
     ensures { wipe_outcome journal.old ≡ record { answer = result; journal = journal.new } }
 {
-    let Some(journal) = journal.as_mut_array() else {
+    let Some(journal) = journal.as_mut_array::<8192>() else {
         return Err(Refusal::JournalLength);
     };
     wipe_head(journal);
@@ -38,7 +38,7 @@ pub fn wipe(journal: &mut [u8]) -> Answer
 pub fn wiped(journal: &[u8]) -> Answer
     ensures { result ≡ wiped_outcome journal.now }
 {
-    let Some(journal) = journal.as_array() else {
+    let Some(journal) = journal.as_array::<8192>() else {
         return Err(Refusal::JournalLength);
     };
     if !head_wiped(journal) {
@@ -54,7 +54,7 @@ pub fn look_at(store: &[u8], journal: &[u8], k: u32) -> PlaceAnswer
     if !check_length(store) {
         return Err(LentError::Refused(Refusal::Length));
     }
-    let Some(journal) = journal.as_array() else {
+    let Some(journal) = journal.as_array::<8192>() else {
         return Err(LentError::Refused(Refusal::JournalLength));
     };
     if k as usize >= store.len() / 512 {
@@ -73,7 +73,7 @@ pub fn look<'a>(store: &'a [u8], journal: &'a [u8], k: u32) -> &'a [u8]
     if !check_length(store) {
         return &store[..0];
     }
-    let Some(journal) = journal.as_array() else {
+    let Some(journal) = journal.as_array::<8192>() else {
         return &store[..0];
     };
     if k as usize >= store.len() / 512 {

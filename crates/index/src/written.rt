@@ -48,9 +48,6 @@ pub fn write_change(store: &mut [u8], journal: &mut [u8], images: &[u8], change:
     if change.count == 0 {
         return;
     }
-    let Some(journal) = journal.as_mut_array() else {
-        unreachable!()
-    };
     let mut plan = [0u8; 5632];
     list_stores(store, &mut plan, images, change);
     run_plan(store, journal, &plan);

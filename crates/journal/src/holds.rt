@@ -1,7 +1,7 @@
 // Whether a journal holds a change, recovery's condition; and whether its head is wiped.
 #![tactic(auto, using(crate::proofs::Parts::lengths))]
 
-ghost use Rattle.std.specs.Prelude.{◌≡◌, not, ◌&&◌, ◌≤◌, ◌<◌, eqb, ltb};
+ghost use Rattle.std.specs.Prelude.{◌≡◌, not, ◌&&◌, ◌≤◌, ◌<◌, eqb, ltb, length};
 ghost use Rattle.lists.specs.Lists.{all, up_from};
 ghost use Rattle.store.specs.Store.{checks};
 ghost use Rattle.journal.specs.Journal.{disk, number_in, count_in, name_in, image_in, wiped, head_wiped};
@@ -11,15 +11,16 @@ use endian::{get_u32, put_u32};
 use store::{block_at, check_block};
 
 // The block that image `i` is of.
-pub fn name_of(journal: &[u8; 8192], i: usize) -> u32
-    requires { i < 14 }
+pub fn name_of(journal: &[u8], i: usize) -> u32
+    requires { (length journal.now ≡ 8192) × (i < 14) }
     ensures { result ≡ name_in journal.now i }
 {
     get_u32(block_at(journal, 0), 8 + 4 * i)
 }
 
 // How many images the head names.
-pub fn count_of(journal: &[u8; 8192]) -> u32
+pub fn count_of(journal: &[u8]) -> u32
+    requires { length journal.now ≡ 8192 }
     ensures { result ≡ count_in journal.now }
 {
     get_u32(block_at(journal, 0), 4)
@@ -86,9 +87,13 @@ fn end_copies(journal: &[u8; 8192]) -> bool
 }
 
 // Whether the journal holds a change of the store.
-pub fn journal_holds(store: &[u8], journal: &[u8; 8192]) -> bool
+pub fn journal_holds(store: &[u8], journal: &[u8]) -> bool
+    requires { length journal.now ≡ 8192 }
     ensures { result ≡ holds (disk store.now journal.now) }
 {
+    let Some(journal) = journal.as_array() else {
+        unreachable!()
+    };
     let count = count_of(journal) as usize;
     if count == 0 || count > 14 {
         return false;
@@ -115,7 +120,8 @@ pub fn wiped_head() -> [u8; 512]
 }
 
 // Whether a journal's head is wiped: all its bytes are compared.
-pub fn head_wiped(journal: &[u8; 8192]) -> bool
+pub fn head_wiped(journal: &[u8]) -> bool
+    requires { length journal.now ≡ 8192 }
     ensures { result ≡ head_wiped journal.now }
 {
     block_at(journal, 0) == &wiped_head()[..]

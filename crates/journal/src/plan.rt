@@ -40,8 +40,8 @@ fn head_as(change: Change, number: u32, k: u32) -> [u8; 512]
 }
 
 // Works out a change of the store with this number. Its images stand in `plan` from byte 1536 on.
-pub fn work_out(plan: &mut [u8; 5632], change: Change, number: u32)
-    requires { change.count ≤ 8 }
+pub fn work_out(plan: &mut [u8], change: Change, number: u32)
+    requires { (length plan.old ≡ 5632) × (change.count ≤ 8) }
     ensures { plan.new
         ≡ head number change.numbers change.count
         ++ (ending number change.numbers change.count
@@ -75,8 +75,8 @@ pub fn plan_name(plan: &[u8], i: usize) -> u32
 }
 
 // Does the `n`-th block store of a plan, and nothing else.
-pub fn store_planned(store: &mut [u8], journal: &mut [u8; 8192], plan: &[u8], n: usize)
-    requires plan_len { 5632 ≤ length plan.now }
+pub fn store_planned(store: &mut [u8], journal: &mut [u8], plan: &[u8], n: usize)
+    requires journal_len { (length journal.old ≡ 8192) × (5632 ≤ length plan.now) }
     requires plan_bound { (plan_count plan.now ≤ 8) × (n < 2 * plan_count plan.now + 3) }
     requires by_index { (i : ℕ) → i < plan_count plan.now → n ≡ plan_count plan.now + 2 + i
         → 512 * plan_name plan.now i + 512 ≤ length store.old }
@@ -106,8 +106,8 @@ pub fn store_planned(store: &mut [u8], journal: &mut [u8; 8192], plan: &[u8], n:
 }
 
 // Does all block stores of a plan, from the first on.
-pub fn run_plan(store: &mut [u8], journal: &mut [u8; 8192], plan: &[u8])
-    requires plan_len { (5632 ≤ length plan.now) × (plan_count plan.now ≤ 8) }
+pub fn run_plan(store: &mut [u8], journal: &mut [u8], plan: &[u8])
+    requires journal_len { (length journal.old ≡ 8192) × (5632 ≤ length plan.now) × (plan_count plan.now ≤ 8) }
     requires by_index { (i : ℕ) → i < plan_count plan.now → 512 * plan_name plan.now i + 512 ≤ length store.old }
     ensures { run (plan_stores plan.now) (disk store.old journal.old) ≡ disk store.new journal.new }
 {

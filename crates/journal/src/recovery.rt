@@ -25,17 +25,21 @@ fn copy_images(store: &mut [u8], journal: &[u8; 8192])
 }
 
 // Wipes a journal's head.
-pub fn wipe_head(journal: &mut [u8; 8192])
+pub fn wipe_head(journal: &mut [u8])
+    requires { length journal.old ≡ 8192 }
     ensures { journal.new ≡ set_block journal.old 0 wiped }
 {
     put_block(journal, 0, &wiped_head());
 }
 
 // Finishes the change that the journal holds, if it holds one, and wipes the head.
-pub fn recover_store(store: &mut [u8], journal: &mut [u8; 8192])
-    requires { length store.old ≡ 512 * blocks store.old }
+pub fn recover_store(store: &mut [u8], journal: &mut [u8])
+    requires { (length journal.old ≡ 8192) × (length store.old ≡ 512 * blocks store.old) }
     ensures { recover (disk store.old journal.old) ≡ disk store.new journal.new }
 {
+    let Some(journal) = journal.as_mut_array() else {
+        unreachable!()
+    };
     if journal_holds(store, journal) {
         copy_images(store, journal);
     }
@@ -54,11 +58,15 @@ fn find_image(journal: &[u8; 8192], k: usize) -> Option<usize>
 }
 
 // Which image of the change that the journal holds is of block `k`.
-pub fn image_for(store: &[u8], journal: &[u8; 8192], k: usize) -> Option<usize>
+pub fn image_for(store: &[u8], journal: &[u8], k: usize) -> Option<usize>
+    requires { length journal.now ≡ 8192 }
     ensures { MatchOption result
         (image_for (holds (disk store.now journal.now)) journal.now k ≡ none)
         (λ n. (n < 14) × (image_for (holds (disk store.now journal.now)) journal.now k ≡ some n)) }
 {
+    let Some(journal) = journal.as_array() else {
+        unreachable!()
+    };
     if !journal_holds(store, journal) {
         return None;
     }
@@ -66,8 +74,8 @@ pub fn image_for(store: &[u8], journal: &[u8; 8192], k: usize) -> Option<usize>
 }
 
 // Block `k` as it will stand: a part of the journal where it holds that block, and else a part of the store.
-pub fn look_part<'a>(store: &'a [u8], journal: &'a [u8; 8192], k: usize) -> &'a [u8]
-    requires { 512 * k + 512 ≤ length store.now }
+pub fn look_part<'a>(store: &'a [u8], journal: &'a [u8], k: usize) -> &'a [u8]
+    requires { (length journal.now ≡ 8192) × (512 * k + 512 ≤ length store.now) }
     ensures { result.now ≡ look (disk store.now journal.now) k }
 {
     match image_for(store, journal, k) {

@@ -1,4 +1,4 @@
-use Rattle.std.proofs.Common.{◌≡◌, refl, sym, ap, ◌∙◌, true, false, List, ℕ}
+use Rattle.std.proofs.Common.{◌≡◌, refl, sym, ap, ◌∙◌, true, false, List, ℕ, rules}
 use borrow.Author.Tests.{eq-eqb, ne_eqb}
 use Rattle.std.specs.Prelude.{Ok}
 use Rattle.image.specs.Rules.{length_ok}
@@ -22,7 +22,7 @@ returns-in_default c =
 
 pub recover_store-requires : goal.recover_store-requires
 recover_store-requires c =
-    (length_ok-sized _ (sym c.check_length.ensures ∙ c.if-not-check_length.false)).whole
+    (search rules, (length_ok-sized _ (sym c.check_length.ensures ∙ c.if-not-check_length.false)).whole)
 
 pub returns : goal.returns
 unfolding recover_outcome

@@ -1,6 +1,5 @@
-use Rattle.std.proofs.Common.{◌≡◌, sym, ap, subst, ◌∙◌, arith, rules, List, ℕ, ◌≤◌, length}
-use Rattle.journal.specs.Journal.{Disk, disk, run}
-use Rattle.journal.specs.Planned.{plan_stores}
+use Rattle.std.proofs.Common.{◌≡◌, sym, ap, ◌∙◌, arith, rules, ◌≤◌, length}
+use Rattle.journal.specs.Journal.{Disk}
 use Rattle.index.specs.SoundLaws.{sound-first}
 use Rattle.index.specs.WrittenLaws.{makes-store, plan-count, plan-inside, plan-writes, none-writes, none-makes}
 use Rattle.index.proofs.written.write_change.Goals as goal
@@ -16,8 +15,8 @@ returns-then-change-eq0-clause-store_after c =
 pub list_stores-requires-clause-in_bounds : goal.list_stores-requires-clause-in_bounds
 list_stores-requires-clause-in_bounds c = (sound-first c.requires.sound.0, c.requires.sound.1.fits.few)
 
-pub run_plan-requires-clause-plan_len : goal.run_plan-requires-clause-plan_len
-run_plan-requires-clause-plan_len c =
+pub run_plan-requires-clause-journal_len : goal.run_plan-requires-clause-journal_len
+run_plan-requires-clause-journal_len c =
     let a = c.args in
     let r = c.requires.sound.0 in
     let t = c.requires.sound.1 in
@@ -26,7 +25,7 @@ run_plan-requires-clause-plan_len c =
     let some : 1 ≤ a.change.count = omega arith in
     let long : 5632 ≤ length c.list_stores.new.plan = omega arith in
     let n = plan-count r t c.requires.journal_len.1 eight some _ c.list_stores.ensures long in
-    (long, omega arith)
+    (c.requires.journal_len.0, long, omega arith)
 
 pub run_plan-requires-clause-by_index : goal.run_plan-requires-clause-by_index
 run_plan-requires-clause-by_index c =
@@ -48,11 +47,7 @@ returns-clause-images_value c =
     let few : a.change.count ≤ 8 = t.fits.few in
     let some : 1 ≤ a.change.count = omega arith in
     let long : 5632 ≤ length c.list_stores.new.plan = omega arith in
-    let plan = c.list_stores.new.plan in
-    let done = c.run_plan.new in
-    plan-writes r t c.requires.journal_len.1 eight some _ c.list_stores.ensures long a.journal.now _
-    (subst (λ (j : List ℕ). run (plan_stores plan) (disk a.store.now j) ≡ disk done.store done.journal)
-    c.in-Some.ensures.cases.same c.run_plan.ensures)
+    plan-writes r t c.requires.journal_len.1 eight some _ c.list_stores.ensures long a.journal.now _ c.run_plan.ensures
 
 pub returns-clause-store_after : goal.returns-clause-store_after
 returns-clause-store_after c =
@@ -63,6 +58,6 @@ returns-clause-store_after c =
     let few : a.change.count ≤ 8 = t.fits.few in
     let some : 1 ≤ a.change.count = omega arith in
     let long : 5632 ≤ length c.list_stores.new.plan = omega arith in
-    let j = c.in-Some.journal.now in
+    let j = a.journal.now in
     let done = plan-writes r t c.requires.journal_len.1 eight some _ c.list_stores.ensures long j _ c.run_plan.ensures in
     ap (λ (d : Disk). d.store) (sym done) ∙ makes-store r t c.requires.journal_len.1 eight j

@@ -1,9 +1,9 @@
-use Rattle.std.proofs.Common.{◌≡◌, ◌∙◌, ap, ap₂, arith, Bool, ◌&&◌, not, ℕ, ◌/◌, eqb, ltb, List, length}
+use Rattle.std.proofs.Common.{◌≡◌, ◌∙◌, ap, ap₂, arith, Bool, false, ◌&&◌, not, ℕ, ◌/◌, eqb, ltb, List, length}
 use Rattle.lists.specs.Lists.{all, up_from}
 use Rattle.lists.specs.Block.{blocks}
 use Rattle.store.specs.Store.{checks}
 use Rattle.journal.specs.Journal.{Disk, disk, head_of, end_of, number_in, name_in, image_in}
-use Rattle.journal.specs.Journal.{end_copies, images_good, names_below, names_differ}
+use Rattle.journal.specs.Journal.{end_copies, images_good, names_below, names_differ, holds}
 use Rattle.journal.specs.HoldsLaws.{and_no, and_yes, and-six, no-image, many-images, few-images}
 use Rattle.journal.proofs.holds.journal_holds.Goals as goal
 use Rattle.journal.proofs.holds.journal_holds.Goals.{Joined-images_good}
@@ -13,12 +13,14 @@ use Rattle.journal.proofs.holds.journal_holds.Goals.{then-end_copies, else-end_c
 
 pub returns-then-count-eq0 : goal.returns-then-count-eq0
 returns-then-count-eq0 c =
+    let d = disk c.args.store.now c.in-Some.journal.now in
+    let none : false ≡ holds d =
     elim c.then-count-eq0.branch [
-      | then-count-eq0-via-then-count-eq0 w ↦
-          no-image (disk c.args.store.now c.args.journal.now) (omega (arith, w.if-count-eq0.true))
-      | then-count-eq0-via-else-count-eq0+then-count-gt14 w ↦
-          many-images (disk c.args.store.now c.args.journal.now) (omega (arith, w.if-count-gt14.true))
+      | then-count-eq0-via-then-count-eq0 w ↦ no-image d (omega (arith, w.if-count-eq0.true))
+      | then-count-eq0-via-else-count-eq0+then-count-gt14 w ↦ many-images d (omega (arith, w.if-count-gt14.true))
     ]
+    in
+    none ∙ ap (λ (j : List ℕ). holds (disk c.args.store.now j)) c.in-Some.ensures.cases.same
 
 -- the checks of head and end
 abbrev heads : Disk → Bool
@@ -30,14 +32,14 @@ ends d = checks (number_in d.journal) 15 (end_of d.journal)
 -- the tests up to that of the names' bound, where the ways that ask them join
 below-tests : (c : Joined-images_good)
     → c.if-images_good.value
-    ≡ (((heads (disk c.args.store.now c.args.journal.now) && ends (disk c.args.store.now c.args.journal.now))
-    && end_copies c.args.journal.now) && images_good (disk c.args.store.now c.args.journal.now))
-    && names_below (disk c.args.store.now c.args.journal.now)
+    ≡ (((heads (disk c.args.store.now c.in-Some.journal.now) && ends (disk c.args.store.now c.in-Some.journal.now))
+    && end_copies c.in-Some.journal.now) && images_good (disk c.args.store.now c.in-Some.journal.now))
+    && names_below (disk c.args.store.now c.in-Some.journal.now)
 unfolding blocks
 below-tests c =
-    let a = c.args in
-    let j = a.journal.now in
-    let d = disk a.store.now j in
+    let s = c.args.store.now in
+    let j = c.in-Some.journal.now in
+    let d = disk s j in
     let number = c.number_of-number.ensures in
     let count = c.count_of-count.ensures in
     let headed : c.check_block.result ≡ heads d =
@@ -74,13 +76,13 @@ below-tests c =
           w.value-is
           ∙ and_yes _ (names_below d) _ _ good w.if-images_good.true
           (w.names_below.ensures
-          ∙ ap (λ (n : ℕ). all (λ i. ltb (name_in j i) (length a.store.now / 512)) (up_from 0 n)) count)
+          ∙ ap (λ (n : ℕ). all (λ i. ltb (name_in j i) (length s / 512)) (up_from 0 n)) count)
       | else-images_good w ↦ w.value-is ∙ and_no _ (names_below d) _ good w.if-images_good.false
     ]
 
 pub returns-then-names_below : goal.returns-then-names_below
 returns-then-names_below c =
-    let j = c.args.journal.now in
+    let j = c.in-Some.journal.now in
     let d = disk c.args.store.now j in
     let below = below-tests (goal.at.returns-then-names_below c).Joined-images_good in
     few-images d (omega arith) (omega arith) _
@@ -88,12 +90,14 @@ returns-then-names_below c =
     (c.names_differ.ensures
     ∙ ap (λ (n : ℕ). all (λ l. all (λ i. not (eqb (name_in j i) (name_in j l))) (up_from 0 l)) (up_from 0 n)) c.count_of-count.ensures)
     ∙ and-six (heads d) (ends d) (end_copies j) (images_good d) (names_below d) (names_differ d))
+    ∙ ap (λ (k : List ℕ). holds (disk c.args.store.now k)) c.in-Some.ensures.cases.same
 
 pub returns-else-names_below : goal.returns-else-names_below
 returns-else-names_below c =
-    let j = c.args.journal.now in
+    let j = c.in-Some.journal.now in
     let d = disk c.args.store.now j in
     let below = below-tests (goal.at.returns-else-names_below c).Joined-images_good in
     few-images d (omega arith) (omega arith) _
     (and_no _ (names_differ d) _ below c.if-names_below.false
     ∙ and-six (heads d) (ends d) (end_copies j) (images_good d) (names_below d) (names_differ d))
+    ∙ ap (λ (k : List ℕ). holds (disk c.args.store.now k)) c.in-Some.ensures.cases.same
