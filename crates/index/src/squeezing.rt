@@ -7,15 +7,14 @@ ghost use Rattle.image.specs.Decode.{decode};
 ghost use Rattle.outcomes.specs.Outcomes.{unless_refused, bucket_tested};
 ghost use Rattle.journal.specs.Journal.{disk};
 ghost use Rattle.cuts.specs.Journalled.{tested_with, step_journalled, worked_by, squeeze_journalled};
-ghost use Rattle.squeeze.specs.Span.{Spans};
 ghost use Rattle.index.specs.Tested.{test_of};
 ghost use Rattle.index.specs.Sound.{Sound};
 
 use crate::ready::test_ready;
 use crate::sound::read_fields;
-use crate::steps::{Squeezing, run_steps};
+use crate::steps::{Squeezing, run_steps, whole_chain};
 use model::{Refusal, WorkAnswer};
-use squeeze::{Span, is_busy, span_of};
+use squeeze::is_busy;
 
 // The tests of the bucket, which come after those of the store.
 fn test_bucket(store: &[u8], bucket: u32) -> Result<(), Refusal>
@@ -40,15 +39,6 @@ pub fn test_squeeze(store: &[u8], journal: &[u8], bucket: u32, numbers: bool) ->
 {
     test_ready(store, journal, numbers)?;
     test_bucket(store, bucket)
-}
-
-// Where the first step looks: the whole chain.
-pub fn whole_chain(store: &[u8], bucket: u32) -> Span
-    requires { (Sound store.now) × (bucket ≤ (decode store.now).max_bucket) }
-    ensures { Spans (decode store.now) bucket result }
-{
-    let m = read_fields(store);
-    span_of(store, m, bucket)
 }
 
 // Steps on a sound store.

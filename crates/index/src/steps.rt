@@ -20,7 +20,7 @@ use image::Meta;
 use model::{Stop, Work, WorkAnswer};
 use split::Position;
 use split::step::plan_step;
-use squeeze::{Span, plan_squeeze};
+use squeeze::{Span, plan_squeeze, span_of};
 
 // What plans the steps of one kind. A step is told where to begin, and tells the next one, so that none looks again at
 // what the ones before it passed. What the draft held does not matter.
@@ -84,6 +84,15 @@ impl Planner for Squeezing {
     fn plan(&self, draft: &mut Draft, store: &[u8], m: Meta, from: Span) -> Result<Span, Stop> {
         plan_squeeze(draft, store, m, from)
     }
+}
+
+// Where the first step of a squeeze looks: the whole chain.
+pub fn whole_chain(store: &[u8], bucket: u32) -> Span
+    requires { (Sound store.now) × (bucket ≤ (decode store.now).max_bucket) }
+    ensures { Spans (decode store.now) bucket result }
+{
+    let m = read_fields(store);
+    span_of(store, m, bucket)
 }
 
 // One step, written with the journal; where it stops, store and journal stay.

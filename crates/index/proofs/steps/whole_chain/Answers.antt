@@ -1,7 +1,7 @@
 use Rattle.std.proofs.Common.{sym, subst, arith}
 use Rattle.view.specs.Reads.{Reads}
 use Rattle.view.specs.ReadsLaws.{reads-max}
-use Rattle.index.proofs.squeezing.whole_chain.Goals as goal
+use Rattle.index.proofs.steps.whole_chain.Goals as goal
 
 pub span_of-requires : goal.span_of-requires
 span_of-requires c =
