@@ -1,7 +1,6 @@
-use Rattle.std.proofs.Common.{ap, sym, ◌∙◌}
-use Rattle.line.specs.Command.{command_of}
+use Rattle.std.proofs.Common.{arith}
 use Rattle.line.proofs.commands.command_of.Goals as goal
 
+-- f with four numbers: by what the arm knows of the byte and the numbers, else by cases on what was matched
 pub returns-in-102-Four : goal.returns-in-102-Four
-returns-in-102-Four c =
-    sym (ap (λ k. command_of k c.args.fields) c.in-102-Four.is-0 ∙ ap (command_of 102) c.in-102-Four.is-1)
+returns-in-102-Four c = first_of (simp (c.in-102-Four.is-0, c.in-102-Four.is-1), grind arith)
