@@ -1,3 +1,4 @@
+use Rattle.std.proofs.Common.{arith}
 use Rattle.image.specs.Decode.{decode}
 use Rattle.plan.specs.Plan.{advanced}
 use Rattle.split.specs.FromLaws.{leads-start, copy-leads}
@@ -10,8 +11,11 @@ returns-in_default-clause-advances c =
     advances-at (advanced c.plan_copied.ensures)
     (step-copies (decode c.args.store.now) c.requires.store_value.0 c.in_default.ensures.seeks)
 
+-- clearing begins at the first entry
 pub returns-in_default-clause-leads : goal.returns-in_default-clause-leads
-returns-in_default-clause-leads c = leads-start (decode c.args.store.now) c.start.result c.start.ensures
+returns-in_default-clause-leads c =
+    let first = c.start.ensures in
+    leads-start (decode c.args.store.now) _ (omega arith, first.1, first.2)
 
 pub plan_put-requires-clause-b_value : goal.plan_put-requires-clause-b_value
 plan_put-requires-clause-b_value c =
