@@ -1,9 +1,10 @@
 -- The pending line of the struct: byte by byte, as feed's outcome has it, and as the machine has it.
-use Rattle.std.specs.Prelude.{◌≡◌, ℕ, suc, ◌+◌, ◌*◌, ◌<◌, ◌≤◌, min, Bool, true, false, cond, ltb, List, [], ◌∷◌, ◌++◌, length, take, ◌==◌, nat_le, nat_lt, slice_set, refl, drop, ◌≢◌, slice_index}
+use Rattle.std.specs.Prelude.{◌≡◌, ℕ, zero, suc, ◌+◌, ◌*◌, ◌<◌, ◌≤◌, min, Bool, true, false, cond, ltb, List, [], ◌∷◌, ◌++◌, length, take, ◌==◌, nat_le, nat_lt, slice_set, refl, drop, ◌≢◌, slice_index}
 use Rattle.std.proofs.Common.{sym, ap, ◌∙◌, append-nil, add-one, arith, le-leb, lt-ltb, le-ltb, leb-true, ltb-true, ltb-false, length-set, length-take-le, take-suc-set, zero-add, add-zero, add_assoc, one-add, eq-eqb, ne_eqb, drop_of_length-le, drop-cons}
 use Rattle.std.proofs.Math.Dec.{leb-suc-suc}
 use Rattle.std.specs.List.{fold}
 use Rattle.std.proofs.lemmas.List.Edits.{sets}
+use Rattle.std.proofs.lemmas.List.Folds.{fold_stays}
 use Rattle.std.proofs.Math.Seq.{set_out}
 use Rattle.line.specs.Command.{max_line}
 use Rattle.line.specs.Words.{span}
@@ -39,6 +40,15 @@ module _ (c : ScriptState) (b : ℕ) where
           ≤ too_many
       go true e = omega (arith, ltb-true c.seen max_line e)
       go false e = omega arith
+
+  kept_more : min too_many (c.seen + 1) ≤ (kept c b).seen
+  kept_more = go (nat_lt c.seen max_line)
+    where
+      go : (t : Bool)
+          → min too_many (c.seen + 1)
+          ≤ (cond t (with_line c (c.seen + 1) (slice_set c.line c.seen b)) (with_line c too_many c.line)).seen
+      go true = omega arith
+      go false = omega arith
 
 module _ (c : ScriptState) (b : ℕ) (whole : length c.line ≡ 80) where
   grown-room : c.seen < 80 → pending_in (with_line c (c.seen + 1) (slice_set c.line c.seen b)) ≡ grow (pending_in c) b
@@ -111,6 +121,25 @@ pub kept-gathered : (c : ScriptState) (bs : List ℕ) → length c.line ≡ 80 �
 kept-gathered c [] w h = sym (gathered_none c h)
 kept-gathered c (b ∷ bs) w h =
     kept-gathered (kept c b) bs (kept_whole c b ∙ w) (kept_seen c b) ∙ gathered-more c b bs w h
+
+-- ---- the bytes past the first 81
+
+kept-still : (c : ScriptState) (b : ℕ) → c.seen ≡ too_many → kept c b ≡ c
+kept-still c b h =
+    sym (kept_full c b (omega arith)) ∙ ap (λ (n : ℕ). with_line c n c.line) (sym h)
+
+-- n bytes that fill the line, and one more
+kept_first : (n : ℕ) (c : ScriptState) (bs : List ℕ) → max_line ≤ c.seen + n
+    → fold kept c bs ≡ fold kept c (take (suc n) bs)
+kept_first n c [] h = refl
+kept_first zero c (b ∷ bs) h =
+    let over : (kept c b).seen ≡ too_many = ap (λ (x : ScriptState). x.seen) (sym (kept_full c b (omega arith))) in
+    fold_stays kept (kept c b) (λ x. kept-still (kept c b) x over) bs
+kept_first (suc n) c (b ∷ bs) h = kept_first n (kept c b) bs (omega (arith, kept_more c b))
+
+-- they change nothing, in whatever state the line is
+pub kept-take : (c : ScriptState) (bs : List ℕ) → fold kept c bs ≡ fold kept c (take too_many bs)
+kept-take c bs = kept_first max_line c bs (omega arith)
 
 -- ---- the bytes up to an LF, read from i on
 

@@ -30,13 +30,21 @@ fn keep_byte(state: ScriptState, byte: u8) -> ScriptState
     }
 }
 
-// More bytes of the pending line.
-pub fn keep(state: ScriptState, bytes: &[u8]) -> ScriptState
+// More bytes of the pending line, one after the other.
+fn keep_each(state: ScriptState, bytes: &[u8]) -> ScriptState
     ensures { result ≡ fold kept state bytes.now }
 {
     bytes
         .iter()
         .fold(state, |held, byte| keep_byte(held, *byte))
+}
+
+// More bytes of the pending line. Those past the first 81 change nothing, and are not read.
+pub fn keep(state: ScriptState, bytes: &[u8]) -> ScriptState
+    ensures { result ≡ fold kept state bytes.now }
+{
+    let count = TOO_MANY.min(bytes.len());
+    keep_each(state, &bytes[..count])
 }
 
 // Where the first LF stands.
