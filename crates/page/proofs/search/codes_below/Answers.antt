@@ -31,8 +31,12 @@ bisect-requires-clause-readable c k low high =
     let whole = c.requires.0.whole in
     search rules
 
+-- as the bisection tells, else by what follows it
 pub returns : goal.returns
 returns c =
-    c.bisect.ensures _
-    (codes-split c.args.p.now c.requires.0 c.args.code c.args.low c.count_entries-high.result c.requires.1
-    c.count_entries-high.ensures (λ k r inside given. search rules))
+    let l = c.args.p.now in
+    let place = c.bisect.ensures _
+    (codes-split l c.requires.0 c.args.code c.args.low c.count_entries-high.result c.requires.1
+    c.count_entries-high.ensures (λ k r inside given. search rules)) in
+    let end = start-inside l c.requires.0 c.args.code in
+    first_of (omega (arith, place), grind (arith, place, end, number-le l c.requires.0.number))
